@@ -1,0 +1,17 @@
+# README.md says what each target does. Each works from any folder, also as `make -C FOLDER TARGET`.
+HERE := $(dir $(lastword $(MAKEFILE_LIST)))
+MAKEFLAGS += --no-print-directory
+
+.PHONY: run test refused-memory bench
+
+run:
+	@$(HERE)tests/run.sh
+
+test:
+	@$(HERE)tests/all.sh
+
+refused-memory:
+	@$(HERE)tests/refused_memory.sh
+
+bench:
+	@$(HERE)bench/replay.sh

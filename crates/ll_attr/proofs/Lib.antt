@@ -1,0 +1,5 @@
+pub mod MicrosAtCut
+pub mod Digits
+pub mod Fractions
+pub mod ReadsBack
+pub mod PartsAtCut

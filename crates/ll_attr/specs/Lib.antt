@@ -1,0 +1,3 @@
+pub mod Durations
+pub mod Numbers
+pub mod Words

@@ -1,0 +1,15 @@
+-- The words of a line, and what stands behind a key.
+use Rattle.std.specs.Prelude.{ℕ, List, Option, Some, None, ◌==◌, drop, length, nat_eq, if◌then◌else◌}
+use Rattle.std.specs.List.{slice_split, starts_with}
+
+-- the parts of a text between single bytes of this value, as a space or a comma
+abbrev pub parts_at : ℕ → List ℕ → List (List ℕ)
+parts_at separator text = slice_split (λ b. b == separator) text
+
+-- words are separated by one space
+abbrev pub words : List ℕ → List (List ℕ)
+words text = parts_at 32 text
+
+-- what stands behind a key, where a text begins with it
+abbrev pub behind : List ℕ → List ℕ → Option (List ℕ)
+behind key text = if starts_with nat_eq text key then Some (drop (length key) text) else None

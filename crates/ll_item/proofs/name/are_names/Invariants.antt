@@ -1,0 +1,7 @@
+-- What is left to go over are names just where the whole are.
+use Rattle.std.proofs.Common.{◌≡◌, drop}
+use Rattle.ll_item.specs.Names.{are_names}
+use Rattle.ll_item.proofs.name.are_names.Given as goal
+
+abbrev pub invariant-loop-i : goal.invariant-loop-i
+invariant-loop-i l = are_names (drop l.i l.names) ≡ are_names l.names

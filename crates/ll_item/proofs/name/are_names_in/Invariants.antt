@@ -1,0 +1,13 @@
+-- The names in what is left are names just where those of the whole are.
+use Rattle.std.proofs.Common.{◌≡◌, length}
+use denote.Text.{Utf8}
+use denote.Shadow.{shadow}
+use Rattle.ll_attr.specs.Words.{parts_at}
+use Rattle.ll_item.specs.Names.{are_names}
+use Rattle.ll_item.proofs.name.are_names_in.Given as goal
+
+abbrev pub invariant-loop-name : goal.invariant-loop-name
+invariant-loop-name l = shadow (Utf8 l.rest) × (are_names (parts_at 44 l.rest) ≡ are_names (parts_at 44 l.text))
+
+abbrev pub decreases-loop-name : goal.decreases-loop-name
+decreases-loop-name l = length l.rest

@@ -1,0 +1,46 @@
+-- What a publisher announces, and the lines that spell it.
+use Rattle.std.specs.Prelude.{ℕ, List, [], ◌∷◌, Bool, true, false, Option, Some, None, Result, Ok, Err, if◌then◌else◌, position, bytes_eq, codes}
+use Rattle.ll_attr.specs.Numbers.{number_in}
+use Rattle.ll_attr.specs.Words.{words}
+use Rattle.ll_item.specs.Names.{is_name}
+use Rattle.ll_item.specs.Settings.{Configuration}
+use Rattle.ll_item.specs.declared.item.Item.{Item}
+use Rattle.ll_item.specs.declared.item.Item.TheVariants.{Part}
+use Rattle.ll_item.specs.declared.item.ItemFault.{ItemFault}
+use Rattle.ll_item.specs.declared.item.ItemFault.TheVariants.{BadLine, NoRendition}
+
+-- the index of the rendition that an item belongs to
+abbrev pub rendition_of : Item → ℕ
+rendition_of (Part rendition duration independent finish) = rendition
+
+-- the index of the rendition of this name
+abbrev pub rendition_named : Configuration → List ℕ → Option ℕ
+rendition_named c name = position (bytes_eq name) c.renditions
+
+-- whether a part is independent, and whether it finishes its segment
+abbrev pub flags_in : List ℕ → Option (Bool × Bool)
+flags_in text =
+    if bytes_eq text (codes "-") then Some (false, false)
+    else if bytes_eq text (codes "i") then Some (true, false)
+    else if bytes_eq text (codes "f") then Some (false, true)
+    else if bytes_eq text (codes "if") then Some (true, true)
+    else None
+
+abbrev pub part_at : Option ℕ → ℕ → Bool × Bool → Result Item ItemFault
+part_at None duration flags = Err NoRendition
+part_at (Some rendition) duration flags = Ok (Part rendition duration flags.0 flags.1)
+
+abbrev pub part_by : Configuration → List ℕ → Option ℕ → Option (Bool × Bool) → Result Item ItemFault
+part_by c name None flags = Err BadLine
+part_by c name (Some duration) None = Err BadLine
+part_by c name (Some duration) (Some flags) = if is_name name then part_at (rendition_named c name) duration flags else Err BadLine
+
+-- `part RENDITION MICROSECONDS FLAGS`
+abbrev pub item_of : Configuration → List (List ℕ) → Result Item ItemFault
+item_of c (kind ∷ name ∷ duration ∷ flags ∷ []) =
+    if bytes_eq kind (codes "part") then part_by c name (number_in 20 duration) (flags_in flags) else Err BadLine
+item_of c other = Err BadLine
+
+-- the item that a line spells, or what is wrong with it
+abbrev pub item_in : Configuration → List ℕ → Result Item ItemFault
+item_in c line = item_of c (words line)

@@ -1,0 +1,4 @@
+pub mod Configured
+pub mod Items
+pub mod Names
+pub mod Settings

@@ -1,0 +1,115 @@
+-- What a channel is configured to, its limits, and the line that spells it.
+use Rattle.std.specs.Prelude.{◌≡◌, ◌≤◌, ℕ, ◌+◌, ◌*◌, ◌^◌, List, [], ◌∷◌, true, not, ◌&&◌, ◌||◌, ◌==◌, Option, Some, None, Result, Ok, Err, if◌then◌else◌, length, drop, nat_eq, nat_lt, bytes_eq, codes, option_and_then}
+use Rattle.std.specs.List.{starts_with}
+use Rattle.ll_attr.specs.Numbers.{number_in}
+use Rattle.ll_attr.specs.Words.{words, parts_at}
+use Rattle.ll_item.specs.Names.{is_name, are_names}
+use Rattle.ll_item.specs.declared.settings.SettingsFault.{SettingsFault}
+use Rattle.ll_item.specs.declared.settings.SettingsFault.TheVariants.{BadTarget, BadPartTarget, SkipTooSmall, WindowTooSmall, BadName, NoRendition, BadStart, BadLine}
+
+pub record Configuration : Type 0 where
+  pub channel : List ℕ
+  -- seconds
+  pub target : ℕ
+  -- microseconds
+  pub part_target : ℕ
+  -- seconds
+  pub skip : ℕ
+  -- seconds
+  pub window : ℕ
+  pub renditions : List (List ℕ)
+  -- the media sequence number of the first segment
+  pub first : ℕ
+  -- milliseconds since 1970-01-01T00:00:00Z
+  pub start : ℕ
+
+-- the largest media sequence number
+abbrev pub number_end : ℕ
+number_end = 2 ^ 60
+
+-- the last millisecond and the last microsecond of the year 9999
+abbrev pub last_milli : ℕ
+last_milli = 253402300799999
+
+abbrev pub last_micro : ℕ
+last_micro = 253402300799999999
+
+-- the first limit that a configuration breaks, or none
+abbrev pub limit_broken : Configuration → Option SettingsFault
+limit_broken c =
+    if nat_lt c.target 1 || nat_lt 60 c.target then Some BadTarget
+    else if nat_lt c.part_target 10000 || nat_lt (c.target * 1000000) c.part_target then Some BadPartTarget
+    else if nat_lt c.skip (6 * c.target) then Some SkipTooSmall
+    else if nat_lt c.window (c.skip + 3 * c.target) || nat_lt 86400 c.window then Some WindowTooSmall
+    else if not (is_name c.channel && are_names c.renditions) then Some BadName
+    else if length c.renditions == 0 || nat_lt 8 (length c.renditions) then Some NoRendition
+    else if nat_lt number_end c.first || nat_lt last_milli c.start then Some BadStart
+    else None
+
+-- the limits, one by one
+pub record IsWithin (c : Configuration) : Type 0 where
+  pub target_low : 1 ≤ c.target
+  pub target_high : c.target ≤ 60
+  pub part_target_low : 10000 ≤ c.part_target
+  pub part_target_high : c.part_target ≤ c.target * 1000000
+  -- section 4.4.3.8
+  pub skip_low : 6 * c.target ≤ c.skip
+  -- three target durations stand behind what may be skipped
+  pub window_low : c.skip + 3 * c.target ≤ c.window
+  pub window_high : c.window ≤ 86400
+  pub channel_named : is_name c.channel ≡ true
+  pub renditions_named : are_names c.renditions ≡ true
+  pub some_rendition : 1 ≤ length c.renditions
+  pub few_renditions : length c.renditions ≤ 8
+  pub first_high : c.first ≤ number_end
+  pub start_high : c.start ≤ last_milli
+
+-- a configuration breaks no limit just where each of them holds
+abbrev pub LimitsLaw : Type 0
+LimitsLaw = (c : Configuration) → (limit_broken c ≡ None → IsWithin c) × (IsWithin c → limit_broken c ≡ None)
+
+abbrev pub unless_broken : Option SettingsFault → Configuration → Result Configuration SettingsFault
+unless_broken None c = Ok c
+unless_broken (Some fault) c = Err fault
+
+-- the settings, or the first limit that they break
+abbrev pub settings_of : Configuration → Result Configuration SettingsFault
+settings_of c = unless_broken (limit_broken c) c
+
+-- what stands behind a key and its equals sign, where the word begins with them
+abbrev pub value_of : List ℕ → List ℕ → Option (List ℕ)
+value_of key word = if starts_with nat_eq word key then Some (drop (length key) word) else None
+
+-- the number below 2^64 of 1 to 20 digits behind a key
+abbrev pub number_of : List ℕ → List ℕ → Option ℕ
+number_of key word = option_and_then (number_in 20) (value_of key word)
+
+-- names are joined by commas
+abbrev pub names_in : List ℕ → List (List ℕ)
+names_in text = parts_at 44 text
+
+infixl 10 ◌>>=◌
+abbrev pub ◌>>=◌ : {A B : Type 0} → Option A → (A → Option B) → Option B
+o >>= f = option_and_then f o
+
+-- `channel NAME target=N part=N skip=N window=N renditions=NAMES first=N start=N`
+unfoldable pub configuration_of : List (List ℕ) → Option Configuration
+configuration_of (kind ∷ channel ∷ target ∷ part ∷ skip ∷ window ∷ renditions ∷ first ∷ start ∷ []) = do
+  named ← (if bytes_eq kind (codes "channel") && is_name channel then Some channel else None)
+  target ← number_of (codes "target=") target
+  part ← number_of (codes "part=") part
+  skip ← number_of (codes "skip=") skip
+  window ← number_of (codes "window=") window
+  renditions ← value_of (codes "renditions=") renditions
+  first ← number_of (codes "first=") first
+  start ← number_of (codes "start=") start
+  Some (record { channel = named; target = target; part_target = part; skip = skip; window = window; renditions = names_in renditions; first = first; start = start })
+configuration_of other = None
+
+abbrev pub settings_by : Option Configuration → Result Configuration SettingsFault
+settings_by None = Err BadLine
+settings_by (Some c) = settings_of c
+
+-- the settings that a line spells, or what is wrong with it
+abbrev pub settings_in : List ℕ → Result Configuration SettingsFault
+settings_in line = settings_by (configuration_of (words line))

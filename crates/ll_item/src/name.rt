@@ -1,0 +1,61 @@
+//! Names of channels and renditions.
+ghost use Rattle.std.specs.Prelude.{◌≡◌};
+ghost use Rattle.ll_attr.specs.Words.{parts_at};
+ghost use Rattle.ll_item.specs.Names as spec;
+
+use ll_attr::{Text, cut};
+
+/// Whether a text is a name: 1 to 32 characters a-z, 0-9, `-` or `_`.
+pub(crate) fn is_name(text: &str) -> bool
+    ensures { result ≡ spec.is_name text.now }
+{
+    !text.is_empty() && text.len() <= 32 && text.bytes().all(is_name_byte)
+}
+
+/// Whether a byte is a-z, 0-9, `-` or `_`.
+fn is_name_byte(b: u8) -> bool
+    ensures { result ≡ spec.is_name_byte b }
+{
+    b.is_ascii_lowercase() || b.is_ascii_digit() || b == b'-' || b == b'_'
+}
+
+/// Whether each of these is a name, and none stands twice.
+pub(crate) fn are_names(names: &[Text]) -> bool
+    ensures { result ≡ spec.are_names names.now }
+{
+    for (i, name) in names.iter().enumerate() {
+        let name = name.as_str();
+        if !is_name(name) || is_among(&names[i + 1..], name) {
+            return false;
+        }
+    }
+    true
+}
+
+/// Whether one of these is this name.
+fn is_among(names: &[Text], name: &str) -> bool
+    ensures { result ≡ spec.is_among names.now name.now }
+{
+    names.iter().any(|other| name == other.as_str())
+}
+
+/// Whether each name that a text joins by commas is one, and none stands twice.
+pub(crate) fn are_names_in(text: &str) -> bool
+    ensures { result ≡ spec.are_names (parts_at 44 text.now) }
+{
+    let mut rest = text;
+    while let Some((name, after)) = cut(rest, ',') {
+        if !is_name(name) || is_among_in(after, name) {
+            return false;
+        }
+        rest = after;
+    }
+    is_name(rest)
+}
+
+/// Whether one of the names that a text joins by commas is this one.
+fn is_among_in(text: &str, name: &str) -> bool
+    ensures { result ≡ spec.is_among (parts_at 44 text.now) name.now }
+{
+    text.split(',').any(|other| name == other)
+}

@@ -1,0 +1,249 @@
+ghost use Rattle.std.specs.Prelude.{◌≡◌, ◌≤◌, ◌*◌, ◌&&◌, ℕ, List, IfOk, length, None};
+ghost use Rattle.ll_item.specs.Configured.{configured};
+ghost use Rattle.ll_item.specs.Settings.{settings_of, limit_broken, number_end, last_milli};
+ghost use Rattle.ll_item.specs.Names.{is_name, are_names};
+ghost use Rattle.ll_item.specs.Items.{rendition_named};
+
+use crate::name;
+use ll_attr::Text;
+use std::alloc::{AllocError, Global};
+use std::marker::Model;
+use thiserror::Error;
+
+/// Why settings are refused: the first limit that they break, in this order; a line that isn't of its form before all of
+/// them, and memory that isn't found after them.
+#[derive(Clone, Copy, Debug, PartialEq, Eq, Error)]
+pub enum SettingsFault {
+    /// The target duration isn't 1 to 60 seconds.
+    #[error("BadTarget")]
+    BadTarget,
+    /// The part target isn't 10,000 microseconds to the target duration.
+    #[error("BadPartTarget")]
+    BadPartTarget,
+    /// The skip limit is less than six target durations.
+    #[error("SkipTooSmall")]
+    SkipTooSmall,
+    /// The window is less than the skip limit and three target durations, or more than 86,400 seconds.
+    #[error("WindowTooSmall")]
+    WindowTooSmall,
+    /// The channel's or a rendition's name has no name's form, or a rendition stands twice.
+    #[error("BadName")]
+    BadName,
+    /// There is no rendition, or there are more than 8.
+    #[error("NoRendition")]
+    NoRendition,
+    /// The first media sequence number is past 2^60, or the start is past the year 9999.
+    #[error("BadStart")]
+    BadStart,
+    /// A line isn't of a settings line's form.
+    #[error("BadLine")]
+    BadLine,
+    /// No memory was found.
+    #[error("Memory")]
+    Memory,
+}
+
+/// What one channel is configured to, within the limits.
+#[derive(Debug, Drop)]
+pub struct Settings {
+    channel: Text,
+    numbers: Numbers,
+    renditions: Vec<Text>,
+}
+
+/// The numbers among the settings.
+#[derive(Clone, Copy, Debug)]
+pub(crate) struct Numbers {
+    pub(crate) target: u64,
+    pub(crate) part_target: u64,
+    pub(crate) skip: u64,
+    pub(crate) window: u64,
+    pub(crate) first: u64,
+    pub(crate) start: u64,
+}
+
+impl Model for Settings {
+    ghost use Rattle.std.specs.Prelude.{◌≡◌, None};
+    ghost use Rattle.ll_item.specs.Settings.{Configuration, limit_broken};
+
+    ghost Value = { Configuration };
+
+    ghost use Rattle.ll_item.specs.Configured.{configured};
+
+    ghost view = { λ s. configured s.numbers s.channel s.renditions.items };
+
+    ghost invariant = { λ s. limit_broken (configured s.numbers s.channel s.renditions.items) ≡ None };
+}
+
+/// The first limit that these numbers, names that are in their form or aren't, or so many renditions break.
+pub(crate) fn first_fault(n: &Numbers, named: bool, count: usize) -> Option<SettingsFault>
+    ensures { (channel : List ℕ) (renditions : List (List ℕ)) → named ≡ (is_name channel && are_names renditions)
+        → count ≡ length renditions → result ≡ limit_broken (configured n.now channel renditions) }
+{
+    if n.target < 1 || 60 < n.target {
+        Some(SettingsFault::BadTarget)
+    } else if n.part_target < 10_000 || n.target * 1_000_000 < n.part_target {
+        Some(SettingsFault::BadPartTarget)
+    } else if n.skip < 6 * n.target {
+        Some(SettingsFault::SkipTooSmall)
+    } else if 86_400 < n.window || n.window < 3 * n.target || n.window - 3 * n.target < n.skip {
+        Some(SettingsFault::WindowTooSmall)
+    } else if !named {
+        Some(SettingsFault::BadName)
+    } else if count == 0 || 8 < count {
+        Some(SettingsFault::NoRendition)
+    } else if 1 << 60 < n.first || LAST_MILLI < n.start {
+        Some(SettingsFault::BadStart)
+    } else {
+        None
+    }
+}
+
+/// The last millisecond of the year 9999, from 1970 on.
+const LAST_MILLI: u64 = 253_402_300_799_999;
+
+impl Settings {
+    /// The settings of a channel: its name, the target duration and the part target (seconds and microseconds), the skip
+    /// limit and the window (seconds), its renditions' names, the first media sequence number, and the time of the first
+    /// part (milliseconds since 1970-01-01T00:00:00Z); or the first limit that they break.
+    pub fn new(
+        channel: Text,
+        target: u64,
+        part_target: u64,
+        skip: u64,
+        window: u64,
+        renditions: Vec<Text>,
+        first: u64,
+        start: u64,
+    ) -> Result<Settings, SettingsFault>
+        ensures { result ≡ settings_of (record {
+          channel = channel;
+          target = target;
+          part_target = part_target;
+          skip = skip;
+          window = window;
+          renditions = renditions.items;
+          first = first;
+          start = start;
+        }) }
+    {
+        let numbers = Numbers {
+            target,
+            part_target,
+            skip,
+            window,
+            first,
+            start,
+        };
+        let named = name::is_name(channel.as_str()) && name::are_names(&renditions);
+        match first_fault(&numbers, named, renditions.len()) {
+            Some(fault) => Err(fault),
+            None => Ok(Settings {
+                channel,
+                numbers,
+                renditions,
+            }),
+        }
+    }
+
+    /// Settings of parts that are within the limits.
+    pub(crate) fn of(channel: Text, numbers: Numbers, renditions: Vec<Text>) -> Settings
+        requires { limit_broken (configured numbers channel renditions.items) ≡ None }
+        ensures { result ≡ configured numbers channel renditions.items }
+    {
+        Settings {
+            channel,
+            numbers,
+            renditions,
+        }
+    }
+
+    /// Settings equal to these, or an error where no memory was found.
+    pub fn copy(&self, alloc: Global) -> Result<Settings, AllocError>
+        ensures { IfOk result (λ s. s ≡ self.now) }
+    {
+        let mut renditions = Vec::with_capacity(alloc, self.renditions.len())?;
+        for name in &self.renditions {
+            renditions.push(name.copy()?)?;
+        }
+        Ok(Settings {
+            channel: self.channel.copy()?,
+            numbers: self.numbers,
+            renditions,
+        })
+    }
+
+    /// The channel's name.
+    pub fn channel(&self) -> &str
+        ensures { result.now ≡ self.now.channel }
+    {
+        self.channel.as_str()
+    }
+
+    /// The target duration in seconds (EXT-X-TARGETDURATION, section 4.4.3.1).
+    pub fn target(&self) -> u64
+        ensures value { result ≡ self.now.target }
+        ensures low { 1 ≤ result }
+        ensures high { result ≤ 60 }
+    {
+        self.numbers.target
+    }
+
+    /// The part target duration in microseconds (EXT-X-PART-INF, section 4.4.3.7).
+    pub fn part_target(&self) -> u64
+        ensures value { result ≡ self.now.part_target }
+        ensures low { 10000 ≤ result }
+        ensures high { result ≤ self.now.target * 1000000 }
+        ensures minute { result ≤ 60000000 }
+    {
+        self.numbers.part_target
+    }
+
+    /// The skip boundary in seconds (CAN-SKIP-UNTIL, section 4.4.3.8).
+    pub fn skip(&self) -> u64
+        ensures value { result ≡ self.now.skip }
+        ensures high { result ≤ 86400 }
+    {
+        self.numbers.skip
+    }
+
+    /// How long the window of segments lasts at least, in seconds (section 6.2.2).
+    pub fn window(&self) -> u64
+        ensures value { result ≡ self.now.window }
+        ensures high { result ≤ 86400 }
+    {
+        self.numbers.window
+    }
+
+    /// The renditions' names, in their order.
+    pub fn renditions(&self) -> &[Text]
+        ensures value { result.now ≡ self.now.renditions }
+        ensures low { 1 ≤ length result.now }
+        ensures high { length result.now ≤ 8 }
+    {
+        self.renditions.as_slice()
+    }
+
+    /// The index of the rendition of this name.
+    pub fn rendition(&self, name: &str) -> Option<usize>
+        ensures { result ≡ rendition_named self.now name.now }
+    {
+        self.renditions.iter().position(|r| r.as_str() == name)
+    }
+
+    /// The media sequence number of the first segment (EXT-X-MEDIA-SEQUENCE, section 4.4.3.2).
+    pub fn first(&self) -> u64
+        ensures value { result ≡ self.now.first }
+        ensures high { result ≤ number_end }
+    {
+        self.numbers.first
+    }
+
+    /// The time of the first part, in milliseconds since 1970-01-01T00:00:00Z (EXT-X-PROGRAM-DATE-TIME, section 4.4.4.6).
+    pub fn start(&self) -> u64
+        ensures value { result ≡ self.now.start }
+        ensures high { result ≤ last_milli }
+    {
+        self.numbers.start
+    }
+}

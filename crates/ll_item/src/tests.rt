@@ -1,0 +1,276 @@
+use super::*;
+use ll_attr::Text;
+use std::alloc::Global;
+use std::process::Abort;
+use std::test::Fail;
+
+const LINE: &str =
+    "channel cam target=4 part=1000000 skip=24 window=36 renditions=lo,hi first=7 start=1700000000000";
+
+/// The line above with another text in place of one that stands there.
+fn line_with(alloc: Global, old: &str, new: &str) -> Result<String, Fail> {
+    let (before, after) = LINE.split_once(old).ok_or("it stands in the line")?;
+    Ok(format!(in alloc; "{before}{new}{after}")?)
+}
+
+/// The settings are those of the line above.
+fn expect_of_line(rt: &impl Abort, settings: &Settings) {
+    assert_eq!(rt; settings.channel(), "cam");
+    assert_eq!(rt; settings.target(), 4);
+    assert_eq!(rt; settings.part_target(), 1_000_000);
+    assert_eq!(rt; settings.skip(), 24);
+    assert_eq!(rt; settings.window(), 36);
+    assert_eq!(rt; settings.renditions().len(), 2);
+    assert_eq!(rt; settings.renditions()[0].as_str(), "lo");
+    assert_eq!(rt; settings.rendition("lo"), Some(0));
+    assert_eq!(rt; settings.rendition("hi"), Some(1));
+    assert_eq!(rt; settings.rendition("h"), None);
+    assert_eq!(rt; settings.first(), 7);
+    assert_eq!(rt; settings.start(), 1_700_000_000_000);
+}
+
+#[test]
+fn settings_are_read_and_copied(rt: HostRuntime) -> Result<(), Fail> {
+    let settings = Settings::read(rt.alloc(), LINE)?;
+    expect_of_line(&rt, &settings);
+    expect_of_line(&rt, &settings.copy(rt.alloc())?);
+    Ok(())
+}
+
+#[test]
+fn lines_at_the_limits_are_read(rt: HostRuntime) -> Result<(), Fail> {
+    for (old, new) in [
+        ("lo,hi first=7 start=1700000000000", "hi first=0 start=0"),
+        ("target=4", "target=004"),
+        (
+            "target=4 part=1000000 skip=24 window=36",
+            "target=1 part=10000 skip=6 window=9",
+        ),
+        (
+            "target=4 part=1000000 skip=24 window=36",
+            "target=60 part=60000000 skip=86220 window=86400",
+        ),
+        ("cam", "abcdefghijklmnopqrstuvwxyz_-0189"),
+        ("lo,hi", "a,b,c,d,e,f,g,h"),
+        ("first=7", "first=1152921504606846976"),
+        ("start=1700000000000", "start=253402300799999"),
+    ] {
+        let line = line_with(rt.alloc(), old, new)?;
+        assert_eq!(rt; Settings::read(rt.alloc(), &line).err(), None, "at {line}");
+    }
+    Ok(())
+}
+
+#[test]
+fn lines_past_a_limit_are_refused(rt: HostRuntime) -> Result<(), Fail> {
+    for (old, new, fault) in [
+        ("target=4", "target=0", SettingsFault::BadTarget),
+        (
+            "target=4 part=1000000 skip=24 window=36",
+            "target=61 part=1000000 skip=366 window=549",
+            SettingsFault::BadTarget,
+        ),
+        ("part=1000000", "part=9999", SettingsFault::BadPartTarget),
+        ("part=1000000", "part=4000001", SettingsFault::BadPartTarget),
+        ("skip=24", "skip=23", SettingsFault::SkipTooSmall),
+        ("window=36", "window=35", SettingsFault::WindowTooSmall),
+        ("window=36", "window=86401", SettingsFault::WindowTooSmall),
+        ("lo,hi", "Hi", SettingsFault::BadName),
+        ("lo,hi", "", SettingsFault::BadName),
+        ("lo,hi", "lo,", SettingsFault::BadName),
+        (
+            "lo,hi",
+            "abcdefghijklmnopqrstuvwxyz_-01890",
+            SettingsFault::BadName,
+        ),
+        ("lo,hi", "hi,hi", SettingsFault::BadName),
+        ("lo,hi", "a,b,c,d,e,f,g,h,i", SettingsFault::NoRendition),
+        (
+            "first=7",
+            "first=1152921504606846977",
+            SettingsFault::BadStart,
+        ),
+        (
+            "start=1700000000000",
+            "start=253402300800000",
+            SettingsFault::BadStart,
+        ),
+    ] {
+        let line = line_with(rt.alloc(), old, new)?;
+        assert_eq!(rt;
+            Settings::read(rt.alloc(), &line).err(),
+            Some(fault),
+            "at {line}"
+        );
+    }
+    Ok(())
+}
+
+#[test]
+fn lines_of_another_form_are_refused(rt: HostRuntime) -> Result<(), Fail> {
+    for (old, new) in [
+        ("channel", "stream"),
+        (" start=1700000000000", ""),
+        ("cam ", "cam  "),
+        ("start=1700000000000", "start=0 end=1"),
+        ("start=1700000000000", "start=0 "),
+        ("part=1000000 skip=24", "skip=24 part=1000000"),
+        ("target=4", "target="),
+        ("target=4", "target=4s"),
+        ("target=4", "target=18446744073709551616"),
+        ("cam", "Cam"),
+        ("cam", ""),
+    ] {
+        let line = line_with(rt.alloc(), old, new)?;
+        assert_eq!(rt;
+            Settings::read(rt.alloc(), &line).err(),
+            Some(SettingsFault::BadLine),
+            "at {line}"
+        );
+    }
+    assert_eq!(rt;
+        Settings::read(rt.alloc(), "").err(),
+        Some(SettingsFault::BadLine)
+    );
+    Ok(())
+}
+
+#[test]
+fn the_first_broken_limit_is_named(rt: HostRuntime) -> Result<(), Fail> {
+    for (old, new, fault) in [
+        (
+            "target=4 part=1000000",
+            "target=0 part=x",
+            SettingsFault::BadLine,
+        ),
+        (
+            "target=4 part=1000000",
+            "target=61 part=9999",
+            SettingsFault::BadTarget,
+        ),
+        (
+            "part=1000000 skip=24",
+            "part=9999 skip=23",
+            SettingsFault::BadPartTarget,
+        ),
+        (
+            "skip=24 window=36",
+            "skip=23 window=86401",
+            SettingsFault::SkipTooSmall,
+        ),
+        (
+            "window=36 renditions=lo,hi",
+            "window=35 renditions=Hi",
+            SettingsFault::WindowTooSmall,
+        ),
+        ("lo,hi", "a,b,c,d,e,f,g,h,a", SettingsFault::BadName),
+        (
+            "lo,hi first=7",
+            "a,b,c,d,e,f,g,h,i first=1152921504606846977",
+            SettingsFault::NoRendition,
+        ),
+    ] {
+        let line = line_with(rt.alloc(), old, new)?;
+        assert_eq!(rt;
+            Settings::read(rt.alloc(), &line).err(),
+            Some(fault),
+            "at {line}"
+        );
+    }
+    Ok(())
+}
+
+/// Settings of these names, with the numbers of the line above.
+fn settings_named(
+    alloc: Global,
+    channel: &str,
+    names: &[&str],
+) -> Result<Result<Settings, SettingsFault>, Fail> {
+    let mut renditions = Vec::new(alloc);
+    for name in names {
+        renditions.push(Text::from_str(alloc, name)?)?;
+    }
+    let channel = Text::from_str(alloc, channel)?;
+    Ok(Settings::new(
+        channel,
+        4,
+        1_000_000,
+        24,
+        36,
+        renditions,
+        7,
+        1_700_000_000_000,
+    ))
+}
+
+#[test]
+fn settings_are_made(rt: HostRuntime) -> Result<(), Fail> {
+    expect_of_line(&rt, &settings_named(rt.alloc(), "cam", &["lo", "hi"])??);
+    assert_eq!(rt;
+        settings_named(rt.alloc(), "cam", &[])?.err(),
+        Some(SettingsFault::NoRendition)
+    );
+    assert_eq!(rt;
+        settings_named(rt.alloc(), "Cam", &["lo"])?.err(),
+        Some(SettingsFault::BadName)
+    );
+    assert_eq!(rt;
+        settings_named(rt.alloc(), "cam", &["lo", "hi", "lo"])?.err(),
+        Some(SettingsFault::BadName)
+    );
+    Ok(())
+}
+
+#[test]
+fn items_are_read(rt: HostRuntime) -> Result<(), Fail> {
+    let settings = Settings::read(rt.alloc(), LINE)?;
+    for (line, duration, independent, finish) in [
+        ("part hi 1000000 -", 1_000_000, false, false),
+        ("part hi 1000000 i", 1_000_000, true, false),
+        ("part hi 18446744073709551615 f", u64::MAX, false, true),
+        ("part hi 007 if", 7, true, true),
+    ] {
+        let item = Item::Part {
+            rendition: 1,
+            duration,
+            independent,
+            finish,
+        };
+        assert_eq!(rt; item.rendition(), 1, "at {line}");
+        assert_eq!(rt; item.copy()?, item, "at {line}");
+        assert_eq!(rt; Item::read(&settings, line), Ok(item), "at {line}");
+    }
+    Ok(())
+}
+
+#[test]
+fn lines_that_are_no_item_are_refused(rt: HostRuntime) -> Result<(), Fail> {
+    let settings = Settings::read(rt.alloc(), LINE)?;
+    for (line, fault) in [
+        ("part zz 1 f", ItemFault::NoRendition),
+        ("part zz x f", ItemFault::BadLine),
+        ("part hi 1000000", ItemFault::BadLine),
+        ("part hi 1000000 fi", ItemFault::BadLine),
+        ("part hi 1000000 - ", ItemFault::BadLine),
+        ("part  hi 1 -", ItemFault::BadLine),
+        ("part Hi 1 -", ItemFault::BadLine),
+        ("part hi x f", ItemFault::BadLine),
+        ("part hi  f", ItemFault::BadLine),
+        ("part hi 18446744073709551616 -", ItemFault::BadLine),
+        ("piece hi 1 -", ItemFault::BadLine),
+        ("break hi", ItemFault::BadLine),
+        ("", ItemFault::BadLine),
+    ] {
+        assert_eq!(rt; Item::read(&settings, line), Err(fault), "at {line}");
+    }
+    Ok(())
+}
+
+#[test]
+fn faults_are_shown_by_their_names(rt: HostRuntime) -> Result<(), Fail> {
+    let fault = SettingsFault::SkipTooSmall;
+    assert_eq!(rt; format!(in rt.alloc(); "{fault}")?.as_str(), "SkipTooSmall");
+    let fault = ItemFault::NoRendition;
+    assert_eq!(rt; format!(in rt.alloc(); "{fault}")?.as_str(), "NoRendition");
+    Ok(())
+}

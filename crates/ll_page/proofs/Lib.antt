@@ -1,0 +1,3 @@
+pub mod PlaceLemmas
+pub mod SegmentLemmas
+pub mod WorkedExamples

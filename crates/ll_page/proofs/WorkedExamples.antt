@@ -1,0 +1,12 @@
+-- The definitions, computed: each side of these equations comes to the same numerals.
+use Rattle.std.proofs.Common.{refl}
+use Rattle.std.specs.Fmt.{digits}
+use Rattle.ll_attr.specs.Durations.{seconds}
+use Rattle.ll_item.specs.Settings.{configuration_of}
+use Rattle.ll_page.specs.Spelling.{first_lines, target_line, control_line, part_target_line, sequence_line, discontinuity_line, independent_flag, part_line, finished_lines}
+use Rattle.ll_page.specs.Uris.{segment_uri, part_uri}
+use Rattle.ll_page.specs.Worked.{WorkedPlaylists}
+
+pub worked : WorkedPlaylists
+unfolding first_lines target_line control_line part_target_line sequence_line discontinuity_line independent_flag part_line finished_lines segment_uri part_uri seconds digits configuration_of
+worked = record { settings = refl; empty = refl; one_segment = refl; open_segment = refl }

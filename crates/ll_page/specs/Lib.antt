@@ -1,0 +1,9 @@
+pub mod Full
+pub mod Playlist
+pub mod Spelling
+pub mod Uris
+pub mod View
+pub mod Worked
+pub use Rattle.ll_window.specs.Compact
+pub use Rattle.ll_window.specs.Rows
+pub use Rattle.ll_item.specs.Settings

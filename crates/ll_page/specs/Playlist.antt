@@ -1,0 +1,42 @@
+-- A Media Playlist, as its lines tell it (section 4.4).
+use Rattle.std.specs.Prelude.{ℕ, List, Bool, Option}
+
+-- an EXT-X-PART line
+pub record PartLine : Type 0 where
+  -- microseconds
+  pub duration : ℕ
+  pub uri : List ℕ
+  pub independent : Bool
+
+-- the lines of a segment that stand before its EXTINF line
+pub record Block : Type 0 where
+  pub parts : List PartLine
+
+-- a segment that has its EXTINF line and its URI
+pub record Finished : Type 0 where
+  pub block : Block
+  -- microseconds
+  pub duration : ℕ
+  pub uri : List ℕ
+
+-- what does not change while the stream goes on
+pub record Header : Type 0 where
+  pub version : ℕ
+  -- seconds
+  pub target : ℕ
+  -- microseconds
+  pub hold_back : ℕ
+  -- microseconds
+  pub skip_until : ℕ
+  -- microseconds
+  pub part_target : ℕ
+
+pub record Playlist : Type 0 where
+  pub header : Header
+  -- the media sequence number of the first segment
+  pub sequence : ℕ
+  -- the discontinuity sequence number
+  pub discontinuity : ℕ
+  pub segments : List Finished
+  -- the lines of the open segment, where it has a part
+  pub open_block : Option Block

@@ -1,0 +1,62 @@
+-- The text of a playlist, line by line. Each line ends in LF.
+use Rattle.std.specs.Prelude.{ℕ, List, [], ◌∷◌, ◌++◌, Bool, Option, Some, None, if◌then◌else◌, codes, decimal, flat_map}
+use Rattle.ll_attr.specs.Durations.{seconds}
+use Rattle.ll_page.specs.Playlist.{PartLine, Block, Finished, Header, Playlist}
+
+-- sections 4.4.1.1 and 4.4.1.2
+unfoldable pub first_lines : ℕ → List ℕ
+first_lines version = codes "#EXTM3U\n#EXT-X-VERSION:" ++ (decimal version ++ codes "\n")
+
+-- section 4.4.3.1
+unfoldable pub target_line : ℕ → List ℕ
+target_line target = codes "#EXT-X-TARGETDURATION:" ++ (decimal target ++ codes "\n")
+
+-- section 4.4.3.8
+unfoldable pub control_line : ℕ → ℕ → List ℕ
+control_line hold_back skip_until =
+    codes "#EXT-X-SERVER-CONTROL:CAN-BLOCK-RELOAD=YES,PART-HOLD-BACK="
+    ++ (seconds hold_back ++ (codes ",CAN-SKIP-UNTIL=" ++ (seconds skip_until ++ codes "\n")))
+
+-- section 4.4.3.7
+unfoldable pub part_target_line : ℕ → List ℕ
+part_target_line part_target = codes "#EXT-X-PART-INF:PART-TARGET=" ++ (seconds part_target ++ codes "\n")
+
+-- section 4.4.3.2
+unfoldable pub sequence_line : ℕ → List ℕ
+sequence_line number = codes "#EXT-X-MEDIA-SEQUENCE:" ++ (decimal number ++ codes "\n")
+
+-- section 4.4.3.3
+unfoldable pub discontinuity_line : ℕ → List ℕ
+discontinuity_line number = codes "#EXT-X-DISCONTINUITY-SEQUENCE:" ++ (decimal number ++ codes "\n")
+
+unfoldable pub independent_flag : Bool → List ℕ
+independent_flag independent = if independent then codes ",INDEPENDENT=YES" else []
+
+-- section 4.4.4.9
+unfoldable pub part_line : PartLine → List ℕ
+part_line p =
+    codes "#EXT-X-PART:DURATION=" ++ (seconds p.duration ++ (codes ",URI=\"" ++ (p.uri ++ (codes "\"" ++ (independent_flag p.independent ++ codes "\n")))))
+
+-- section 4.4.4.1, and the segment's URI
+unfoldable pub finished_lines : ℕ → List ℕ → List ℕ
+finished_lines duration uri = codes "#EXTINF:" ++ (seconds duration ++ (codes ",\n" ++ (uri ++ codes "\n")))
+
+abbrev pub header_lines : Header → List ℕ
+header_lines h =
+    first_lines h.version ++ (target_line h.target ++ (control_line h.hold_back h.skip_until ++ part_target_line h.part_target))
+
+abbrev pub block_lines : Block → List ℕ
+block_lines b = flat_map part_line b.parts
+
+abbrev pub segment_lines : Finished → List ℕ
+segment_lines s = block_lines s.block ++ finished_lines s.duration s.uri
+
+abbrev pub open_lines : Option Block → List ℕ
+open_lines None = []
+open_lines (Some b) = block_lines b
+
+-- the text of a playlist
+abbrev pub spelling : Playlist → List ℕ
+spelling p =
+    header_lines p.header ++ (sequence_line p.sequence ++ (discontinuity_line p.discontinuity
+    ++ (flat_map segment_lines p.segments ++ open_lines p.open_block)))

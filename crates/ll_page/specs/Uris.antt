@@ -1,0 +1,10 @@
+-- The URIs of media, which are this origin's own choice.
+use Rattle.std.specs.Prelude.{ℕ, List, ◌++◌, codes, decimal}
+
+-- the segment of this media sequence number
+unfoldable pub segment_uri : ℕ → List ℕ
+segment_uri number = codes "s" ++ (decimal number ++ codes ".m4s")
+
+-- the part of this index in it
+unfoldable pub part_uri : ℕ → ℕ → List ℕ
+part_uri number index = codes "s" ++ (decimal number ++ (codes "." ++ (decimal index ++ codes ".m4s")))

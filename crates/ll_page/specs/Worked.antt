@@ -1,0 +1,80 @@
+-- The definitions at worked examples: three streams, and the whole text of a playlist of each, byte for byte.
+use Rattle.std.specs.Prelude.{◌≡◌, ℕ, List, [], ◌∷◌, ◌++◌, true, false, Ok, codes}
+use Rattle.ll_item.specs.Settings.{Configuration, settings_in}
+use Rattle.ll_item.specs.declared.item.Item.{Item}
+use Rattle.ll_item.specs.declared.item.Item.TheVariants as item
+use Rattle.ll_page.specs.Full.{text_after}
+
+-- one rendition, a target duration of 4 s and a part target of 1 s
+abbrev pub whole_seconds : Configuration
+whole_seconds = record {
+  channel = codes "cam";
+  target = 4;
+  part_target = 1000000;
+  skip = 24;
+  window = 36;
+  renditions = codes "hi" ∷ [];
+  first = 0;
+  start = 0;
+}
+
+-- two renditions, a target duration of 4 s and a part target of 0.334 s; the first segments have number 7
+abbrev pub two_renditions : Configuration
+two_renditions = record {
+  channel = codes "cam";
+  target = 4;
+  part_target = 334000;
+  skip = 24;
+  window = 36;
+  renditions = codes "lo" ∷ codes "hi" ∷ [];
+  first = 7;
+  start = 0;
+}
+
+-- one part, which is a whole segment
+abbrev pub one_part : List Item
+one_part = item.Part 0 1000000 true true ∷ []
+
+-- parts of both renditions, three of them of the second, which go on behind a finished segment
+abbrev pub mixed_parts : List Item
+mixed_parts = item.Part 1 334000 true false ∷ item.Part 0 300000 true true ∷ item.Part 1 333999 false true ∷ item.Part 1 1 true false ∷ []
+
+abbrev pub empty_text : List ℕ
+empty_text =
+    codes "#EXTM3U\n"
+    ++ codes "#EXT-X-VERSION:9\n"
+    ++ codes "#EXT-X-TARGETDURATION:4\n"
+    ++ codes "#EXT-X-SERVER-CONTROL:CAN-BLOCK-RELOAD=YES,PART-HOLD-BACK=3.000000,CAN-SKIP-UNTIL=24.000000\n"
+    ++ codes "#EXT-X-PART-INF:PART-TARGET=1.000000\n"
+    ++ codes "#EXT-X-MEDIA-SEQUENCE:0\n"
+    ++ codes "#EXT-X-DISCONTINUITY-SEQUENCE:0\n"
+
+abbrev pub one_segment_text : List ℕ
+one_segment_text =
+    empty_text
+    ++ codes "#EXT-X-PART:DURATION=1.000000,URI=\"s0.0.m4s\",INDEPENDENT=YES\n"
+    ++ codes "#EXTINF:1.000000,\n"
+    ++ codes "s0.m4s\n"
+
+abbrev pub open_segment_text : List ℕ
+open_segment_text =
+    codes "#EXTM3U\n"
+    ++ codes "#EXT-X-VERSION:9\n"
+    ++ codes "#EXT-X-TARGETDURATION:4\n"
+    ++ codes "#EXT-X-SERVER-CONTROL:CAN-BLOCK-RELOAD=YES,PART-HOLD-BACK=1.002000,CAN-SKIP-UNTIL=24.000000\n"
+    ++ codes "#EXT-X-PART-INF:PART-TARGET=0.334000\n"
+    ++ codes "#EXT-X-MEDIA-SEQUENCE:7\n"
+    ++ codes "#EXT-X-DISCONTINUITY-SEQUENCE:0\n"
+    ++ codes "#EXT-X-PART:DURATION=0.334000,URI=\"s7.0.m4s\",INDEPENDENT=YES\n"
+    ++ codes "#EXT-X-PART:DURATION=0.333999,URI=\"s7.1.m4s\"\n"
+    ++ codes "#EXTINF:0.667999,\n"
+    ++ codes "s7.m4s\n"
+    ++ codes "#EXT-X-PART:DURATION=0.000001,URI=\"s8.0.m4s\",INDEPENDENT=YES\n"
+
+pub record WorkedPlaylists : Type 0 where
+  -- the settings of the first two examples are those that a line spells
+  pub settings :
+      settings_in (codes "channel cam target=4 part=1000000 skip=24 window=36 renditions=hi first=0 start=0") ≡ Ok whole_seconds
+  pub empty : text_after whole_seconds [] 0 ≡ empty_text
+  pub one_segment : text_after whole_seconds one_part 0 ≡ one_segment_text
+  pub open_segment : text_after two_renditions mixed_parts 1 ≡ open_segment_text

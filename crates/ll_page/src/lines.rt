@@ -1,0 +1,106 @@
+//! One function for each kind of line of a playlist, which adds it to a text.
+ghost use Rattle.std.specs.Prelude.{◌≡◌, ◌++◌, ◌*◌, OnOk, string_bytes};
+ghost use Rattle.ll_window.specs.declared.part.Part.{Part};
+ghost use Rattle.ll_page.specs.Spelling.{first_lines, target_line, control_line, part_target_line, sequence_line, discontinuity_line, independent_flag, part_line, finished_lines};
+ghost use Rattle.ll_page.specs.Uris.{segment_uri, part_uri};
+
+use ll_attr::Micros;
+use ll_window::Part;
+use std::alloc::AllocError;
+
+/// EXTM3U (section 4.4.1.1) and EXT-X-VERSION (section 4.4.1.2).
+#[tactic(auto, unfolding(crate::specs::Spelling::first_lines))]
+pub(crate) fn push_first_lines(text: &mut String, version: u64) -> Result<(), AllocError>
+    ensures { OnOk result (string_bytes text.new ≡ string_bytes text.old ++ first_lines version) }
+{
+    write!(text, "#EXTM3U\n#EXT-X-VERSION:{version}\n")
+}
+
+/// EXT-X-TARGETDURATION (section 4.4.3.1), in seconds.
+#[tactic(auto, unfolding(crate::specs::Spelling::target_line))]
+pub(crate) fn push_target_line(text: &mut String, target: u64) -> Result<(), AllocError>
+    ensures { OnOk result (string_bytes text.new ≡ string_bytes text.old ++ target_line target) }
+{
+    write!(text, "#EXT-X-TARGETDURATION:{target}\n")
+}
+
+/// EXT-X-SERVER-CONTROL (section 4.4.3.8): the server keeps a request until what it asks for is there.
+#[tactic(auto, unfolding(crate::specs::Spelling::control_line))]
+pub(crate) fn push_control_line(
+    text: &mut String,
+    hold_back: Micros,
+    skip_until: Micros,
+) -> Result<(), AllocError>
+    ensures { OnOk result (string_bytes text.new ≡ string_bytes text.old ++ control_line hold_back.0 skip_until.0) }
+{
+    write!(
+        text,
+        "#EXT-X-SERVER-CONTROL:CAN-BLOCK-RELOAD=YES,PART-HOLD-BACK={hold_back},CAN-SKIP-UNTIL={skip_until}\n"
+    )
+}
+
+/// EXT-X-PART-INF (section 4.4.3.7).
+#[tactic(auto, unfolding(crate::specs::Spelling::part_target_line))]
+pub(crate) fn push_part_target_line(
+    text: &mut String,
+    part_target: Micros,
+) -> Result<(), AllocError>
+    ensures { OnOk result (string_bytes text.new ≡ string_bytes text.old ++ part_target_line part_target.0) }
+{
+    write!(text, "#EXT-X-PART-INF:PART-TARGET={part_target}\n")
+}
+
+/// EXT-X-MEDIA-SEQUENCE (section 4.4.3.2).
+#[tactic(auto, unfolding(crate::specs::Spelling::sequence_line))]
+pub(crate) fn push_sequence_line(text: &mut String, number: u64) -> Result<(), AllocError>
+    ensures { OnOk result (string_bytes text.new ≡ string_bytes text.old ++ sequence_line number) }
+{
+    write!(text, "#EXT-X-MEDIA-SEQUENCE:{number}\n")
+}
+
+/// EXT-X-DISCONTINUITY-SEQUENCE (section 4.4.3.3).
+#[tactic(auto, unfolding(crate::specs::Spelling::discontinuity_line))]
+pub(crate) fn push_discontinuity_line(text: &mut String, number: u64) -> Result<(), AllocError>
+    ensures { OnOk result (string_bytes text.new ≡ string_bytes text.old ++ discontinuity_line number) }
+{
+    write!(text, "#EXT-X-DISCONTINUITY-SEQUENCE:{number}\n")
+}
+
+/// The attribute of a part that can be played without a part before it (section 4.4.4.9).
+#[tactic(auto, unfolding(crate::specs::Spelling::independent_flag))]
+fn independent(independent: bool) -> &'static str
+    ensures { result.now ≡ independent_flag independent }
+{
+    if independent { ",INDEPENDENT=YES" } else { "" }
+}
+
+/// EXT-X-PART (section 4.4.4.9): the part of this index, in the segment of this media sequence number.
+#[tactic(auto, unfolding(crate::specs::Spelling::part_line, crate::specs::Uris::part_uri))]
+pub(crate) fn push_part_line(
+    text: &mut String,
+    number: u64,
+    index: u64,
+    part: Part,
+) -> Result<(), AllocError>
+    ensures { OnOk result (string_bytes text.new ≡ string_bytes text.old
+        ++ part_line (record { duration = part.duration; uri = part_uri number index; independent = part.independent })) }
+{
+    let duration = Micros(part.duration);
+    let flag = independent(part.independent);
+    write!(
+        text,
+        "#EXT-X-PART:DURATION={duration},URI=\"s{number}.{index}.m4s\"{flag}\n"
+    )
+}
+
+/// EXTINF (section 4.4.4.1), and the URI of the segment of this media sequence number.
+#[tactic(auto, unfolding(crate::specs::Spelling::finished_lines, crate::specs::Uris::segment_uri))]
+pub(crate) fn push_finished_lines(
+    text: &mut String,
+    number: u64,
+    duration: Micros,
+) -> Result<(), AllocError>
+    ensures { OnOk result (string_bytes text.new ≡ string_bytes text.old ++ finished_lines duration.0 (segment_uri number)) }
+{
+    write!(text, "#EXTINF:{duration},\ns{number}.m4s\n")
+}

@@ -1,0 +1,12 @@
+pub mod ChannelLemmas
+pub mod CutLemmas
+pub mod DriverLemmas
+pub mod LineLemmas
+pub mod PlaceLemmas
+pub mod ReadingLemmas
+pub mod RenditionLemmas
+pub mod RunLemmas
+pub mod StreamLemmas
+pub mod TakeLemmas
+pub mod WorldLaws
+pub mod WriteLemmas

@@ -1,0 +1,14 @@
+-- A front of the text is written, and no write has failed.
+use Rattle.std.proofs.Common.{length, ◌-◌, ◌≡◌, ◌≤◌, take}
+use Rattle.ll_replay.specs.Stream.{Wrote}
+use Rattle.ll_replay.proofs.device.write_all.Given as goal
+
+abbrev pub invariant-loop-taken : goal.invariant-loop-taken
+invariant-loop-taken g l = record {
+  within : l.taken ≤ length l.text;
+  wrote : Wrote (g.W.Writer.written l.fn.writer) (g.W.Writer.written l.writer) (take l.taken l.text);
+  steady : g.W.Writer.failures l.writer ≡ g.W.Writer.failures l.fn.writer;
+}
+
+abbrev pub decreases-loop-taken : goal.decreases-loop-taken
+decreases-loop-taken g l = length l.text - l.taken

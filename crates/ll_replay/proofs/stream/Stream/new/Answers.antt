@@ -1,0 +1,5 @@
+-- Before any byte no line has ended and none is open.
+use Rattle.ll_replay.proofs.stream.Stream.new.Goals as goal
+
+pub returns-clause-stands : goal.returns-clause-stands
+returns-clause-stands c base = record { holds = c.new-2.ensures.items; stands = c.new.ensures.stands base }

@@ -1,0 +1,56 @@
+-- The events of one channel, and what is published in them.
+use Rattle.std.specs.Prelude.{ℕ, ◌^◌, List, [], ◌∷◌, ◌++◌, Option, Some, None, length, fold, nat_le, nat_lt, option_map, if◌then◌else◌}
+use Rattle.ll_item.specs.Items.{rendition_of}
+use Rattle.ll_item.specs.Settings.{Configuration}
+use Rattle.ll_item.specs.declared.item.Item.{Item}
+use Rattle.ll_window.specs.declared.window.PushFault.{PushFault}
+use Rattle.ll_window.specs.declared.window.PushFault.TheVariants as push
+use Rattle.ll_window.specs.Refusal
+use Rattle.ll_window.specs.Segments.{own}
+use Rattle.ll_replay.specs.declared.refusal.Refusal.{Refusal}
+use Rattle.ll_replay.specs.declared.refusal.Refusal.TheVariants as refused
+
+pub data Event : Type 0 where
+  -- an item that was accepted
+  Publish : Item → Event
+  -- a request for the playlist of a rendition
+  Ask : ℕ → Event
+
+abbrev pub taken : List Item → Event → List Item
+taken items (Publish item) = items ++ item ∷ []
+taken items (Ask rendition) = items
+
+-- all items that a channel has accepted since its start
+abbrev pub items : List Event → List Item
+items events = fold taken [] events
+
+-- a channel takes so many events and no more
+abbrev pub event_end : ℕ
+event_end = 2 ^ 60
+
+-- the same reason by its name in answers
+abbrev pub refusal_of : PushFault → Refusal
+refusal_of push.BadDuration = refused.BadDuration
+refusal_of push.TooLong = refused.TooLong
+refusal_of push.CountEnd = refused.CountEnd
+refusal_of push.TimeEnd = refused.TimeEnd
+refusal_of push.Memory = refused.Memory
+
+-- why an item may not follow these items of its channel, or none
+abbrev pub refusal_at : Configuration → List Item → Item → Option Refusal
+refusal_at c before item =
+    if nat_lt (rendition_of item) (length c.renditions)
+    then option_map refusal_of (Refusal.refusal c (own (rendition_of item) before) item)
+    else Some refused.NoRendition
+
+-- a channel that has taken all its events is full
+abbrev pub full_by : List Event → Option Refusal
+full_by events = if nat_le event_end (length events) then Some refused.RecordFull else None
+
+abbrev pub refusal_by : Option Refusal → List Event → Option Refusal
+refusal_by None events = full_by events
+refusal_by (Some reason) events = Some reason
+
+-- the first reason for which a channel refuses an item after these events, or none
+abbrev pub refusal : Configuration → List Event → Item → Option Refusal
+refusal c events item = refusal_by (refusal_at c (items events) item) events

@@ -1,0 +1,48 @@
+-- What a driver keeps in place of all events.
+use Rattle.std.specs.Prelude.{◌≡◌, ℕ, ◌≤◌, List, ◌++◌, Option, None, length, map, min, option_map, sum_by}
+use Rattle.ll_item.specs.Settings.{Configuration}
+use Rattle.ll_window.specs.Compact.{Compact, compacts}
+use Rattle.ll_replay.specs.Events.{items, event_end}
+use Rattle.ll_replay.specs.World.{Channel, World, count_end}
+
+pub record KeptChannel : Type 0 where
+  pub settings : Configuration
+  pub windows : List Compact
+  -- how many items were accepted
+  pub count : ℕ
+  -- how many events there were
+  pub events : ℕ
+
+pub record Kept : Type 0 where
+  pub channels : List KeptChannel
+  pub lines : ℕ
+  pub last_id : Option ℕ
+  pub events : ℕ
+  pub replies : ℕ
+
+abbrev pub kept_channel : Channel → KeptChannel
+kept_channel c = record {
+  settings = c.settings;
+  windows = compacts c.settings (items c.events);
+  count = length (items c.events);
+  events = length c.events;
+}
+
+-- what is kept of what a script has come to
+abbrev pub kept : World → Kept
+kept w = record {
+  channels = map kept_channel w.channels;
+  lines = w.lines;
+  last_id = w.last_id;
+  events = min (sum_by (λ (c : Channel). length c.events) w.channels) count_end;
+  replies = min w.replies count_end;
+}
+
+-- a driver stands for what a script has come to, and what was written since base is its text
+pub record Stands (driver : Kept) (base written : Option (List ℕ)) (w : World) : Type 0 where
+  pub stands : driver ≡ kept w
+  pub goes_on : w.ending ≡ None
+  pub wrote : written ≡ option_map (λ b. b ++ w.text) base
+
+abbrev pub settings_kept : List KeptChannel → List Configuration
+settings_kept channels = map (λ (c : KeptChannel). c.settings) channels

@@ -1,0 +1,9 @@
+pub mod Answers
+pub mod Events
+pub mod Kept
+pub mod Lines
+pub mod Stream
+pub mod Uses
+pub mod World
+pub use Rattle.ll_page.specs.Full
+pub use Rattle.ll_page.specs.View

@@ -1,0 +1,257 @@
+//! Takes the lines of a script, one after another.
+ghost use Rattle.std.specs.Prelude.{◌≡◌, ◌≢◌, ◌<◌, ◌+◌, ◌-◌, ◌^◌, ◌++◌, ◌∷◌, [], ℕ, List, Option, Some, None, Ok, Err, IfOk, MatchOption, IfSome, IfNone, OnOk, OnErr, IfErr, IsErrOf, ◌≤◌, length, slice_get, slice_set, string_bytes};
+ghost use Rattle.ll_replay.specs.World.{World, start, line, summary_of, Ending};
+ghost use Rattle.ll_replay.specs.World as world;
+ghost use Rattle.ll_page.specs.Full.{text_after};
+ghost use Rattle.ll_replay.specs.Events.{items, refusal, full_by};
+ghost use Rattle.ll_replay.specs.Events as events;
+ghost use Rattle.ll_replay.specs.Answers as answers;
+ghost use Rattle.ll_replay.specs.Answers.{told};
+ghost use Rattle.ll_replay.specs.Kept.{Stands, kept, kept_channel};
+ghost use Rattle.ll_replay.specs.Stream.{Wrote, WroteFront, IsBroken, IsDevice};
+
+use crate::act::Act;
+use crate::answers::{no_line, ok_line, text_reply, unavailable_reply};
+use crate::channel::Channel;
+use crate::device::{Failed, Writer, write_all};
+use crate::outcome::{RunFault, Summary};
+use crate::reading::{Unread, read_line};
+use crate::refusal::Refusal;
+use ll_attr::Text;
+use ll_item::{Item, Settings};
+use std::alloc::{AllocError, Global};
+use std::marker::Model;
+
+/// The most bytes of a line, without its end.
+const LINE_END: usize = 65_536;
+
+/// The channels of a script, and what was counted.
+#[derive(Debug, Drop)]
+pub(crate) struct Driver {
+    alloc: Global,
+    channels: Vec<Channel>,
+    lines: u64,
+    last_id: Option<u64>,
+    events: u64,
+    replies: u64,
+}
+
+impl Model for Driver {
+    ghost use Rattle.ll_replay.specs.Kept.{Kept};
+
+    ghost Value = { Kept };
+
+    ghost view = { λ d. record { channels = d.channels.items; lines = d.lines; last_id = d.last_id; events = d.events; replies = d.replies } };
+}
+
+impl Driver {
+    pub(crate) fn new(alloc: Global) -> Driver
+        ensures stands { (base : Option (List ℕ)) → Stands result base base start }
+        ensures lines { result.lines ≡ 0 }
+    {
+        Driver {
+            alloc,
+            channels: Vec::new(alloc),
+            lines: 0,
+            last_id: None,
+            events: 0,
+            replies: 0,
+        }
+    }
+
+    pub(crate) fn lines(&self) -> u64
+        ensures { result ≡ self.now.lines }
+    {
+        self.lines
+    }
+
+    pub(crate) fn summary(&self) -> Summary
+        ensures { (w : World) (base written : Option (List ℕ)) → Stands self.now base written w → result ≡ summary_of w }
+    {
+        Summary {
+            events: self.events,
+            replies: self.replies,
+        }
+    }
+
+    /// Takes a whole line, without its end.
+    pub(crate) fn take_line<W: Writer>(
+        &mut self,
+        text: &[u8],
+        writer: &mut W,
+    ) -> Result<(), RunFault>
+        requires { self.old.lines < 2 ^ 64 - 1 }
+        ensures ok { OnOk result ((w : World) (base : Option (List ℕ)) → Stands self.old base (W.written writer.old) w
+            → Stands self.new base (W.written writer.new) (line w text.now)) }
+        ensures lines { OnOk result (self.new.lines ≡ self.old.lines + 1) }
+        ensures bad_line { (n : ℕ) → IsErrOf result (RunFault.BadLine n) → (w : World) (base : Option (List ℕ)) → Stands self.old base (W.written writer.old) w
+            → ((line w text.now).ending ≡ Some (world.BadLine n)) × Wrote base (W.written writer.new) (line w text.now).text }
+        ensures too_long { (n : ℕ) → IsErrOf result (RunFault.LineTooLong n) → (w : World) (base : Option (List ℕ)) → Stands self.old base (W.written writer.old) w
+            → ((line w text.now).ending ≡ Some (world.LineTooLong n)) × Wrote base (W.written writer.new) (line w text.now).text }
+        ensures write { IsErrOf result RunFault.Write → (w : World) (base : Option (List ℕ)) → Stands self.old base (W.written writer.old) w
+            → WroteFront base (W.written writer.new) (line w text.now).text }
+        ensures memory { IsErrOf result RunFault.Memory → (w : World) (base : Option (List ℕ)) → Stands self.old base (W.written writer.old) w
+            → WroteFront base (W.written writer.new) (line w text.now).text }
+        ensures not_read { result ≢ Err RunFault.Read }
+        ensures not_endless { result ≢ Err RunFault.Endless }
+        ensures steady { OnOk result (W.failures writer.new ≡ W.failures writer.old) }
+        ensures write_failed { IsErrOf result RunFault.Write → W.failures writer.old < W.failures writer.new }
+    {
+        let line = self.lines + 1;
+        if text.len() > LINE_END {
+            return Err(RunFault::LineTooLong { line });
+        }
+        self.lines = line;
+        match read_line(self.alloc, &self.channels, self.last_id, text) {
+            Ok(None) => Ok(()),
+            Ok(Some(act)) => self.act(act, writer),
+            Err(Unread::BadLine) => Err(RunFault::BadLine { line }),
+            Err(Unread::Memory) => Err(RunFault::Memory),
+        }
+    }
+
+    fn act<W: Writer>(&mut self, act: Act, writer: &mut W) -> Result<(), RunFault>
+        ensures ok { OnOk result ((w : World) (base : Option (List ℕ)) → Stands self.old base (W.written writer.old) w
+            → Stands self.new base (W.written writer.new) (world.act w act)) }
+        ensures lines { OnOk result (self.new.lines ≡ self.old.lines) }
+        ensures cut { IfErr result (λ f. (w : World) (base : Option (List ℕ)) → Stands self.old base (W.written writer.old) w
+            → IsBroken base (W.written writer.new) (world.act w act).text f) }
+        ensures kind { IfErr result IsDevice }
+        ensures steady { OnOk result (W.failures writer.new ≡ W.failures writer.old) }
+        ensures write_failed { IsErrOf result RunFault.Write → W.failures writer.old < W.failures writer.new }
+    {
+        match self.step(act) {
+            Ok(answer) => say(answer, writer),
+            Err(AllocError) => Err(RunFault::Memory),
+        }
+    }
+
+    /// What an act is answered, where it is answered.
+    fn step(&mut self, act: Act) -> Result<Option<String>, AllocError>
+        ensures ok { (w : World) → self.old ≡ kept w → IfOk result (λ a.
+            (self.new ≡ kept (world.act w act)) × ((world.act w act).text ≡ w.text ++ told a)) }
+        ensures lines { OnOk result (self.new.lines ≡ self.old.lines) }
+    {
+        match act {
+            Act::Declare(settings) => {
+                self.channels.push(Channel::new(self.alloc, settings)?)?;
+                Ok(None)
+            }
+            Act::Offer { place, item } => self.offer(place, item),
+            Act::Refuse(reason) => Ok(Some(no_line(self.alloc, reason)?)),
+            Act::Get {
+                id,
+                place,
+                rendition,
+            } => self.get(id, place, rendition),
+        }
+    }
+
+    fn offer(&mut self, place: usize, item: Item) -> Result<Option<String>, AllocError>
+        ensures ok { (w : World) → self.old ≡ kept w → IfOk result (λ a.
+            (self.new ≡ kept (world.act w (Act.Offer place item))) × ((world.act w (Act.Offer place item)).text ≡ w.text ++ told a)) }
+        ensures lines { OnOk result (self.new.lines ≡ self.old.lines) }
+    {
+        if place >= self.channels.len() {
+            return Ok(None);
+        }
+        match publish_at(&mut self.channels, place, item) {
+            Ok(count) => {
+                self.events = self.events.saturating_add(1);
+                Ok(Some(ok_line(self.alloc, count)?))
+            }
+            Err(reason) => Ok(Some(refused(self.alloc, reason)?)),
+        }
+    }
+
+    fn get(&mut self, id: u64, place: usize, rendition: usize) -> Result<Option<String>, AllocError>
+        ensures ok { (w : World) → self.old ≡ kept w → IfOk result (λ a.
+            (self.new ≡ kept (world.act w (Act.Get id place rendition))) × ((world.act w (Act.Get id place rendition)).text ≡ w.text ++ told a)) }
+        ensures lines { OnOk result (self.new.lines ≡ self.old.lines) }
+    {
+        if place >= self.channels.len() {
+            return Ok(None);
+        }
+        match ask_at(self.alloc, &mut self.channels, place, rendition) {
+            Ok(None) => Ok(None),
+            Ok(Some(text)) => {
+                self.events = self.events.saturating_add(1);
+                self.last_id = Some(id);
+                self.replies = self.replies.saturating_add(1);
+                Ok(Some(text_reply(self.alloc, id, text.as_str())?))
+            }
+            Err(reason) => {
+                self.last_id = Some(id);
+                self.replies = self.replies.saturating_add(1);
+                Ok(Some(unavailable(self.alloc, id, reason)?))
+            }
+        }
+    }
+}
+
+/// The answer to an item that is refused; a channel that found no memory ends the run.
+fn refused(alloc: Global, reason: Refusal) -> Result<String, AllocError>
+    ensures { IfOk result (λ t. (reason ≢ Refusal.Memory) × (string_bytes t ≡ answers.no_line reason)) }
+{
+    if reason == Refusal::Memory {
+        return Err(AllocError);
+    }
+    no_line(alloc, reason)
+}
+
+/// The reply to a request that is refused; a channel that found no memory ends the run.
+fn unavailable(alloc: Global, id: u64, reason: Refusal) -> Result<String, AllocError>
+    ensures { IfOk result (λ t. (reason ≢ Refusal.Memory) × (string_bytes t ≡ answers.unavailable_reply id reason)) }
+{
+    if reason == Refusal::Memory {
+        return Err(AllocError);
+    }
+    unavailable_reply(alloc, id, reason)
+}
+
+/// Publishes an item to the channel at this place.
+fn publish_at(channels: &mut [Channel], place: usize, item: Item) -> Result<u64, Refusal>
+    requires { place < length channels.old }
+    ensures accepted { (c : world.Channel) → slice_get channels.old place ≡ Some (kept_channel c) → IfOk result (λ n.
+        (refusal c.settings c.events item ≡ None) × (n ≡ length (items c.events) + 1)
+        × (channels.new ≡ slice_set channels.old place (kept_channel (world.with_event (events.Publish item) c)))) }
+    ensures refused { (c : world.Channel) → slice_get channels.old place ≡ Some (kept_channel c) → IfErr result (λ r.
+        (r ≢ Refusal.Memory → refusal c.settings c.events item ≡ Some r) × (channels.new ≡ channels.old)) }
+{
+    channels[place].publish(item)
+}
+
+/// The text of a rendition's playlist of the channel at this place, where there is that rendition.
+fn ask_at(
+    alloc: Global,
+    channels: &mut [Channel],
+    place: usize,
+    rendition: usize,
+) -> Result<Option<Text>, Refusal>
+    requires { place < length channels.old }
+    ensures text { (c : world.Channel) → slice_get channels.old place ≡ Some (kept_channel c) → IfOk result (λ t. MatchOption t
+        ((length c.settings.renditions ≤ rendition) × (channels.new ≡ channels.old))
+        (λ text. (rendition < length c.settings.renditions) × (full_by c.events ≡ None)
+        × (text ≡ text_after c.settings (items c.events) rendition)
+        × (channels.new ≡ slice_set channels.old place (kept_channel (world.with_event (events.Ask rendition) c))))) }
+    ensures refused { (c : world.Channel) → slice_get channels.old place ≡ Some (kept_channel c) → IfErr result (λ r.
+        (r ≢ Refusal.Memory → (rendition < length c.settings.renditions) × (full_by c.events ≡ Some r))
+        × (channels.new ≡ channels.old)) }
+{
+    channels[place].ask(alloc, rendition)
+}
+
+/// Writes an answer, where there is one.
+fn say<W: Writer>(answer: Option<String>, writer: &mut W) -> Result<(), RunFault>
+    ensures ok { OnOk result (Wrote (W.written writer.old) (W.written writer.new) (told answer)) }
+    ensures cut { OnErr result (WroteFront (W.written writer.old) (W.written writer.new) (told answer)) }
+    ensures kind { IfErr result (λ f. f ≡ RunFault.Write) }
+    ensures steady { OnOk result (W.failures writer.new ≡ W.failures writer.old) }
+    ensures write_failed { OnErr result (W.failures writer.old < W.failures writer.new) }
+{
+    let text = answer.as_ref().map_or("", |text| text.as_str());
+    match write_all(writer, text.as_bytes()) {
+        Ok(()) => Ok(()),
+        Err(Failed) => Err(RunFault::Write),
+    }
+}

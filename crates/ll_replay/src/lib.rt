@@ -1,0 +1,19 @@
+//! Scripts of channels, run from a reader to a writer: what is published, what is asked for, and every answer.
+#![tactic(auto)]
+
+mod act;
+mod answers;
+mod channel;
+mod counted;
+mod device;
+mod driver;
+mod outcome;
+mod reading;
+mod refusal;
+mod stream;
+
+pub use counted::{CountedReader, CountedWriter};
+pub use device::{Failed, Reader, Writer};
+pub use outcome::{RunFault, Summary};
+pub use refusal::Refusal;
+pub use stream::run;

@@ -1,0 +1,176 @@
+//! What the lines of a script mean.
+ghost use Rattle.std.specs.Prelude.{◌≡◌, ◌∷◌, [], IfOk, IsErrOf, IsOk, MatchOption, MatchResult, None, Some, false, ℕ, List, Option};
+ghost use Rattle.std.specs.Str.{is_utf8};
+ghost use Rattle.std.specs.Option.{option_to_list};
+ghost use Rattle.ll_attr.specs.Words.{words, parts_at};
+ghost use Rattle.ll_item.specs.Settings.{Configuration, settings_in};
+ghost use Rattle.ll_replay.specs.Kept.{settings_kept};
+ghost use Rattle.ll_replay.specs.Lines as spec;
+
+use crate::act::Act;
+use crate::channel::Channel;
+use crate::refusal::Refusal;
+use ll_attr::{behind, cut, parse_number};
+use ll_item::{Item, ItemFault, Settings, SettingsFault};
+use std::alloc::Global;
+use std::str;
+
+/// Why a line makes nothing happen.
+#[derive(Clone, Copy, Debug, PartialEq, Eq)]
+pub(crate) enum Unread {
+    /// No script has this line in its place.
+    BadLine,
+    /// No memory was found.
+    Memory,
+}
+
+/// What a line makes happen; a line that is passed over, nothing.
+pub(crate) fn read_line(
+    alloc: Global,
+    channels: &[Channel],
+    last: Option<u64>,
+    line: &[u8],
+) -> Result<Option<Act>, Unread>
+    ensures act { IfOk result (λ a. spec.acts (settings_kept channels.now) last line.now ≡ Some (option_to_list a)) }
+    ensures bad { IsErrOf result Unread.BadLine → spec.acts (settings_kept channels.now) last line.now ≡ None }
+    ensures memory { IsErrOf result Unread.Memory → IsOk (settings_in line.now) }
+{
+    match str::from_utf8(line) {
+        Ok(text) => read_text(alloc, channels, last, text),
+        Err(_) => read_bytes(line),
+    }
+}
+
+/// What a line makes happen that is no UTF-8.
+fn read_bytes(line: &[u8]) -> Result<Option<Act>, Unread>
+    requires { is_utf8 line.now ≡ false }
+    ensures { (channels : List Configuration) (last : Option ℕ) → MatchResult result
+        (λ a. spec.acts channels last line.now ≡ Some (option_to_list a))
+        (λ e. (e ≡ Unread.BadLine) × (spec.acts channels last line.now ≡ None)) }
+{
+    if line.starts_with(b"#") {
+        Ok(None)
+    } else if line.starts_with(b"pub ") {
+        Ok(Some(Act::Refuse(Refusal::BadLine)))
+    } else {
+        Err(Unread::BadLine)
+    }
+}
+
+fn read_text(
+    alloc: Global,
+    channels: &[Channel],
+    last: Option<u64>,
+    line: &str,
+) -> Result<Option<Act>, Unread>
+    ensures act { IfOk result (λ a. spec.acts (settings_kept channels.now) last line.now ≡ Some (option_to_list a)) }
+    ensures bad { IsErrOf result Unread.BadLine → spec.acts (settings_kept channels.now) last line.now ≡ None }
+    ensures memory { IsErrOf result Unread.Memory → IsOk (settings_in line.now) }
+{
+    if line.is_empty() || line.starts_with('#') {
+        return Ok(None);
+    }
+    if let Some(text) = behind(line, "pub ") {
+        return Ok(Some(read_offer(channels, text)));
+    }
+    let act = match behind(line, "get ") {
+        Some(text) => read_get(channels, last, text),
+        None => read_declaration(alloc, channels, line)?,
+    };
+    match act {
+        Some(act) => Ok(Some(act)),
+        None => Err(Unread::BadLine),
+    }
+}
+
+/// The place of the channel of this name, and its settings.
+fn find<'a>(channels: &'a [Channel], name: &str) -> Option<(usize, &'a Settings)>
+    ensures { MatchOption result (spec.channel_named (settings_kept channels.now) 0 name.now ≡ None)
+        (λ f. spec.channel_named (settings_kept channels.now) 0 name.now ≡ Some (f.0, f.1.now)) }
+{
+    for (place, channel) in channels.iter().enumerate() {
+        let settings = channel.settings();
+        if settings.channel() == name {
+            return Some((place, settings));
+        }
+    }
+    None
+}
+
+/// A publisher's line.
+fn read_offer(channels: &[Channel], text: &str) -> Act
+    ensures { result ≡ spec.offer (settings_kept channels.now) text.now }
+{
+    let Some((name, line)) = text.split_once(' ') else {
+        return Act::Refuse(Refusal::BadLine);
+    };
+    let Some((place, settings)) = find(channels, name) else {
+        return Act::Refuse(Refusal::UnknownChannel);
+    };
+    match Item::read(settings, line) {
+        Ok(item) => Act::Offer { place, item },
+        Err(ItemFault::BadLine) => Act::Refuse(Refusal::BadLine),
+        Err(ItemFault::NoRendition) => Act::Refuse(Refusal::NoRendition),
+    }
+}
+
+/// A request, where its number rises and its target is there.
+fn read_get(channels: &[Channel], last: Option<u64>, text: &str) -> Option<Act>
+    ensures { result ≡ spec.get_of (settings_kept channels.now) last (words text.now) }
+{
+    let (id, target) = cut(text, ' ')?;
+    if cut(target, ' ').is_some() {
+        return None;
+    }
+    let id = parse_number(id, 9)?;
+    let (place, rendition) = read_target(channels, target)?;
+    if last.is_some_and(|last| id <= last) {
+        return None;
+    }
+    Some(Act::Get {
+        id,
+        place,
+        rendition,
+    })
+}
+
+/// The places of the channel and the rendition of `/CHANNEL/RENDITION/live.m3u8`.
+fn read_target(channels: &[Channel], target: &str) -> Option<(usize, usize)>
+    ensures { result ≡ spec.target_of (settings_kept channels.now) (parts_at 47 target.now) }
+{
+    let (channel, rendition) = target_names(target)?;
+    let (place, settings) = find(channels, channel)?;
+    Some((place, settings.rendition(rendition)?))
+}
+
+/// The names of the channel and the rendition in `/CHANNEL/RENDITION/live.m3u8`.
+fn target_names(target: &str) -> Option<(&str, &str)>
+    ensures { (channels : List Configuration) → MatchOption result (spec.target_of channels (parts_at 47 target.now) ≡ None)
+        (λ n. spec.target_of channels (parts_at 47 target.now) ≡ spec.rendition_in (spec.channel_named channels 0 n.0.now) n.1.now) }
+{
+    let (front, path) = cut(target, '/')?;
+    let (channel, path) = cut(path, '/')?;
+    let (rendition, file) = cut(path, '/')?;
+    if !front.is_empty() || file != "live.m3u8" {
+        return None;
+    }
+    Some((channel, rendition))
+}
+
+/// A new channel of one rendition.
+fn read_declaration(alloc: Global, channels: &[Channel], line: &str) -> Result<Option<Act>, Unread>
+    ensures act { IfOk result (λ a. a ≡ spec.declaration (settings_kept channels.now) (settings_in line.now)) }
+    ensures never_bad { IsErrOf result Unread.BadLine → ⊥ }
+    ensures memory { IsErrOf result Unread.Memory → IsOk (settings_in line.now) }
+{
+    match Settings::read(alloc, line) {
+        Ok(settings) => {
+            if settings.renditions().len() != 1 || find(channels, settings.channel()).is_some() {
+                return Ok(None);
+            }
+            Ok(Some(Act::Declare(settings)))
+        }
+        Err(SettingsFault::Memory) => Err(Unread::Memory),
+        Err(_) => Ok(None),
+    }
+}

@@ -1,0 +1,61 @@
+ghost use Rattle.std.specs.Prelude.{◌≡◌};
+ghost use Rattle.ll_replay.specs.Answers.{code_of, name_of};
+
+/// Why a publisher's line or a request is refused.
+#[derive(Clone, Copy, Debug, PartialEq, Eq)]
+pub enum Refusal {
+    /// The rendition is none of the channel's.
+    NoRendition,
+    /// A part of 0 microseconds.
+    BadDuration,
+    /// A part longer than the part target, or whose segment rounds to more than the target duration.
+    TooLong,
+    /// A part of a segment whose media sequence number is past 2^60.
+    CountEnd,
+    /// A part that ends past the year 9999.
+    TimeEnd,
+    /// The channel has taken 2^60 events.
+    RecordFull,
+    /// No memory was found.
+    Memory,
+    /// A publisher's line that isn't of its form.
+    BadLine,
+    /// A channel that was not declared.
+    UnknownChannel,
+}
+
+impl Refusal {
+    /// The number that a publisher reads.
+    pub fn code(self) -> u64
+        ensures { result ≡ code_of self }
+    {
+        match self {
+            Refusal::NoRendition => 1,
+            Refusal::BadDuration => 3,
+            Refusal::TooLong => 4,
+            Refusal::CountEnd => 6,
+            Refusal::TimeEnd => 7,
+            Refusal::RecordFull => 11,
+            Refusal::Memory => 12,
+            Refusal::BadLine => 13,
+            Refusal::UnknownChannel => 14,
+        }
+    }
+
+    /// The name that publishers and players read.
+    pub fn name(self) -> &'static str
+        ensures { result.now ≡ name_of self }
+    {
+        match self {
+            Refusal::NoRendition => "NoRendition",
+            Refusal::BadDuration => "BadDuration",
+            Refusal::TooLong => "TooLong",
+            Refusal::CountEnd => "CountEnd",
+            Refusal::TimeEnd => "TimeEnd",
+            Refusal::RecordFull => "RecordFull",
+            Refusal::Memory => "Memory",
+            Refusal::BadLine => "BadLine",
+            Refusal::UnknownChannel => "UnknownChannel",
+        }
+    }
+}

@@ -1,0 +1,166 @@
+ghost use Rattle.std.specs.Prelude.{◌≡◌, ◌<◌, ◌≤◌, ◌+◌, ◌-◌, ◌^◌, ◌++◌, [], ◌∷◌, ℕ, List, Option, Some, Err, ◌≢◌, IfOk, IfErr, OnOk, IsErrOf, length, vec_len};
+ghost use Rattle.std.specs.Str.Lines.{strip_carriage_return};
+ghost use Rattle.ll_replay.specs.World as world;
+ghost use Rattle.ll_replay.specs.Stream.{StandsFor, IsCutAt, IsWhole, EndsBy, StopsAfter, WroteFront, script, world_of};
+
+use crate::device::{Reader, Writer};
+use crate::driver::Driver;
+use crate::outcome::{RunFault, Summary};
+use std::alloc::Global;
+
+/// The bytes of the longest line, without its end.
+const LONGEST_LINE: usize = 65_536;
+
+/// The bytes of a read.
+const PIECE: usize = 65_536;
+
+/// A run that was not at the end after so many reads takes its reader for one that has none.
+const MOST_READS: u64 = 1 << 32;
+
+/// A script in the midst of its bytes: what drives its lines, and the bytes since the last LF, which are at most the longest line and a CR.
+#[derive(Drop)]
+struct Stream {
+    driver: Driver,
+    line: Vec<u8>,
+    ghost bounded: { vec_len line ≤ 65537 },
+}
+
+/// A line less the CR that stands before its LF.
+fn without_carriage_return(line: &[u8]) -> &[u8]
+    ensures { result.now ≡ strip_carriage_return line.now }
+{
+    match line {
+        [front @ .., b'\r'] => front,
+        _ => line,
+    }
+}
+
+impl Stream {
+    fn new(alloc: Global) -> Stream
+        ensures stands { (base : Option (List ℕ)) → StandsFor result.line.items result.driver base base [] }
+        ensures lines { result.driver.lines ≡ 0 }
+    {
+        Stream {
+            driver: Driver::new(alloc),
+            line: Vec::new(alloc),
+        }
+    }
+
+    /// Keeps a byte that ends no line, unless the line is too long whatever follows.
+    fn keep(&mut self, b: u8) -> Result<(), RunFault>
+        requires counts { self.old.driver.lines < 2 ^ 64 - 1 }
+        requires ends_none { b ≢ 10 }
+        ensures ok { OnOk result ((bytes : List ℕ) (base written : Option (List ℕ))
+            → StandsFor self.old.line.items self.old.driver base written bytes
+            → StandsFor self.new.line.items self.new.driver base written (bytes ++ b ∷ [])) }
+        ensures lines { OnOk result (self.new.driver.lines ≡ self.old.driver.lines) }
+        ensures cut { IfErr result (λ fault. (bytes : List ℕ) (base written : Option (List ℕ))
+            → StandsFor self.old.line.items self.old.driver base written bytes
+            → (more : List ℕ) → IsCutAt base written (world_of (bytes ++ b ∷ more)) fault) }
+        ensures not_write { result ≢ Err RunFault.Write }
+    {
+        if self.line.len() > LONGEST_LINE {
+            return Err(RunFault::LineTooLong {
+                line: self.driver.lines() + 1,
+            });
+        }
+        match self.line.push(b) {
+            Ok(()) => Ok(()),
+            Err(_) => Err(RunFault::Memory),
+        }
+    }
+
+    fn byte<W: Writer>(&mut self, b: u8, writer: &mut W) -> Result<(), RunFault>
+        requires { self.old.driver.lines < 2 ^ 64 - 1 }
+        ensures ok { OnOk result ((bytes : List ℕ) (base : Option (List ℕ))
+            → StandsFor self.old.line.items self.old.driver base (W.written writer.old) bytes
+            → StandsFor self.new.line.items self.new.driver base (W.written writer.new) (bytes ++ b ∷ [])) }
+        ensures lines { OnOk result (self.new.driver.lines ≤ self.old.driver.lines + 1) }
+        ensures cut { IfErr result (λ fault. (bytes : List ℕ) (base : Option (List ℕ))
+            → StandsFor self.old.line.items self.old.driver base (W.written writer.old) bytes
+            → (more : List ℕ) → IsCutAt base (W.written writer.new) (world_of (bytes ++ b ∷ more)) fault) }
+        ensures steady { OnOk result (W.failures writer.new ≡ W.failures writer.old) }
+        ensures write_failed { IsErrOf result RunFault.Write → W.failures writer.old < W.failures writer.new }
+    {
+        if b != b'\n' {
+            return self.keep(b);
+        }
+        let text = without_carriage_return(&self.line);
+        self.driver.take_line(text, writer)?;
+        self.line.clear();
+        Ok(())
+    }
+
+    fn feed<W: Writer>(&mut self, piece: &[u8], writer: &mut W) -> Result<(), RunFault>
+        requires { self.old.driver.lines + length piece.now < 2 ^ 64 - 1 }
+        ensures ok { OnOk result ((bytes : List ℕ) (base : Option (List ℕ))
+            → StandsFor self.old.line.items self.old.driver base (W.written writer.old) bytes
+            → StandsFor self.new.line.items self.new.driver base (W.written writer.new) (bytes ++ piece.now)) }
+        ensures lines { OnOk result (self.new.driver.lines ≤ self.old.driver.lines + length piece.now) }
+        ensures cut { IfErr result (λ fault. (bytes : List ℕ) (base : Option (List ℕ))
+            → StandsFor self.old.line.items self.old.driver base (W.written writer.old) bytes
+            → (more : List ℕ) → IsCutAt base (W.written writer.new) (world_of (bytes ++ (piece.now ++ more))) fault) }
+        ensures steady { OnOk result (W.failures writer.new ≡ W.failures writer.old) }
+        ensures write_failed { IsErrOf result RunFault.Write → W.failures writer.old < W.failures writer.new }
+    {
+        for b in piece {
+            self.byte(*b, writer)?;
+        }
+        Ok(())
+    }
+
+    /// Takes the last line, if bytes follow the last LF, and tells what the script came to.
+    fn finish<W: Writer>(&mut self, writer: &mut W) -> Result<Summary, RunFault>
+        requires { self.old.driver.lines < 2 ^ 64 - 1 }
+        ensures whole { IfOk result (λ summary. (bytes : List ℕ) (base : Option (List ℕ))
+            → StandsFor self.old.line.items self.old.driver base (W.written writer.old) bytes
+            → IsWhole base (W.written writer.new) bytes summary) }
+        ensures cut { IfErr result (λ fault. (bytes : List ℕ) (base : Option (List ℕ))
+            → StandsFor self.old.line.items self.old.driver base (W.written writer.old) bytes
+            → IsCutAt base (W.written writer.new) (world_of bytes) fault) }
+        ensures write_failed { IsErrOf result RunFault.Write → W.failures writer.old < W.failures writer.new }
+    {
+        if !self.line.is_empty() {
+            self.driver.take_line(&self.line, writer)?;
+        }
+        Ok(self.driver.summary())
+    }
+}
+
+/// Runs the script that the reader gives, and writes what it says to the writer.
+pub fn run<R: Reader, W: Writer>(
+    alloc: Global,
+    reader: &mut R,
+    writer: &mut W,
+) -> Result<Summary, RunFault>
+    ensures whole { (input : List ℕ) → R.left reader.old ≡ Some input → IfOk result (IsWhole (W.written writer.old) (W.written writer.new) input) }
+    ensures bad_line { (input : List ℕ) (n : ℕ) → R.left reader.old ≡ Some input → IsErrOf result (RunFault.BadLine n)
+        → EndsBy (world.BadLine n) (W.written writer.old) (W.written writer.new) input }
+    ensures too_long { (input : List ℕ) (n : ℕ) → R.left reader.old ≡ Some input → IsErrOf result (RunFault.LineTooLong n)
+        → EndsBy (world.LineTooLong n) (W.written writer.old) (W.written writer.new) input }
+    ensures cut_by_write { (input : List ℕ) → R.left reader.old ≡ Some input → IsErrOf result RunFault.Write
+        → WroteFront (W.written writer.old) (W.written writer.new) (script input) }
+    ensures cut_by_memory { (input : List ℕ) → R.left reader.old ≡ Some input → IsErrOf result RunFault.Memory
+        → WroteFront (W.written writer.old) (W.written writer.new) (script input) }
+    ensures stopped_by_read { IsErrOf result RunFault.Read
+        → StopsAfter (R.left reader.old) (R.left reader.new) (W.written writer.old) (W.written writer.new) }
+    ensures stopped_by_endless { IsErrOf result RunFault.Endless
+        → StopsAfter (R.left reader.old) (R.left reader.new) (W.written writer.old) (W.written writer.new) }
+    ensures read_failed { IsErrOf result RunFault.Read → R.failures reader.old < R.failures reader.new }
+    ensures write_failed { IsErrOf result RunFault.Write → W.failures writer.old < W.failures writer.new }
+    ensures endless { IsErrOf result RunFault.Endless → R.reads reader.new ≡ R.reads reader.old + 2 ^ 32 }
+{
+    let mut stream = Stream::new(alloc);
+    let mut piece = [0u8; PIECE];
+    for _ in 0..MOST_READS {
+        let count = match reader.read(&mut piece) {
+            Ok(count) => count,
+            Err(_) => return Err(RunFault::Read),
+        };
+        if count == 0 {
+            return stream.finish(writer);
+        }
+        stream.feed(&piece[..count], writer)?;
+    }
+    Err(RunFault::Endless)
+}

@@ -1,0 +1,3 @@
+pub mod NumberLemmas
+pub mod SplitLemmas
+pub mod StepLemmas

@@ -1,0 +1,9 @@
+pub mod Compact
+pub mod Kept
+pub mod Numbers
+pub mod Refusal
+pub mod Rows
+pub mod Segments
+pub mod Step
+pub use Rattle.ll_item.specs.Items
+pub use Rattle.ll_item.specs.Settings

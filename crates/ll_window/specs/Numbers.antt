@@ -1,0 +1,37 @@
+-- Media sequence numbers and part indexes of all parts, one part after another (section 4.4.4.9).
+use Rattle.std.specs.Prelude.{◌≡◌, ℕ, ◌+◌, List, [], ◌∷◌, ◌++◌, if◌then◌else◌}
+use Rattle.ll_window.specs.declared.part.Part.{Part}
+use Rattle.ll_window.specs.Rows.{Row, rows}
+use Rattle.ll_window.specs.Segments.{split}
+
+pub record NumberedPart : Type 0 where
+  pub number : ℕ
+  pub index : ℕ
+  pub part : Part
+
+-- A part behind a finishing one has index 0 of the next number; any other has the next index of the same number.
+abbrev pub numbered_parts : ℕ → ℕ → List Part → List NumberedPart
+numbered_parts number index [] = []
+numbered_parts number index (p ∷ ps) =
+    (record { number = number; index = index; part = p })
+    ∷ (if p.finish then numbered_parts (number + 1) 0 ps else numbered_parts number (index + 1) ps)
+
+-- the parts of one segment, with their places
+abbrev pub placed : ℕ → ℕ → List Part → List NumberedPart
+placed number index [] = []
+placed number index (p ∷ ps) = (record { number = number; index = index; part = p }) ∷ placed number (index + 1) ps
+
+-- the parts of these rows and then of the open segment, with their places
+abbrev pub placed_rows : List Row → ℕ → List Part → List NumberedPart
+placed_rows [] next open_parts = placed next 0 open_parts
+placed_rows (row ∷ more) next open_parts = placed row.number 0 row.parts ++ placed_rows more next open_parts
+
+-- the number behind these segments
+abbrev pub number_after : ℕ → List (List Part) → ℕ
+number_after number [] = number
+number_after number (segment ∷ segments) = number_after (number + 1) segments
+
+-- The segments' numbers and the parts' places in them are the numbers and indexes that the parts have one by one.
+abbrev pub NumbersLaw : Type 0
+NumbersLaw = (first : ℕ) (ps : List Part)
+    → placed_rows (rows first (split ps).finished) (number_after first (split ps).finished) (split ps).unfinished ≡ numbered_parts first 0 ps

@@ -1,0 +1,27 @@
+-- Which items may follow.
+use Rattle.std.specs.Prelude.{ℕ, ◌+◌, ◌*◌, ◌/◌, ◌||◌, ◌==◌, List, length, nat_lt, Option, Some, None, if◌then◌else◌}
+use Rattle.ll_item.specs.Settings.{Configuration, number_end, last_micro}
+use Rattle.ll_item.specs.declared.item.Item.{Item}
+use Rattle.ll_item.specs.declared.item.Item.TheVariants as item
+use Rattle.ll_window.specs.declared.window.PushFault.{PushFault}
+use Rattle.ll_window.specs.declared.window.PushFault.TheVariants.{BadDuration, TooLong, CountEnd, TimeEnd}
+use Rattle.ll_window.specs.Segments.{segments, open_segment, duration, end_time}
+
+-- microseconds as the nearest whole seconds, half upwards
+abbrev pub rounded : ℕ → ℕ
+rounded micros = (micros + 500000) / 1000000
+
+-- why a part of so many microseconds may not follow, where its segment has this number and lasts so long without it,
+-- and the parts before it end at this time
+abbrev pub part_refusal : Configuration → ℕ → ℕ → ℕ → ℕ → Option PushFault
+part_refusal c number lasts ends micros =
+    if micros == 0 then Some BadDuration
+    else if nat_lt c.part_target micros || nat_lt c.target (rounded (lasts + micros)) then Some TooLong
+    else if nat_lt number_end number then Some CountEnd
+    else if nat_lt last_micro (c.start * 1000 + ends + micros) then Some TimeEnd
+    else None
+
+-- the first reason for which an item may not follow these items of its rendition, or none
+abbrev pub refusal : Configuration → List Item → Item → Option PushFault
+refusal c before (item.Part rendition micros independent finish) =
+    part_refusal c (c.first + length (segments before)) (duration (open_segment before)) (end_time before) micros

@@ -1,0 +1,51 @@
+-- Parts and Media Segments of one rendition, from the whole list of its items (sections 4.4.4 and 4.4.4.9).
+use Rattle.std.specs.Prelude.{ℕ, List, [], ◌∷◌, Bool, true, false, ◌==◌, filter, sum_by}
+use Rattle.ll_item.specs.Items.{rendition_of}
+use Rattle.ll_item.specs.declared.item.Item.{Item}
+use Rattle.ll_item.specs.declared.item.Item.TheVariants as item
+use Rattle.ll_window.specs.declared.part.Part.{Part}
+
+-- the items of the rendition with this index
+abbrev pub own : ℕ → List Item → List Item
+own rendition items = filter (λ i. rendition_of i == rendition) items
+
+-- the part that an item announces
+abbrev pub part_of : Item → Part
+part_of (item.Part rendition duration independent finish) = record { duration = duration; independent = independent; finish = finish }
+
+-- the parts among the items of one rendition
+abbrev pub parts : List Item → List Part
+parts [] = []
+parts (item.Part rendition duration independent finish ∷ items) = part_of (item.Part rendition duration independent finish) ∷ parts items
+
+-- segments that have a finishing part, and the parts after the last of them
+pub record Split : Type 0 where
+  pub finished : List (List Part)
+  pub unfinished : List Part
+
+-- a part before these, which finishes a segment or doesn't
+abbrev pub put_by : Bool → Part → List (List Part) → List Part → Split
+put_by true p segments rest = record { finished = (p ∷ []) ∷ segments; unfinished = rest }
+put_by false p [] rest = record { finished = []; unfinished = p ∷ rest }
+put_by false p (segment ∷ segments) rest = record { finished = (p ∷ segment) ∷ segments; unfinished = rest }
+
+-- parts up to and with a finishing one are a segment
+abbrev pub split : List Part → Split
+split [] = record { finished = []; unfinished = [] }
+split (p ∷ ps) = put_by p.finish p (split ps).finished (split ps).unfinished
+
+-- the finished segments
+abbrev pub segments : List Item → List (List Part)
+segments items = (split (parts items)).finished
+
+-- the parts of the open segment
+abbrev pub open_segment : List Item → List Part
+open_segment items = (split (parts items)).unfinished
+
+-- microseconds
+abbrev pub duration : List Part → ℕ
+duration ps = sum_by (λ p. p.duration) ps
+
+-- the sum of all part durations
+abbrev pub end_time : List Item → ℕ
+end_time items = duration (parts items)

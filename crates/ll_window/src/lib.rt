@@ -1,0 +1,16 @@
+//! The window of one rendition: its segments and parts, and what may follow them. Sections are those of
+//! draft-pantos-hls-rfc8216bis-13.
+#![tactic(auto)]
+
+mod laws;
+mod part;
+mod segment;
+mod window;
+
+pub use laws::numbers_law;
+pub use part::Part;
+pub use segment::Segment;
+pub use window::{PushFault, Window};
+
+#[cfg(test)]
+mod tests;

@@ -1,0 +1,84 @@
+#!/usr/bin/env bash
+# rows.sh PROGRAM: runs each row on a built program, and compares what it writes and how it ends.
+# Then come other uses of the program, and devices that fail. The last line is `N passed, M failed`.
+set -u
+here=$(cd "$(dirname "${BASH_SOURCE[0]}")" && pwd) || exit 2
+program=$(realpath -- "$1")
+room=$(mktemp -d) || exit 2
+trap 'rm -rf "$room"' EXIT
+passed=0
+failed=0
+
+if [ ! -x "$program" ]; then
+    echo "$1 is no program"
+    echo "0 passed, 1 failed"
+    exit 1
+fi
+
+# expect NAME OUTPUT STATUS FAULT WORDS..: runs the program on standard input.
+expect() {
+    local name=$1 output=$2 wanted=$3 fault=$4 status
+    shift 4
+    timeout 60 "$program" "$@" >"$room/stdout" 2>"$room/stderr"
+    status=$?
+    printf '%s' "${fault:+$fault$'\n'}" >"$room/fault"
+    if [ "$status" = "$wanted" ] && cmp -s "$room/stdout" "$output" && cmp -s "$room/stderr" "$room/fault"; then
+        passed=$((passed + 1))
+        return
+    fi
+    failed=$((failed + 1))
+    echo "FAILED $name: status $status, and $wanted is wanted; standard error (wanted is '$fault'):"
+    head -c 2000 "$room/stderr"
+    cmp "$room/stdout" "$output"
+}
+
+mkdir "$room/rows"
+"$here/gather_rows.sh" "$room/rows" || exit 2
+declare -A endings
+while read -r name ending; do
+    endings[$name]=$ending
+done < <(grep -v '^#' "$here/endings")
+
+for output in "$room"/rows/*.stdout; do
+    script=${output%.stdout}
+    name=${script##*/}
+    read -r status fault <<<"${endings[$name]-0}"
+    words=(replay)
+    if [ -e "$script.args" ]; then
+        mapfile -t -O 1 words <"$script.args"
+    fi
+    expect "$name" "$output" "$status" "$fault" "${words[@]}" <"$script"
+done
+
+first=$here/../examples/first.script
+expect usage_of_no_word /dev/null 2 'llhls: usage' <"$first"
+expect usage_of_another_word /dev/null 2 'llhls: usage' play <"$first"
+expect usage_of_a_longer_word /dev/null 2 'llhls: usage' replays <"$first"
+expect usage_of_an_empty_word /dev/null 2 'llhls: usage' '' <"$first"
+expect read_of_a_folder /dev/null 4 'llhls: Read' replay <"$here"
+
+# What is written into a full device is lost, and a script without answers is run to its end.
+timeout 60 "$program" replay <"$first" >/dev/full 2>"$room/stderr"
+if [ "$?" = 4 ] && [ "$(cat "$room/stderr")" = 'llhls: Write' ]; then
+    passed=$((passed + 1))
+else
+    failed=$((failed + 1))
+    echo "FAILED write_to_a_full_device: $(cat "$room/stderr")"
+fi
+if timeout 60 "$program" replay <"$here/rows/only_ends_of_lines" >/dev/full 2>"$room/stderr" && [ ! -s "$room/stderr" ]; then
+    passed=$((passed + 1))
+else
+    failed=$((failed + 1))
+    echo "FAILED nothing_to_write_to_a_full_device: $(cat "$room/stderr")"
+fi
+
+# Each answer is written as soon as it is known: the publisher reads it before it sends the next line.
+if timeout 60 "$here/answers_at_once.sh" "$program"; then
+    passed=$((passed + 1))
+else
+    failed=$((failed + 1))
+    echo "FAILED answers_at_once"
+fi
+
+echo "$passed passed, $failed failed"
+[ "$failed" = 0 ]
