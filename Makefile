@@ -1,6 +1,5 @@
-# README.md says what each target does. Each works from any folder, also as `make -C FOLDER TARGET`.
+# README.md says what each target does. Each works from any folder, as `make -s -C FOLDER TARGET`.
 HERE := $(dir $(lastword $(MAKEFILE_LIST)))
-MAKEFLAGS += --no-print-directory
 
 .PHONY: run test refused-memory bench
 

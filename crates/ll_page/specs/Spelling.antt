@@ -1,5 +1,5 @@
 -- The text of a playlist, line by line. Each line ends in LF.
-use Rattle.std.specs.Prelude.{ℕ, List, [], ◌∷◌, ◌++◌, Bool, Option, Some, None, if◌then◌else◌, codes, decimal, flat_map}
+use Rattle.std.specs.Prelude.{ℕ, List, [], ◌++◌, Bool, Option, Some, None, if◌then◌else◌, codes, decimal, flat_map}
 use Rattle.ll_attr.specs.Durations.{seconds}
 use Rattle.ll_page.specs.Playlist.{PartLine, Block, Finished, Header, Playlist}
 

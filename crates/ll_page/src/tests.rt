@@ -117,11 +117,11 @@ fn views_are_read(rt: HostRuntime) -> Result<(), Fail> {
     let empty = window(rt.alloc(), &settings, &[])?;
     let filled = window(rt.alloc(), &settings, &[(1_000_000, true, true)])?;
     let windows = vec![in rt.alloc(); empty, filled]?;
-    assert_eq!(rt; View::new(&settings, &windows, 2, 1).is_none(), true);
+    assert_eq!(rt; View::new(&settings, &windows, 2, 9).is_none(), true);
     for (rendition, segments, text) in [(0, 0, EMPTY), (1, 1, ONE_SEGMENT)] {
-        let view = View::new(&settings, &windows, rendition, 1).ok_or("the rendition")?;
+        let view = View::new(&settings, &windows, rendition, 9).ok_or("the rendition")?;
         assert_eq!(rt; view.rendition(), rendition);
-        assert_eq!(rt; view.count(), 1);
+        assert_eq!(rt; view.count(), 9);
         assert_eq!(rt; view.settings().channel(), "cam");
         assert_eq!(rt; view.window().segment_count(), segments);
         assert_eq!(rt; full(rt.alloc(), &view)?.as_str(), text);

@@ -36,7 +36,7 @@ impl<'a> View<'a> {
     ) -> Option<View<'a>>
         ensures { MatchOption result (length windows.now ≤ rendition)
             (λ v. (rendition < length windows.now)
-                × (v ≡ record { settings = settings.now; windows = windows.now; rendition = rendition; count = count })) }
+            × (v ≡ record { settings = settings.now; windows = windows.now; rendition = rendition; count = count })) }
     {
         if windows.len() <= rendition {
             return None;

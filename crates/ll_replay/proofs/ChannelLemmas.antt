@@ -1,9 +1,8 @@
 -- A channel that is kept, and what it answers from it.
-use Rattle.std.proofs.Common.{◌≡◌, ◌≢◌, ℕ, ◌+◌, ◌<◌, ◌≤◌, List, [], ◌∷◌, ◌++◌, Bool, true, false, Option, Some, None, refl, ap, ap₂, sym, ◌∙◌, length, arith, cond, MatchOption, nat_le, nat_lt, nat_eq, length-append}
-use Rattle.std.specs.Prelude.{slice_get, slice_set, option_map, fold, IfErr, OnOk, Result, Ok, Err}
+use Rattle.std.proofs.Common.{◌≡◌, ◌≢◌, ℕ, ◌+◌, ◌<◌, ◌≤◌, List, [], ◌∷◌, ◌++◌, Bool, true, false, Option, Some, None, refl, ap, ap₂, sym, ◌∙◌, length, arith, cond, MatchOption, nat_le, nat_lt, length-append}
+use Rattle.std.specs.Prelude.{slice_get, slice_set, option_map, fold, IfErr, IsErrOf, OnOk, Result, Ok, Err}
 use Rattle.ll_window.specs.declared.window.PushFault.{PushFault}
 use Rattle.std.proofs.lemmas.Bool.Decides.{nat_tests}
-use Rattle.std.proofs.lemmas.Option.{slice_get-get_or}
 use Rattle.ll_item.specs.Items.{rendition_of}
 use Rattle.ll_item.specs.Settings.{Configuration}
 use Rattle.ll_item.specs.declared.item.Item.{Item}
@@ -98,6 +97,16 @@ refused-as c before i windows at w is_full (Ok x) whole place stands h = tt
 refused-as c before i windows at w is_full (Err r) whole place stands h = λ other.
     let got = compacts-got c before (rendition_of i) w (ap₂ slice_get (sym whole) (sym place) ∙ stands) in
     by_reason c before i is_full r (refusal c (own (rendition_of i) before) i) got.0 refl (h c (own (rendition_of i) before) got.1 other)
+
+-- what the window of its rendition finds no memory for is refused for no reason
+pub memory-as : (c : Configuration) (before : List Item) (i : Item) (windows : List Compact) (at : ℕ) (w : Compact) (is_full : Bool) (result : Result Unit Refusal)
+    → windows ≡ compacts c before → at ≡ rendition_of i → slice_get windows at ≡ Some w
+    → ((d : Configuration) (its : List Item) → w ≡ compact d its → IsErrOf result refused.Memory → (is_full ≡ false) × (refusal d its i ≡ None))
+    → IsErrOf result refused.Memory → (is_full ≡ false) × (refusal_at c before i ≡ None)
+memory-as c before i windows at w is_full result whole place stands h e =
+    let got = compacts-got c before (rendition_of i) w (ap₂ slice_get (sym whole) (sym place) ∙ stands) in
+    let is = h c (own (rendition_of i) before) got.1 e in
+    (is.0, ap₂ (λ b f. cond b (option_map refusal_of f) (Some refused.NoRendition)) got.0 is.1)
 
 -- where no window stands there is no such rendition
 pub refused-nowhere : (c : Configuration) (before : List Item) (i : Item) (windows : List Compact) (n at : ℕ) (is_full : Bool)

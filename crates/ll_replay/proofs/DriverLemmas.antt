@@ -1,6 +1,6 @@
 -- What a driver keeps goes on as the world does, act by act.
-use Rattle.std.proofs.Common.{◌≡◌, ◌≢◌, ℕ, ◌+◌, ◌<◌, ◌≤◌, List, [], ◌∷◌, ◌++◌, Bool, true, false, cond, Option, Some, None, refl, ap, ap₂, sym, ◌∙◌, length, length-append, map, min, nat_lt, get_or, arith, append-nil, subst, sum_by}
-use Rattle.std.specs.Prelude.{slice_get, slice_set, option_map, IfOk, IfErr, OnErr, Result, Ok, Err, String}
+use Rattle.std.proofs.Common.{◌≡◌, ◌≢◌, ℕ, ◌+◌, ◌<◌, ◌≤◌, List, [], ◌∷◌, ◌++◌, true, false, cond, Option, Some, None, refl, ap, ap₂, sym, ◌∙◌, length, length-append, map, min, nat_lt, get_or, arith, append-nil, subst, sum_by}
+use Rattle.std.specs.Prelude.{slice_get, slice_set, option_map, IfErr, OnErr, Result, Ok, Err, String}
 use Rattle.std.specs.declared.alloc.Global.{Global}
 use Rattle.std.proofs.lemmas.Bool.Decides.{nat_tests}
 use Rattle.std.proofs.lemmas.List.{map-set, length-map}

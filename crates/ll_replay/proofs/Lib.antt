@@ -8,5 +8,6 @@ pub mod RenditionLemmas
 pub mod RunLemmas
 pub mod StreamLemmas
 pub mod TakeLemmas
+pub mod WorkedExamples
 pub mod WorldLaws
 pub mod WriteLemmas

@@ -1,5 +1,5 @@
 -- The channels of a driver, of which one at its place changes or stays.
-use Rattle.std.proofs.Common.{◌≡◌, ℕ, List, refl, ap, sym, ◌∙◌, get_or}
+use Rattle.std.proofs.Common.{◌≡◌, ℕ, List, ap, ◌∙◌, get_or}
 use Rattle.std.specs.Prelude.{slice_get, slice_set, Option, None, Some, IfOk, IfErr, OnErr, MatchOption, Result, Ok, Err}
 use Rattle.std.proofs.lemmas.List.{set-get_or}
 use Rattle.std.proofs.lemmas.Option.{get_or_from_slice_get}

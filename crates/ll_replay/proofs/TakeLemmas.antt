@@ -1,14 +1,12 @@
 -- What one line makes of a driver that stands for a world, by what the line means.
-use Rattle.std.proofs.Common.{◌≡◌, ℕ, ◌+◌, ◌<◌, ◌≤◌, List, [], ◌∷◌, ◌++◌, Bool, true, false, Option, Some, None, option_map, refl, ap, ap₂, sym, ◌∙◌, subst, length, map, nat_lt, arith, Result, Ok, Err, OnOk, IfErr, IsErrOf, append-nil}
+use Rattle.std.proofs.Common.{◌≡◌, ℕ, ◌+◌, ◌<◌, ◌≤◌, List, [], ◌∷◌, ◌++◌, false, Option, Some, None, option_map, refl, ap, ap₂, sym, ◌∙◌, subst, length, map, nat_lt, arith, Result, Ok, Err, OnOk, IfErr}
 use Rattle.std.proofs.lemmas.Bool.Decides.{nat_tests}
-use Rattle.ll_item.specs.Settings.{Configuration}
 use Rattle.ll_replay.specs.Kept.{Kept, KeptChannel, Stands, kept, kept_channel, settings_kept}
 use Rattle.ll_replay.specs.Lines.{acts}
 use Rattle.ll_replay.specs.Stream.{Wrote, WroteFront, IsBroken}
-use Rattle.ll_replay.specs.World.{World, Channel, Ending, BadLine, LineTooLong, act, acted, counted, line, settings_of}
+use Rattle.ll_replay.specs.World.{World, Channel, BadLine, LineTooLong, act, acted, counted, line, settings_of}
 use Rattle.ll_replay.specs.declared.act.Act.{Act}
 use Rattle.ll_replay.specs.declared.outcome.RunFault.{RunFault}
-use Rattle.ll_replay.specs.declared.outcome.RunFault.TheVariants as fault
 use Rattle.ll_replay.proofs.DriverLemmas.{made}
 use Rattle.ll_replay.proofs.WorldLaws.{line-read, line-text, line-too-long}
 

@@ -1,8 +1,8 @@
 -- What a driver keeps in place of all events.
-use Rattle.std.specs.Prelude.{◌≡◌, ℕ, ◌≤◌, List, ◌++◌, Option, None, length, map, min, option_map, sum_by}
+use Rattle.std.specs.Prelude.{◌≡◌, ℕ, List, ◌++◌, Option, None, length, map, min, option_map, sum_by}
 use Rattle.ll_item.specs.Settings.{Configuration}
 use Rattle.ll_window.specs.Compact.{Compact, compacts}
-use Rattle.ll_replay.specs.Events.{items, event_end}
+use Rattle.ll_replay.specs.Events.{items}
 use Rattle.ll_replay.specs.World.{Channel, World, count_end}
 
 pub record KeptChannel : Type 0 where

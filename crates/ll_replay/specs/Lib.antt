@@ -4,6 +4,7 @@ pub mod Kept
 pub mod Lines
 pub mod Stream
 pub mod Uses
+pub mod Worked
 pub mod World
 pub use Rattle.ll_page.specs.Full
 pub use Rattle.ll_page.specs.View

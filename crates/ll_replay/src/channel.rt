@@ -1,4 +1,4 @@
-ghost use Rattle.std.specs.Prelude.{◌≡◌, ◌≢◌, ◌<◌, ◌≤◌, ◌+◌, ◌++◌, ◌∷◌, [], List, true, false, IfOk, IfErr, OnOk, OnErr, MatchOption, None, Some, length};
+ghost use Rattle.std.specs.Prelude.{◌≡◌, ◌≢◌, ◌<◌, ◌≤◌, ◌+◌, ◌++◌, ◌∷◌, [], List, true, false, IfOk, IfErr, IsErrOf, OnOk, OnErr, MatchOption, None, Some, length};
 ghost use Rattle.ll_item.specs.Settings.{Configuration};
 ghost use Rattle.ll_window.specs.Compact.{compact, compacts};
 ghost use Rattle.ll_window.specs.Refusal.{refusal as reason_in};
@@ -83,6 +83,7 @@ impl Channel {
             × (self.new ≡ kept_channel (world.with_event (events.Publish item) c))) }
         ensures refused { (c : world.Channel) → self.old ≡ kept_channel c
             → IfErr result (λ r. r ≢ Refusal.Memory → refusal c.settings c.events item ≡ Some r) }
+        ensures memory { (c : world.Channel) → self.old ≡ kept_channel c → IsErrOf result Refusal.Memory → refusal c.settings c.events item ≡ None }
         ensures unchanged { OnErr result (self.new ≡ self.old) }
     {
         push_to(&mut self.windows, item, self.events == EVENT_END)?;
@@ -100,6 +101,7 @@ impl Channel {
             × (self.new ≡ kept_channel (world.with_event (events.Ask rendition) c)))) }
         ensures refused { (c : world.Channel) → self.old ≡ kept_channel c
             → IfErr result (λ r. r ≢ Refusal.Memory → (rendition < length c.settings.renditions) × (full_by c.events ≡ Some r)) }
+        ensures memory { (c : world.Channel) → self.old ≡ kept_channel c → IsErrOf result Refusal.Memory → (rendition < length c.settings.renditions) × (full_by c.events ≡ None) }
         ensures unchanged { OnErr result (self.new ≡ self.old) }
     {
         let Some(view) = View::new(&self.settings, &self.windows, rendition, self.count) else {
@@ -136,6 +138,7 @@ fn push_to(windows: &mut Vec<Window>, item: Item, is_full: bool) -> Result<(), R
         ((refusal_at c before item ≡ None) × (windows.new.items ≡ compacts c (before ++ item ∷ []))) }
     ensures refused { (c : Configuration) (before : List Item) → windows.old.items ≡ compacts c before → IfErr result (λ r.
         r ≢ Refusal.Memory → MatchOption (refusal_at c before item) ((is_full ≡ true) × (r ≡ Refusal.RecordFull)) (λ f. r ≡ f)) }
+    ensures memory { (c : Configuration) (before : List Item) → windows.old.items ≡ compacts c before → IsErrOf result Refusal.Memory → (is_full ≡ false) × (refusal_at c before item ≡ None) }
     ensures open_channel { OnOk result (is_full ≡ false) }
     ensures unchanged { OnErr result (windows.new.items ≡ windows.old.items) }
 {
@@ -151,6 +154,7 @@ fn push_one(window: &mut Window, item: Item, is_full: bool) -> Result<(), Refusa
         ((reason_in c before item ≡ None) × (window.new ≡ compact c (before ++ item ∷ []))) }
     ensures refused { (c : Configuration) (before : List Item) → window.old ≡ compact c before → IfErr result (λ r.
         r ≢ Refusal.Memory → MatchOption (reason_in c before item) ((is_full ≡ true) × (r ≡ Refusal.RecordFull)) (λ f. r ≡ events.refusal_of f)) }
+    ensures memory { (c : Configuration) (before : List Item) → window.old ≡ compact c before → IsErrOf result Refusal.Memory → (is_full ≡ false) × (reason_in c before item ≡ None) }
     ensures open_channel { OnOk result (is_full ≡ false) }
     ensures unchanged { OnErr result (window.new ≡ window.old) }
 {

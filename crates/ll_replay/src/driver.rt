@@ -1,5 +1,5 @@
 //! Takes the lines of a script, one after another.
-ghost use Rattle.std.specs.Prelude.{◌≡◌, ◌≢◌, ◌<◌, ◌+◌, ◌-◌, ◌^◌, ◌++◌, ◌∷◌, [], ℕ, List, Option, Some, None, Ok, Err, IfOk, MatchOption, IfSome, IfNone, OnOk, OnErr, IfErr, IsErrOf, ◌≤◌, length, slice_get, slice_set, string_bytes};
+ghost use Rattle.std.specs.Prelude.{◌≡◌, ◌≢◌, ◌<◌, ◌+◌, ◌-◌, ◌^◌, ◌++◌, ◌∷◌, [], ℕ, List, Option, Some, None, Ok, Err, IfOk, MatchOption, IfSome, IfNone, OnOk, OnErr, IfErr, IsErrOf, IsOk, ◌≤◌, length, slice_get, slice_set, string_bytes};
 ghost use Rattle.ll_replay.specs.World.{World, start, line, summary_of, Ending};
 ghost use Rattle.ll_replay.specs.World as world;
 ghost use Rattle.ll_page.specs.Full.{text_after};
@@ -7,7 +7,9 @@ ghost use Rattle.ll_replay.specs.Events.{items, refusal, full_by};
 ghost use Rattle.ll_replay.specs.Events as events;
 ghost use Rattle.ll_replay.specs.Answers as answers;
 ghost use Rattle.ll_replay.specs.Answers.{told};
-ghost use Rattle.ll_replay.specs.Kept.{Stands, kept, kept_channel};
+ghost use Rattle.ll_replay.specs.Kept.{Stands, kept, kept_channel, settings_kept};
+ghost use Rattle.ll_replay.specs.Lines.{acts};
+ghost use Rattle.ll_item.specs.Settings.{settings_in};
 ghost use Rattle.ll_replay.specs.Stream.{Wrote, WroteFront, IsBroken, IsDevice};
 
 use crate::act::Act;
@@ -45,6 +47,7 @@ impl Model for Driver {
 }
 
 impl Driver {
+    /// A driver before any line.
     pub(crate) fn new(alloc: Global) -> Driver
         ensures stands { (base : Option (List ℕ)) → Stands result base base start }
         ensures lines { result.lines ≡ 0 }
@@ -59,12 +62,14 @@ impl Driver {
         }
     }
 
+    /// How many lines were taken.
     pub(crate) fn lines(&self) -> u64
         ensures { result ≡ self.now.lines }
     {
         self.lines
     }
 
+    /// What the lines so far came to.
     pub(crate) fn summary(&self) -> Summary
         ensures { (w : World) (base written : Option (List ℕ)) → Stands self.now base written w → result ≡ summary_of w }
     {
@@ -92,6 +97,8 @@ impl Driver {
             → WroteFront base (W.written writer.new) (line w text.now).text }
         ensures memory { IsErrOf result RunFault.Memory → (w : World) (base : Option (List ℕ)) → Stands self.old base (W.written writer.old) w
             → WroteFront base (W.written writer.new) (line w text.now).text }
+        ensures memory_line { IsErrOf result RunFault.Memory → (length text.now ≤ 65536)
+            × (acts (settings_kept self.old.channels) self.old.last_id text.now ≡ None → IsOk (settings_in text.now)) }
         ensures not_read { result ≢ Err RunFault.Read }
         ensures not_endless { result ≢ Err RunFault.Endless }
         ensures steady { OnOk result (W.failures writer.new ≡ W.failures writer.old) }
@@ -110,6 +117,7 @@ impl Driver {
         }
     }
 
+    /// Does what a line makes happen, and writes its answer.
     fn act<W: Writer>(&mut self, act: Act, writer: &mut W) -> Result<(), RunFault>
         ensures ok { OnOk result ((w : World) (base : Option (List ℕ)) → Stands self.old base (W.written writer.old) w
             → Stands self.new base (W.written writer.new) (world.act w act)) }
@@ -147,6 +155,7 @@ impl Driver {
         }
     }
 
+    /// What an item for the channel at this place is answered.
     fn offer(&mut self, place: usize, item: Item) -> Result<Option<String>, AllocError>
         ensures ok { (w : World) → self.old ≡ kept w → IfOk result (λ a.
             (self.new ≡ kept (world.act w (Act.Offer place item))) × ((world.act w (Act.Offer place item)).text ≡ w.text ++ told a)) }
@@ -164,6 +173,7 @@ impl Driver {
         }
     }
 
+    /// What a request for a rendition of the channel at this place is answered.
     fn get(&mut self, id: u64, place: usize, rendition: usize) -> Result<Option<String>, AllocError>
         ensures ok { (w : World) → self.old ≡ kept w → IfOk result (λ a.
             (self.new ≡ kept (world.act w (Act.Get id place rendition))) × ((world.act w (Act.Get id place rendition)).text ≡ w.text ++ told a)) }

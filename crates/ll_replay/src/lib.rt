@@ -7,13 +7,17 @@ mod channel;
 mod counted;
 mod device;
 mod driver;
+mod laws;
 mod outcome;
 mod reading;
 mod refusal;
 mod stream;
+#[cfg(test)]
+mod tests;
 
 pub use counted::{CountedReader, CountedWriter};
 pub use device::{Failed, Reader, Writer};
+pub use laws::worked_script;
 pub use outcome::{RunFault, Summary};
 pub use refusal::Refusal;
 pub use stream::run;

@@ -20,10 +20,16 @@ pub enum RunFault {
     Write,
     /// A line that no script has in its place; lines count from 1.
     #[error("BadLine {line}")]
-    BadLine { line: u64 },
+    BadLine {
+        /// Its number.
+        line: u64,
+    },
     /// A line of more than 65,536 bytes.
     #[error("LineTooLong {line}")]
-    LineTooLong { line: u64 },
+    LineTooLong {
+        /// Its number.
+        line: u64,
+    },
     /// The reader gave bytes for 2^32 reads.
     #[error("Endless")]
     Endless,

@@ -57,6 +57,7 @@ fn read_bytes(line: &[u8]) -> Result<Option<Act>, Unread>
     }
 }
 
+/// What a line of UTF-8 makes happen.
 fn read_text(
     alloc: Global,
     channels: &[Channel],

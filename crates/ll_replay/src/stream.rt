@@ -36,6 +36,7 @@ fn without_carriage_return(line: &[u8]) -> &[u8]
 }
 
 impl Stream {
+    /// A stream before any byte.
     fn new(alloc: Global) -> Stream
         ensures stands { (base : Option (List ℕ)) → StandsFor result.line.items result.driver base base [] }
         ensures lines { result.driver.lines ≡ 0 }
@@ -58,6 +59,7 @@ impl Stream {
             → StandsFor self.old.line.items self.old.driver base written bytes
             → (more : List ℕ) → IsCutAt base written (world_of (bytes ++ b ∷ more)) fault) }
         ensures not_write { result ≢ Err RunFault.Write }
+        ensures memory { IsErrOf result RunFault.Memory → vec_len self.old.line ≤ 65536 }
     {
         if self.line.len() > LONGEST_LINE {
             return Err(RunFault::LineTooLong {
@@ -70,6 +72,7 @@ impl Stream {
         }
     }
 
+    /// Takes a byte: LF ends a line, and any other is kept.
     fn byte<W: Writer>(&mut self, b: u8, writer: &mut W) -> Result<(), RunFault>
         requires { self.old.driver.lines < 2 ^ 64 - 1 }
         ensures ok { OnOk result ((bytes : List ℕ) (base : Option (List ℕ))
@@ -91,6 +94,7 @@ impl Stream {
         Ok(())
     }
 
+    /// Takes the bytes that a read gave.
     fn feed<W: Writer>(&mut self, piece: &[u8], writer: &mut W) -> Result<(), RunFault>
         requires { self.old.driver.lines + length piece.now < 2 ^ 64 - 1 }
         ensures ok { OnOk result ((bytes : List ℕ) (base : Option (List ℕ))
@@ -118,6 +122,7 @@ impl Stream {
         ensures cut { IfErr result (λ fault. (bytes : List ℕ) (base : Option (List ℕ))
             → StandsFor self.old.line.items self.old.driver base (W.written writer.old) bytes
             → IsCutAt base (W.written writer.new) (world_of bytes) fault) }
+        ensures steady { OnOk result (W.failures writer.new ≡ W.failures writer.old) }
         ensures write_failed { IsErrOf result RunFault.Write → W.failures writer.old < W.failures writer.new }
     {
         if !self.line.is_empty() {
@@ -146,6 +151,7 @@ pub fn run<R: Reader, W: Writer>(
         → StopsAfter (R.left reader.old) (R.left reader.new) (W.written writer.old) (W.written writer.new) }
     ensures stopped_by_endless { IsErrOf result RunFault.Endless
         → StopsAfter (R.left reader.old) (R.left reader.new) (W.written writer.old) (W.written writer.new) }
+    ensures steady { OnOk result ((R.failures reader.new ≡ R.failures reader.old) × (W.failures writer.new ≡ W.failures writer.old)) }
     ensures read_failed { IsErrOf result RunFault.Read → R.failures reader.old < R.failures reader.new }
     ensures write_failed { IsErrOf result RunFault.Write → W.failures writer.old < W.failures writer.new }
     ensures endless { IsErrOf result RunFault.Endless → R.reads reader.new ≡ R.reads reader.old + 2 ^ 32 }

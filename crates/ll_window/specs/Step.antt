@@ -1,5 +1,5 @@
 -- What one more part makes of what is kept of the items before it, and why it may not follow them.
-use Rattle.std.specs.Prelude.{ℕ, ◌+◌, List, [], ◌∷◌, ◌++◌, Bool, true, false, Option}
+use Rattle.std.specs.Prelude.{ℕ, ◌+◌, [], ◌∷◌, ◌++◌, Bool, true, false, Option}
 use Rattle.ll_window.specs.declared.part.Part.{Part}
 use Rattle.ll_window.specs.Compact.{Compact}
 use Rattle.ll_window.specs.Refusal.{part_refusal}

@@ -74,6 +74,7 @@ impl Window {
     {
         let settings = settings.copy(alloc)?;
         let next_number = settings.first();
+        // The start is in the year 9999 at most, as its reader ensures.
         let _ = settings.start();
         Ok(Window {
             alloc,
@@ -111,6 +112,7 @@ impl Window {
         }
     }
 
+    /// Adds the next part, as `push` does an item.
     fn push_part(&mut self, part: Part) -> Result<(), PushFault>
         ensures accepted { OnOk result ((refusal_after self.old part.duration ≡ None) × (self.new ≡ with_part self.old part)) }
         ensures refused { IfErr result (λ f. f ≢ PushFault.Memory → refusal_after self.old part.duration ≡ Some f) }

@@ -1,3 +1,4 @@
+-- A window is made for each rendition in turn.
 use Rattle.std.proofs.Common.{◌≡◌, ◌++◌, [], drop}
 use Rattle.ll_window.specs.Compact.{compacts, compacts_from}
 use Rattle.ll_replay.proofs.channel.empty_windows.Given as goal

@@ -1,3 +1,4 @@
+-- The playlist is the one after all items, since what is kept of the channel is what its events come to.
 use Rattle.std.proofs.Common.{◌∙◌, ap, refl, List}
 use Rattle.ll_window.specs.Compact.{Compact}
 use Rattle.ll_page.specs.Full.{full_text}
@@ -28,4 +29,12 @@ returns-in-Ok-clause-text c ch h =
           ∙ ap (λ (ws : List Compact). record { settings = c.self.inside.settings; windows = ws; rendition = c.args.rendition; count = c.self.inside.count }) c.deref.ensures.value
           ∙ seen-is ch c.args.rendition _ e),
       kept-ask ch c.args.rendition _ e,
+    )
+
+pub returns-in-Err-clause-memory : goal.returns-in-Err-clause-memory
+returns-in-Err-clause-memory c ch h e =
+    let windows = ap (λ (k : KeptChannel). k.windows) (c.self.view_is ∙ h) in
+    let events = ap (λ (k : KeptChannel). k.events) (c.self.view_is ∙ h) in (
+      rendition-within ch _ c.args.rendition (c.deref.ensures.value ∙ windows) c.in-Some.ensures.0,
+      full-before-end ch.events _ events c.self.invariant.1 c.if-self-eq-EVENT_END.false,
     )

@@ -1,6 +1,4 @@
 -- An act that is cut short has written a front of its text.
-use Rattle.std.proofs.Common.{OnErr, IfErr}
-use Rattle.ll_replay.specs.Stream.{Wrote, WroteFront}
 use Rattle.ll_replay.proofs.WorldLaws.{act-text}
 use Rattle.ll_replay.proofs.DriverLemmas.{cut-by-write}
 use Rattle.ll_replay.proofs.driver.Driver.act.Goals as goal

@@ -1,5 +1,5 @@
 -- What the channel at its place answers is what the world says.
-use Rattle.std.proofs.Common.{◌≡◌, ◌<◌, ◌∙◌, length, arith, string_bytes, ap, ap₂, Some}
+use Rattle.std.proofs.Common.{◌<◌, ◌∙◌, length, arith, string_bytes, ap, ap₂, Some}
 use Rattle.ll_replay.specs.Answers.{text_reply}
 use Rattle.std.proofs.lemmas.List.{with_items_is}
 use Rattle.ll_replay.proofs.DriverLemmas.{made, get-nowhere, get-text, get-refused}

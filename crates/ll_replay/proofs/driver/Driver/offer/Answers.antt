@@ -1,5 +1,5 @@
 -- What the channel at its place answers is what the world says.
-use Rattle.std.proofs.Common.{◌≡◌, ◌<◌, ◌∙◌, length, arith, string_bytes, ap}
+use Rattle.std.proofs.Common.{◌<◌, ◌∙◌, length, arith, string_bytes, ap}
 use Rattle.std.proofs.lemmas.List.{with_items_is}
 use Rattle.ll_replay.proofs.DriverLemmas.{made, offer-accepted, offer-refused}
 use Rattle.ll_replay.proofs.driver.Driver.offer.Goals as goal

@@ -1,5 +1,5 @@
 -- What a line comes to, by what `read_line` says that it means.
-use Rattle.std.proofs.Common.{◌≡◌, ℕ, List, Option, ◌+◌, ◌∙◌, sym, subst, refl}
+use Rattle.std.proofs.Common.{◌≡◌, ℕ, List, Option, ◌+◌, sym, subst, refl}
 use Rattle.ll_replay.specs.Kept.{Kept, Stands}
 use Rattle.ll_replay.specs.World.{World}
 use Rattle.ll_replay.specs.declared.outcome.RunFault.TheVariants as fault

@@ -1,0 +1,64 @@
+-- The definitions at worked examples: small scripts, and all that is written for each, byte for byte.
+use Rattle.std.specs.Prelude.{◌≡◌, ℕ, List, ◌∷◌, ◌++◌, Some, codes}
+use Rattle.ll_replay.specs.Stream.{script, world_of}
+use Rattle.ll_replay.specs.World.{BadLine}
+
+abbrev pub channel_line : List ℕ
+channel_line = codes "channel cam target=4 part=1000000 skip=24 window=36 renditions=hi first=0 start=0\n"
+
+-- no item was published
+abbrev pub empty_playlist : List ℕ
+empty_playlist =
+    codes "#EXTM3U\n"
+    ++ codes "#EXT-X-VERSION:9\n"
+    ++ codes "#EXT-X-TARGETDURATION:4\n"
+    ++ codes "#EXT-X-SERVER-CONTROL:CAN-BLOCK-RELOAD=YES,PART-HOLD-BACK=3.000000,CAN-SKIP-UNTIL=24.000000\n"
+    ++ codes "#EXT-X-PART-INF:PART-TARGET=1.000000\n"
+    ++ codes "#EXT-X-MEDIA-SEQUENCE:0\n"
+    ++ codes "#EXT-X-DISCONTINUITY-SEQUENCE:0\n"
+
+-- one part, which is a whole segment
+abbrev pub segment_playlist : List ℕ
+segment_playlist =
+    empty_playlist
+    ++ codes "#EXT-X-PART:DURATION=1.000000,URI=\"s0.0.m4s\",INDEPENDENT=YES\n"
+    ++ codes "#EXTINF:1.000000,\n"
+    ++ codes "s0.m4s\n"
+
+abbrev pub asked_at_once : List ℕ
+asked_at_once = channel_line ++ codes "get 1 /cam/hi/live.m3u8\n"
+
+abbrev pub asked_later : List ℕ
+asked_later = channel_line ++ codes "pub cam part hi 1000000 if\n" ++ codes "get 1 /cam/hi/live.m3u8\n"
+
+-- a comment, an empty line that ends in CR LF, five refusals, one of them of a line that is no UTF-8, and an item without a last end
+abbrev pub refused_lines : List ℕ
+refused_lines =
+    codes "# a camera\n\r\n"
+    ++ channel_line
+    ++ codes "pub cam part hi 0 if\n"
+    ++ codes "pub cam part hi 1000001 if\n"
+    ++ codes "pub cam part lo 1000000 if\r\n"
+    ++ codes "pub two part hi 1000000 if\n"
+    ++ codes "pub cam part hi 1000000 " ++ 255 ∷ codes "\n"
+    ++ codes "pub cam part hi 1000000 -"
+
+abbrev pub refusals_text : List ℕ
+refusals_text =
+    codes "no 3 BadDuration\n"
+    ++ codes "no 4 TooLong\n"
+    ++ codes "no 1 NoRendition\n"
+    ++ codes "no 14 UnknownChannel\n"
+    ++ codes "no 13 BadLine\n"
+    ++ codes "ok 1\n"
+
+-- the second number of a request does not rise
+abbrev pub same_number : List ℕ
+same_number = asked_at_once ++ codes "get 1 /cam/hi/live.m3u8\n" ++ codes "pub cam part hi 1000000 if\n"
+
+pub record WorkedScript : Type 0 where
+  pub at_once : script asked_at_once ≡ codes "reply 1 200 234\n" ++ empty_playlist
+  pub later : script asked_later ≡ codes "ok 1\n" ++ codes "reply 1 200 320\n" ++ segment_playlist
+  pub refusals : script refused_lines ≡ refusals_text
+  pub same_text : script same_number ≡ codes "reply 1 200 234\n" ++ empty_playlist
+  pub same_ending : (world_of same_number).ending ≡ Some (BadLine 3)

@@ -1,0 +1,470 @@
+//! Scripts and what they write, over devices that give and take a few bytes at a time, and that fail.
+ghost use Rattle.std.specs.Prelude.{◌≡◌, Some};
+
+use crate::counted::{CountedReader, CountedWriter, Uses};
+use crate::device::{Failed, Reader, Writer};
+use crate::outcome::{RunFault, Summary};
+use crate::refusal::Refusal;
+use crate::stream::run;
+use std::alloc::{AllocError, Global};
+use std::marker::Brand;
+use std::sync::ledger::{Blank, Ledger};
+
+const CHANNEL: &[u8] =
+    b"channel cam target=4 part=1000000 skip=24 window=36 renditions=hi first=0 start=0\n";
+
+/// An item that is a whole segment, and a request for the playlist then.
+const ONE_SEGMENT: &[u8] = b"pub cam part hi 1000000 if\nget 1 /cam/hi/live.m3u8\n";
+
+const ONE_SEGMENT_TEXT: &[u8] =
+    b"ok 1\nreply 1 200 320\n#EXTM3U\n#EXT-X-VERSION:9\n#EXT-X-TARGETDURATION:4\n\
+#EXT-X-SERVER-CONTROL:CAN-BLOCK-RELOAD=YES,PART-HOLD-BACK=3.000000,CAN-SKIP-UNTIL=24.000000\n\
+#EXT-X-PART-INF:PART-TARGET=1.000000\n#EXT-X-MEDIA-SEQUENCE:0\n#EXT-X-DISCONTINUITY-SEQUENCE:0\n\
+#EXT-X-PART:DURATION=1.000000,URI=\"s0.0.m4s\",INDEPENDENT=YES\n#EXTINF:1.000000,\ns0.m4s\n";
+
+/// A request for the playlist of a channel with no item.
+const NO_ITEM: &[u8] = b"get 1 /cam/hi/live.m3u8\n";
+
+const NO_ITEM_TEXT: &[u8] = b"reply 1 200 234\n#EXTM3U\n#EXT-X-VERSION:9\n#EXT-X-TARGETDURATION:4\n\
+#EXT-X-SERVER-CONTROL:CAN-BLOCK-RELOAD=YES,PART-HOLD-BACK=3.000000,CAN-SKIP-UNTIL=24.000000\n\
+#EXT-X-PART-INF:PART-TARGET=1.000000\n#EXT-X-MEDIA-SEQUENCE:0\n#EXT-X-DISCONTINUITY-SEQUENCE:0\n";
+
+/// All bytes at once.
+const WHOLE: Device = Device {
+    step: 100_000,
+    times: 1_000,
+};
+
+const NOTHING: Result<Summary, RunFault> = Ok(Summary {
+    events: 0,
+    replies: 0,
+});
+
+/// Bytes that are read so many at a time, until a read fails.
+#[derive(Drop)]
+struct Source<'a, L: Ledger> {
+    rest: &'a [u8],
+    step: usize,
+    reads: usize,
+    uses: Uses<L>,
+}
+
+impl<L: Ledger> Reader for Source<'_, L> {
+    ghost left = { λ s. Some s.rest.now };
+
+    ghost reads = { λ s. s.uses.uses };
+
+    ghost failures = { λ s. s.uses.failures };
+
+    fn read(&mut self, buf: &mut [u8]) -> Result<usize, Failed> {
+        let count = self.step.min(buf.len()).min(self.rest.len());
+        if self.reads == 0 || (count == 0 && !self.rest.is_empty()) {
+            self.uses.add_failure();
+            return Err(Failed);
+        }
+        self.reads -= 1;
+        self.uses.add_use();
+        let (front, rest) = self.rest.split_at(count);
+        buf[..count].copy_from_slice(front);
+        self.rest = rest;
+        Ok(count)
+    }
+}
+
+/// A text that is written so many bytes at a time, until a write fails.
+#[derive(Drop)]
+struct Sink<L: Ledger> {
+    text: Vec<u8>,
+    step: usize,
+    writes: usize,
+    uses: Uses<L>,
+}
+
+impl<L: Ledger> Writer for Sink<L> {
+    ghost written = { λ s. Some s.text.items };
+
+    ghost failures = { λ s. s.uses.failures };
+
+    fn write(&mut self, text: &[u8]) -> Result<usize, Failed> {
+        let count = self.step.min(text.len());
+        if self.writes == 0 || (count == 0 && !text.is_empty()) {
+            self.uses.add_failure();
+            return Err(Failed);
+        }
+        match self.text.extend_from_slice(&text[..count]) {
+            Ok(()) => {
+                self.writes -= 1;
+                self.uses.add_use();
+                Ok(count)
+            }
+            Err(_) => {
+                self.uses.add_failure();
+                Err(Failed)
+            }
+        }
+    }
+}
+
+/// What a run came to, and what it wrote.
+#[derive(Drop)]
+struct Ran {
+    result: Result<Summary, RunFault>,
+    text: Vec<u8>,
+}
+
+/// How many bytes a device takes at a time, and how many times before it fails.
+#[derive(Clone, Copy, Drop)]
+struct Device {
+    step: usize,
+    times: usize,
+}
+
+fn run_by<L: Ledger, M: Ledger>(
+    alloc: Global,
+    script: &[u8],
+    from: Device,
+    to: Device,
+    reads: Blank,
+    writes: Blank,
+) -> Ran
+    requires reads_name { reads.name ≡ L.name }
+    requires reads_parts { reads.parts ≡ L.parts }
+    requires reads_two { reads.parts ≡ 2 }
+    requires writes_name { writes.name ≡ M.name }
+    requires writes_parts { writes.parts ≡ M.parts }
+    requires writes_two { writes.parts ≡ 2 }
+{
+    let mut source: Source<'_, L> = Source {
+        rest: script,
+        step: from.step,
+        reads: from.times,
+        uses: Uses::new(reads),
+    };
+    let mut sink: Sink<M> = Sink {
+        text: Vec::new(alloc),
+        step: to.step,
+        writes: to.times,
+        uses: Uses::new(writes),
+    };
+    let result = run(alloc, &mut source, &mut sink);
+    Ran {
+        result,
+        text: sink.text,
+    }
+}
+
+fn run_with(alloc: Global, script: &[u8], from: Device, to: Device) -> Ran {
+    run_by::<Brand, Brand>(alloc, script, from, to, Blank::new(2), Blank::new(2))
+}
+
+/// The channel's line and these lines behind it.
+fn behind_channel(alloc: Global, lines: &[u8]) -> Result<Vec<u8>, AllocError> {
+    let mut script = Vec::new(alloc);
+    script.extend_from_slice(CHANNEL)?;
+    script.extend_from_slice(lines)?;
+    Ok(script)
+}
+
+#[test]
+fn playlists_come_in_any_pieces(rt: HostRuntime) -> Result<(), AllocError> {
+    let cases: [(&[u8], u64, &[u8]); 2] = [
+        (ONE_SEGMENT, 2, ONE_SEGMENT_TEXT),
+        (NO_ITEM, 1, NO_ITEM_TEXT),
+    ];
+    for (lines, events, text) in cases {
+        let script = behind_channel(rt.alloc(), lines)?;
+        for step in [1, 2, 3, 7, 64, 100_000] {
+            for taken in [1, 1_000] {
+                let from = Device { step, times: 1_000 };
+                let to = Device {
+                    step: taken,
+                    times: 1_000,
+                };
+                let ran = run_with(rt.alloc(), &script, from, to);
+                assert_eq!(rt; ran.result, Ok(Summary { events, replies: 1 }));
+                assert_eq!(rt; ran.text.as_slice(), text);
+            }
+        }
+    }
+    Ok(())
+}
+
+#[test]
+fn failed_reads_stop_a_run(rt: HostRuntime) -> Result<(), AllocError> {
+    let script = behind_channel(rt.alloc(), ONE_SEGMENT)?;
+    for step in [1, 7, 64, 100_000] {
+        for times in 0..script.len().div_ceil(step).saturating_add(1) {
+            let ran = run_with(rt.alloc(), &script, Device { step, times }, WHOLE);
+            let read = times.saturating_mul(step).min(script.len());
+            // the second line ends behind 109 bytes, and the third behind 133
+            let text: &[u8] = match read {
+                0..109 => b"",
+                109..133 => b"ok 1\n",
+                _ => ONE_SEGMENT_TEXT,
+            };
+            assert_eq!(rt; ran.result, Err(RunFault::Read));
+            assert_eq!(rt; ran.text.as_slice(), text, "{times} reads of {step} bytes");
+        }
+    }
+    Ok(())
+}
+
+#[test]
+fn failed_writes_stop_a_run(rt: HostRuntime) -> Result<(), AllocError> {
+    let script = behind_channel(rt.alloc(), ONE_SEGMENT)?;
+    for times in 0..ONE_SEGMENT_TEXT.len() {
+        let ran = run_with(rt.alloc(), &script, WHOLE, Device { step: 1, times });
+        assert_eq!(rt; ran.result, Err(RunFault::Write));
+        assert_eq!(rt; ran.text.len(), times);
+        assert!(rt; ONE_SEGMENT_TEXT.starts_with(&ran.text), "{times} writes");
+    }
+    let answers: [(usize, &[u8]); 2] = [(0, b""), (1, b"ok 1\n")];
+    for (times, text) in answers {
+        let ran = run_with(rt.alloc(), &script, WHOLE, Device { step: 1_000, times });
+        assert_eq!(rt; ran.result, Err(RunFault::Write));
+        assert_eq!(rt; ran.text.as_slice(), text);
+    }
+    Ok(())
+}
+
+#[test]
+fn publishers_lines_are_answered(rt: HostRuntime) -> Result<(), AllocError> {
+    let cases: [(&[u8], u64, &[u8]); 15] = [
+        (b"", 0, b""),
+        (b"pub cam part hi 1000000 -", 1, b"ok 1\n"),
+        (
+            b"pub cam part hi 1 i\r\npub cam part hi 1 f\r\n",
+            2,
+            b"ok 1\nok 2\n",
+        ),
+        (
+            b"pub cam part hi 0 if\npub cam part hi 1 f\n",
+            1,
+            b"no 3 BadDuration\nok 1\n",
+        ),
+        (b"pub cam part hi 1000001 if\n", 0, b"no 4 TooLong\n"),
+        (b"pub cam part lo 1000000 if\n", 0, b"no 1 NoRendition\n"),
+        (
+            b"pub two part hi 1000000 if\n",
+            0,
+            b"no 14 UnknownChannel\n",
+        ),
+        (b"pub ca part hi 1000000 if\n", 0, b"no 14 UnknownChannel\n"),
+        (b"pub \n", 0, b"no 13 BadLine\n"),
+        (b"pub cam\n", 0, b"no 13 BadLine\n"),
+        (b"pub cam part hi 1000000 fi\n", 0, b"no 13 BadLine\n"),
+        (b"pub cam part hi 1000000 \xff\n", 0, b"no 13 BadLine\n"),
+        (b"pub \xc3\n", 0, b"no 13 BadLine\n"),
+        (b"# \xff\n\n\r\n#pub cam part hi 1 f\n", 0, b""),
+        (b"pub cam part hi 1 f\r", 0, b"no 13 BadLine\n"),
+    ];
+    for (lines, events, text) in cases {
+        let script = behind_channel(rt.alloc(), lines)?;
+        let ran = run_with(rt.alloc(), &script, WHOLE, WHOLE);
+        assert_eq!(rt; ran.result, Ok(Summary { events, replies: 0 }));
+        assert_eq!(rt; ran.text.as_slice(), text);
+    }
+    Ok(())
+}
+
+#[test]
+fn bad_requests_end_a_script(rt: HostRuntime) -> Result<(), AllocError> {
+    let cases: [(&[u8], u64, &[u8]); 9] = [
+        (b"get 1 /two/hi/live.m3u8\n", 2, b""),
+        (b"get 1 /cam/lo/live.m3u8\n", 2, b""),
+        (b"get 1 /cam/hi/live.m3u\n", 2, b""),
+        (b"get 1 cam/hi/live.m3u8\n", 2, b""),
+        (b"get 1 /cam/hi/live.m3u8 \n", 2, b""),
+        (b"get 1000000000 /cam/hi/live.m3u8\n", 2, b""),
+        (b"get \xff\n", 2, b""),
+        (
+            b"get 1 /cam/hi/live.m3u8\nget 1 /cam/hi/live.m3u8\n",
+            3,
+            NO_ITEM_TEXT,
+        ),
+        (
+            b"get 1 /cam/hi/live.m3u8\r\nget 0 /cam/hi/live.m3u8",
+            3,
+            NO_ITEM_TEXT,
+        ),
+    ];
+    for (lines, line, text) in cases {
+        let script = behind_channel(rt.alloc(), lines)?;
+        let ran = run_with(rt.alloc(), &script, WHOLE, WHOLE);
+        assert_eq!(rt; ran.result, Err(RunFault::BadLine { line }));
+        assert_eq!(rt; ran.text.as_slice(), text);
+    }
+    Ok(())
+}
+
+#[test]
+fn bad_lines_end_a_script(rt: HostRuntime) -> Result<(), AllocError> {
+    let cases: [(&[u8], u64, &[u8]); 8] = [
+        (
+            b"pub cam part hi 1 f\n# one\n\nget x\npub cam part hi 1 f\n",
+            5,
+            b"ok 1\n",
+        ),
+        (b"pub\n", 2, b""),
+        (b" \n", 2, b""),
+        (b"\xff\n", 2, b""),
+        (CHANNEL, 2, b""),
+        (
+            b"channel cam target=2 part=500000 skip=12 window=18 renditions=lo first=0 start=0\n",
+            2,
+            b"",
+        ),
+        (
+            b"channel two target=4 part=1000000 skip=24 window=36 renditions=hi,hi first=0 start=0\n",
+            2,
+            b"",
+        ),
+        (
+            b"channel two target=4 part=1000000 skip=24 window=36 renditions=lo,hi first=0 start=0\n",
+            2,
+            b"",
+        ),
+    ];
+    for (lines, line, text) in cases {
+        let script = behind_channel(rt.alloc(), lines)?;
+        let ran = run_with(rt.alloc(), &script, WHOLE, WHOLE);
+        assert_eq!(rt; ran.result, Err(RunFault::BadLine { line }));
+        assert_eq!(rt; ran.text.as_slice(), text);
+    }
+    Ok(())
+}
+
+#[test]
+fn channels_go_their_own_ways(rt: HostRuntime) -> Result<(), AllocError> {
+    // the segment of `two` has the last number, and ends with the last microsecond of the year 9999
+    let lines =
+        b"channel two target=4 part=1000000 skip=24 window=36 renditions=lo first=1152921504606846976 start=253402300799000\n\
+pub two part lo 999999 f\npub two part lo 1 f\npub cam part lo 1 f\npub two part hi 1 f\n\
+channel end target=4 part=1000000 skip=24 window=36 renditions=hi first=0 start=253402300799000\n\
+pub end part hi 1000000 if\npub cam part hi 1000000 if\nget 1 /cam/hi/live.m3u8\n";
+    let mut text = Vec::new(rt.alloc());
+    text.extend_from_slice(
+        b"ok 1\nno 6 CountEnd\nno 1 NoRendition\nno 1 NoRendition\nno 7 TimeEnd\n",
+    )?;
+    text.extend_from_slice(ONE_SEGMENT_TEXT)?;
+    let script = behind_channel(rt.alloc(), lines)?;
+    let ran = run_with(rt.alloc(), &script, WHOLE, WHOLE);
+    assert_eq!(rt;
+        ran.result,
+        Ok(Summary {
+            events: 3,
+            replies: 1
+        })
+    );
+    assert_eq!(rt; ran.text.as_slice(), text.as_slice());
+    Ok(())
+}
+
+/// A comment of so many bytes, and then these.
+fn comment(alloc: Global, length: usize, end: &[u8]) -> Result<Vec<u8>, AllocError> {
+    let mut line = vec![in alloc; b'#'; length]?;
+    line.extend_from_slice(end)?;
+    Ok(line)
+}
+
+#[test]
+fn lines_are_never_too_long(rt: HostRuntime) -> Result<(), AllocError> {
+    let too_long = Err(RunFault::LineTooLong { line: 1 });
+    let cases: [(usize, &[u8], Result<Summary, RunFault>); 9] = [
+        (65_536, b"\n", NOTHING),
+        (65_536, b"\r\n", NOTHING),
+        (65_536, b"", NOTHING),
+        (65_537, b"\n", too_long),
+        (65_537, b"\r\n", too_long),
+        (65_537, b"", too_long),
+        (65_536, b"\r", too_long),
+        (65_536, b"\r\r\n", too_long),
+        (65_536, b"\nx\n", Err(RunFault::BadLine { line: 2 })),
+    ];
+    for (length, end, result) in cases {
+        let script = comment(rt.alloc(), length, end)?;
+        for step in [1_000, 65_536, 100_000] {
+            let ran = run_with(rt.alloc(), &script, Device { step, times: 1_000 }, WHOLE);
+            assert_eq!(rt; ran.result, result);
+            assert_eq!(rt; ran.text.len(), 0);
+        }
+    }
+    Ok(())
+}
+
+#[test]
+fn refusals_have_codes_and_names(rt: HostRuntime) {
+    let cases = [
+        (Refusal::NoRendition, 1, "NoRendition"),
+        (Refusal::BadDuration, 3, "BadDuration"),
+        (Refusal::TooLong, 4, "TooLong"),
+        (Refusal::CountEnd, 6, "CountEnd"),
+        (Refusal::TimeEnd, 7, "TimeEnd"),
+        (Refusal::RecordFull, 11, "RecordFull"),
+        (Refusal::Memory, 12, "Memory"),
+        (Refusal::BadLine, 13, "BadLine"),
+        (Refusal::UnknownChannel, 14, "UnknownChannel"),
+    ];
+    for (refusal, code, name) in cases {
+        assert_eq!(rt; refusal.code(), code);
+        assert_eq!(rt; refusal.name(), name);
+    }
+}
+
+#[test]
+fn faults_are_spelled(rt: HostRuntime) -> Result<(), AllocError> {
+    let cases = [
+        (RunFault::Read, "Read"),
+        (RunFault::Write, "Write"),
+        (RunFault::BadLine { line: 3 }, "BadLine 3"),
+        (RunFault::LineTooLong { line: 1 }, "LineTooLong 1"),
+        (RunFault::Endless, "Endless"),
+        (RunFault::Memory, "Memory"),
+    ];
+    for (fault, text) in cases {
+        let spelled = format!(in rt.alloc(); "{fault}")?;
+        assert_eq!(rt; spelled.as_str(), text);
+    }
+    Ok(())
+}
+
+fn run_over_std<L: Ledger, M: Ledger>(
+    alloc: Global,
+    script: &[u8],
+    text: &mut Vec<u8>,
+    reads: Blank,
+    writes: Blank,
+) -> Result<Summary, RunFault>
+    requires reads_name { reads.name ≡ L.name }
+    requires reads_parts { reads.parts ≡ L.parts }
+    requires reads_two { reads.parts ≡ 2 }
+    requires writes_name { writes.name ≡ M.name }
+    requires writes_parts { writes.parts ≡ M.parts }
+    requires writes_two { writes.parts ≡ 2 }
+{
+    let mut source: CountedReader<&[u8], L> = CountedReader::new(script, reads);
+    let mut sink: CountedWriter<&mut Vec<u8>, M> = CountedWriter::new(text, writes);
+    run(alloc, &mut source, &mut sink)
+}
+
+#[test]
+fn devices_of_std_serve(rt: HostRuntime) -> Result<(), AllocError> {
+    let script = behind_channel(rt.alloc(), ONE_SEGMENT)?;
+    let mut text = Vec::new(rt.alloc());
+    let result = run_over_std::<Brand, Brand>(
+        rt.alloc(),
+        &script,
+        &mut text,
+        Blank::new(2),
+        Blank::new(2),
+    );
+    assert_eq!(rt;
+        result,
+        Ok(Summary {
+            events: 2,
+            replies: 1
+        })
+    );
+    assert_eq!(rt; text.as_slice(), ONE_SEGMENT_TEXT);
+    Ok(())
+}

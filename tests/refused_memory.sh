@@ -1,0 +1,88 @@
+#!/usr/bin/env bash
+# refused_memory.sh [ROW..]: for each row, refuses the Nth allocation of the program, for N from 1 until a run meets no
+# refusal. A run that meets one ends with status 4 and `llhls: Memory`, and has written a front of the row's output; the
+# last run ends as the row does. It tells how many N were tried. The last line, `N passed, M failed`, counts rows.
+set -u
+here=$(cd "$(dirname "${BASH_SOURCE[0]}")" && pwd) || exit 2
+program=$("$here/program.sh") || exit 2
+room=$(mktemp -d) || exit 2
+trap 'rm -rf "$room"' EXIT
+passed=0
+failed=0
+most=100000
+# How many refusals were met.
+met=0
+
+"${CC:-cc}" -O2 -Wall -shared -fPIC -o "$room/refuse.so" "$here/refused_memory.c" || exit 2
+mkdir "$room/rows"
+"$here/gather_rows.sh" "$room/rows" || exit 2
+declare -A endings
+while read -r name ending; do
+    endings[$name]=$ending
+done < <(grep -v '^#' "$here/endings")
+
+# Whether a run that met a refusal ended as it must.
+is_cut() {
+    local size
+    [ "$status" = 4 ] && [ "$(<"$room/stderr")" = 'llhls: Memory' ] || return 1
+    size=$(stat -c %s "$room/stdout")
+    cmp -s -n "$size" "$room/stdout" "$1" && [ "$size" -le "$(stat -c %s "$1")" ]
+}
+
+# sweep NAME: tries each N, and leaves in N the first that met no refusal.
+sweep() {
+    local script=$room/rows/$1 output=$room/rows/$1.stdout wanted fault words=(replay) status wrong=0
+    read -r wanted fault <<<"${endings[$1]-0}"
+    if [ -e "$script.args" ]; then
+        mapfile -t -O 1 words <"$script.args"
+    fi
+    for ((N = 1; N <= most; N++)); do
+        rm -f "$room/refused"
+        timeout 60 env LD_PRELOAD="$room/refuse.so" REFUSE="$N" REFUSED="$room/refused" \
+            "$program" "${words[@]}" <"$script" >"$room/stdout" 2>"$room/stderr"
+        status=$?
+        if [ ! -e "$room/refused" ]; then
+            if [ "$status" != "$wanted" ] || [ "$(<"$room/stderr")" != "$fault" ] || ! cmp "$room/stdout" "$output"; then
+                echo "FAILED $1: with no refusal it ended with status $status: $(head -c 2000 "$room/stderr")"
+                return 1
+            fi
+            if [ "$wrong" != 0 ]; then
+                echo "FAILED $1: wrong at $wrong of them"
+                return 1
+            fi
+            return 0
+        fi
+        met=$((met + 1))
+        if ! is_cut "$output"; then
+            wrong=$((wrong + 1))
+            # (a program that is wrong at each would fill the screen)
+            if [ "$wrong" -le 3 ]; then
+                echo "FAILED $1: with allocation $N refused it ended with status $status: $(head -c 2000 "$room/stderr")"
+            fi
+        fi
+    done
+    echo "FAILED $1: refusals had not ended after $most allocations"
+    return 1
+}
+
+if [ "$#" = 0 ]; then
+    for output in "$room"/rows/*.stdout; do
+        name=${output##*/}
+        set -- "$@" "${name%.stdout}"
+    done
+fi
+for name in "$@"; do
+    if sweep "$name"; then
+        passed=$((passed + 1))
+    else
+        failed=$((failed + 1))
+    fi
+    echo "$name: tried 1 to $N, of which the last met no refusal"
+done
+if [ "$met" = 0 ]; then
+    echo "FAILED: no allocation was refused, so nothing was tried"
+    failed=$((failed + 1))
+fi
+echo "$met refusals were met"
+echo "$passed passed, $failed failed"
+[ "$failed" = 0 ]
