@@ -5,6 +5,7 @@ ghost use Rattle.std.specs.Prelude.{◌≡◌};
 ghost use Rattle.llhls.specs.Status.{status_of};
 
 use ll_replay::{CountedReader, CountedWriter, RunFault, Summary, run};
+use std::alloc::AllocError;
 use std::marker::Brand;
 use std::process::ExitCode;
 use std::sync::ledger::{Blank, Ledger};
@@ -14,11 +15,15 @@ use std::{env, io};
 const USAGE: u8 = 2;
 
 fn main(rt: HostRuntime) -> ExitCode {
-    if !is_replay(&rt) {
-        let _ = eprintln!(rt; "llhls: usage");
-        return ExitCode::from(USAGE);
-    }
-    match replay::<Brand, Brand>(&rt, Blank::new(2), Blank::new(2)) {
+    let ended = match is_replay(&rt) {
+        Ok(true) => replay::<Brand, Brand>(&rt, Blank::new(2), Blank::new(2)),
+        Ok(false) => {
+            let _ = eprintln!(rt; "llhls: usage");
+            return ExitCode::from(USAGE);
+        }
+        Err(_) => Err(RunFault::Memory),
+    };
+    match ended {
         Ok(_) => ExitCode::SUCCESS,
         Err(fault) => {
             let _ = eprintln!(rt; "llhls: {fault}");
@@ -27,15 +32,16 @@ fn main(rt: HostRuntime) -> ExitCode {
     }
 }
 
-/// Whether the program was called as `llhls replay`.
-fn is_replay(rt: &HostRuntime) -> bool {
+/// Whether the program was called as `llhls replay`. An argument that is no UTF-8 is another use.
+fn is_replay(rt: &HostRuntime) -> Result<bool, AllocError> {
     match env::args(rt) {
         Ok(mut args) => {
             let _program = args.next();
             let is_named = args.next().is_some_and(|word| word.as_str() == "replay");
-            is_named && args.next().is_none()
+            Ok(is_named && args.next().is_none())
         }
-        Err(_) => false,
+        Err(error) if error.kind() == io::ErrorKind::OutOfMemory => Err(AllocError),
+        Err(_) => Ok(false),
     }
 }
 
