@@ -55,6 +55,7 @@ expect usage_of_no_word /dev/null 2 'llhls: usage' <"$first"
 expect usage_of_another_word /dev/null 2 'llhls: usage' play <"$first"
 expect usage_of_a_longer_word /dev/null 2 'llhls: usage' replays <"$first"
 expect usage_of_an_empty_word /dev/null 2 'llhls: usage' '' <"$first"
+expect usage_of_no_utf8 /dev/null 2 'llhls: usage' $'\xff' <"$first"
 expect read_of_a_folder /dev/null 4 'llhls: Read' replay <"$here"
 
 # What is written into a full device is lost, and a script without answers is run to its end.
