@@ -87,7 +87,7 @@ IsCutAt-too_long held kept base written bytes b more h long s =
     subst (λ (bs : List ℕ). IsCutAt base written (world_of bs) (fault.LineTooLong (kept.lines + 1))) (append_assoc bytes (b ∷ []) more)
     (p.0 ∙ ap (λ n. Some (LineTooLong (n + 1))) (sym (ap (λ (k : Kept). k.lines) s'.stands.stands)), s'.stands.wrote ∙ ap (λ t. option_map (λ x. x ++ t) base) (sym p.1))
 
--- a fault that `?` hands on
+-- a fault that is handed on
 pub IfErr-handed : {X : Type 0} (P : RunFault → Type 0) (r : Result X RunFault) (f : RunFault) → IsErrAnd r (λ y. y ≡ f) → P f → IfErr r P
 IfErr-handed P (Ok x) f h p = tt
 IfErr-handed P (Err y) f h p = subst P (sym h) p

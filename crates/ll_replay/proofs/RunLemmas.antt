@@ -60,7 +60,7 @@ IsCutAt-input_end r f held kept base written after before left bytes input e h s
     subst (λ (bs : List ℕ). IsCutAt base after (world_of bs) f) (WasRead-all before left bytes input p nothing i)
     (IsCutAt-at_end r f held kept base written after bytes e h s)
 
--- `?` hands on the fault itself
+-- the fault itself is handed on
 pub handed-same : {X : Type 0} (r : Result X RunFault) (f g : RunFault) → IsErrAnd r (λ y. y ≡ g) → r ≡ Err f → g ≡ f
 handed-same (Ok x) f g h e = absurd h
 handed-same (Err y) f g h e = sym h ∙ cc
