@@ -1,10 +1,10 @@
 #!/usr/bin/env bash
 # replay.sh [PARTS..]: publishes so many parts (10,000 and 100,000 where none are given), four to a segment, and asks for
-# the playlist once, at the end. For each number it prints the events per second, and their ratio to the first number's;
-# then the peak memory, and the memory that a part takes, for which it leaves out the request. Times are the median of RUNS
-# runs (9 where it isn't set), less that of a script without parts, which is the start of the program; behind them stand the
-# slowest and the fastest run. Memory is a median too, and for a part less that of the script without parts. With few parts
-# the start outweighs the rest, and the numbers say little. It judges nothing.
+# the playlist once, at the end, which shows the last nine segments. For each number it prints the events per second, and
+# their ratio to the first number's; then the peak memory, and the memory that a part takes, for which it leaves out the
+# request. Times are the median of RUNS runs (9 where it isn't set), less that of a script without parts, which is the start
+# of the program; behind them stand the slowest and the fastest run. Memory is a median too, and for a part less that of the
+# script without parts. With few parts the start outweighs the rest, and the numbers say little. It judges nothing.
 set -eu
 here=$(cd "$(dirname "${BASH_SOURCE[0]}")" && pwd)
 program=$("$here/../tests/program.sh")
@@ -45,9 +45,9 @@ for parts in "$@"; do
     echo 'get 1 /cam/hi/live.m3u8' >>"$room/script"
     read -r median slowest fastest peak < <(measure "$room/script")
     accepted=$(grep -c '^ok ' "$room/answers" || true)
-    listed=$(grep -c '^#EXT-X-PART:' "$room/answers" || true)
-    if [ "$accepted" != "$parts" ] || [ "$listed" != "$parts" ]; then
-        echo "of $parts parts $accepted were accepted and $listed listed" >&2
+    shown=$(grep -c '^#EXTINF:' "$room/answers" || true)
+    if [ "$accepted" != "$parts" ] || [ "$shown" != $((parts / 4 < 9 ? parts / 4 : 9)) ]; then
+        echo "of $parts parts $accepted were accepted, and $shown segments were shown" >&2
         exit 1
     fi
     first=${first:-$parts $median}

@@ -3,3 +3,10 @@ pub mod Digits
 pub mod Fractions
 pub mod ReadsBack
 pub mod PartsAtCut
+pub mod PartsOutside
+pub mod Values
+pub mod Names
+pub mod Spelled
+pub mod ReadSoFar
+pub mod Faults
+pub mod Written

@@ -1,3 +1,5 @@
+pub mod Attributes
 pub mod Durations
 pub mod Numbers
+pub mod Reading
 pub mod Words

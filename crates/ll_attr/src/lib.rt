@@ -1,15 +1,21 @@
-//! Texts, numbers and durations as playlists and scripts spell them.
+//! Texts, numbers, durations and attribute lists as playlists and scripts spell them.
 #![tactic(auto)]
 
+mod attribute_parse;
+mod attribute_text;
+mod attributes;
 mod micros;
 mod number;
 mod parts;
 mod text;
 
+pub use attributes::{AttrFault, AttrList, AttrValue};
 pub use micros::{Micros, micros_text, parse_micros};
 pub use number::parse_number;
 pub use parts::{behind, cut};
 pub use text::Text;
 
+#[cfg(test)]
+mod attribute_tests;
 #[cfg(test)]
 mod tests;

@@ -5,13 +5,14 @@ use Rattle.ll_attr.specs.Words.{words}
 use Rattle.ll_item.specs.Names.{is_name}
 use Rattle.ll_item.specs.Settings.{Configuration}
 use Rattle.ll_item.specs.declared.item.Item.{Item}
-use Rattle.ll_item.specs.declared.item.Item.TheVariants.{Part}
+use Rattle.ll_item.specs.declared.item.Item.TheVariants.{Part, Break}
 use Rattle.ll_item.specs.declared.item.ItemFault.{ItemFault}
 use Rattle.ll_item.specs.declared.item.ItemFault.TheVariants.{BadLine, NoRendition}
 
 -- the index of the rendition that an item belongs to
 abbrev pub rendition_of : Item → ℕ
 rendition_of (Part rendition duration independent finish) = rendition
+rendition_of (Break rendition) = rendition
 
 -- the index of the rendition of this name
 abbrev pub rendition_named : Configuration → List ℕ → Option ℕ
@@ -26,17 +27,30 @@ flags_in text =
     else if bytes_eq text (codes "if") then Some (true, true)
     else None
 
-abbrev pub part_at : Option ℕ → ℕ → Bool × Bool → Result Item ItemFault
-part_at None duration flags = Err NoRendition
-part_at (Some rendition) duration flags = Ok (Part rendition duration flags.0 flags.1)
+abbrev pub named_at : Option ℕ → Result ℕ ItemFault
+named_at None = Err NoRendition
+named_at (Some rendition) = Ok rendition
+
+-- the index of the rendition of this name, or what is wrong with the name
+abbrev pub named : Configuration → List ℕ → Result ℕ ItemFault
+named c name = if is_name name then named_at (rendition_named c name) else Err BadLine
+
+abbrev pub part_at : Result ℕ ItemFault → ℕ → Bool × Bool → Result Item ItemFault
+part_at (Err fault) duration flags = Err fault
+part_at (Ok rendition) duration flags = Ok (Part rendition duration flags.0 flags.1)
 
 abbrev pub part_by : Configuration → List ℕ → Option ℕ → Option (Bool × Bool) → Result Item ItemFault
 part_by c name None flags = Err BadLine
 part_by c name (Some duration) None = Err BadLine
-part_by c name (Some duration) (Some flags) = if is_name name then part_at (rendition_named c name) duration flags else Err BadLine
+part_by c name (Some duration) (Some flags) = part_at (named c name) duration flags
 
--- `part RENDITION MICROSECONDS FLAGS`
+abbrev pub break_at : Result ℕ ItemFault → Result Item ItemFault
+break_at (Err fault) = Err fault
+break_at (Ok rendition) = Ok (Break rendition)
+
+-- `part RENDITION MICROSECONDS FLAGS` or `break RENDITION`
 abbrev pub item_of : Configuration → List (List ℕ) → Result Item ItemFault
+item_of c (kind ∷ name ∷ []) = if bytes_eq kind (codes "break") then break_at (named c name) else Err BadLine
 item_of c (kind ∷ name ∷ duration ∷ flags ∷ []) =
     if bytes_eq kind (codes "part") then part_by c name (number_in 20 duration) (flags_in flags) else Err BadLine
 item_of c other = Err BadLine

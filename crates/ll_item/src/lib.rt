@@ -3,6 +3,7 @@
 #![tactic(auto)]
 
 mod item;
+mod item_line;
 mod limits;
 mod name;
 mod settings;

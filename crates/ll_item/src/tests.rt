@@ -244,6 +244,18 @@ fn items_are_read(rt: HostRuntime) -> Result<(), Fail> {
 }
 
 #[test]
+fn breaks_are_read(rt: HostRuntime) -> Result<(), Fail> {
+    let settings = Settings::read(rt.alloc(), LINE)?;
+    for (line, rendition) in [("break lo", 0), ("break hi", 1)] {
+        let item = Item::Break { rendition };
+        assert_eq!(rt; item.rendition(), rendition, "at {line}");
+        assert_eq!(rt; item.copy()?, item, "at {line}");
+        assert_eq!(rt; Item::read(&settings, line), Ok(item), "at {line}");
+    }
+    Ok(())
+}
+
+#[test]
 fn lines_that_are_no_item_are_refused(rt: HostRuntime) -> Result<(), Fail> {
     let settings = Settings::read(rt.alloc(), LINE)?;
     for (line, fault) in [
@@ -258,7 +270,18 @@ fn lines_that_are_no_item_are_refused(rt: HostRuntime) -> Result<(), Fail> {
         ("part hi  f", ItemFault::BadLine),
         ("part hi 18446744073709551616 -", ItemFault::BadLine),
         ("piece hi 1 -", ItemFault::BadLine),
-        ("break hi", ItemFault::BadLine),
+        ("break zz", ItemFault::NoRendition),
+        ("break", ItemFault::BadLine),
+        ("break ", ItemFault::BadLine),
+        ("break hi ", ItemFault::BadLine),
+        ("break  hi", ItemFault::BadLine),
+        ("break Hi", ItemFault::BadLine),
+        ("break hi x", ItemFault::BadLine),
+        ("break hi 1 -", ItemFault::BadLine),
+        ("breaks hi", ItemFault::BadLine),
+        ("Break hi", ItemFault::BadLine),
+        ("part hi", ItemFault::BadLine),
+        ("part", ItemFault::BadLine),
         ("", ItemFault::BadLine),
     ] {
         assert_eq!(rt; Item::read(&settings, line), Err(fault), "at {line}");

@@ -1,31 +1,45 @@
 -- The lines of segments, one place after another.
-use Rattle.std.proofs.Common.{◌≡◌, ℕ, ◌+◌, ◌<◌, List, [], ◌∷◌, ◌++◌, length, drop, None, Some, ap, sym, suc, ◌∙◌, arith, append_assoc}
-use Rattle.std.specs.Prelude.{flat_map, map, slice_get}
-use Rattle.std.proofs.lemmas.Option.{slice_get_within, slice_get-get_or, get_or_from_slice_get}
-use Rattle.std.proofs.Math.Seq.{drop-cons}
+use Rattle.std.proofs.Common.{◌≡◌, ℕ, zero, suc, ◌+◌, ◌<◌, ◌==◌, List, [], ◌∷◌, ◌++◌, Bool, false, length, drop, None, Some, ap, sym, ◌∙◌, arith, append_assoc}
+use Rattle.std.proofs.lemmas.Bool.Decides.{nat_tests}
+use Rattle.std.specs.Prelude.{flat_map}
+use Rattle.ll_window.specs.declared.part.Part.{Part}
+use Rattle.ll_window.specs.declared.segment.Segment.{Segment}
 use Rattle.ll_window.specs.Rows.{Row}
-use Rattle.ll_page.specs.Full.{finished_of}
+use Rattle.ll_window.specs.Window.{segment_at, parts_at}
+use Rattle.ll_page.specs.Full.{finished_of, printed}
 use Rattle.ll_page.specs.Spelling.{segment_lines}
 
-abbrev lines : List Row → List ℕ
-lines ks = flat_map segment_lines (map finished_of ks)
+abbrev pub lines : Bool → List Row → List ℕ
+lines leads rows = flat_map segment_lines (printed leads rows)
 
-drop-got : (ks : List Row) (i : ℕ) (k : Row) → slice_get ks i ≡ Some k → drop i ks ≡ k ∷ drop (i + 1) ks
-drop-got ks i k e =
-    let within : i < length ks = slice_get_within ks i k e in
-    let next : suc i ≡ i + 1 = omega arith in
-    drop-cons ks i k within ∙ ap (λ x. x ∷ drop (suc i) ks) (get_or_from_slice_get ks i k k e) ∙ ap (λ j. k ∷ drop j ks) next
+-- the row that is read in two calls
+rest_from : (rows : List Row) (i : ℕ) (s : Segment) (ps : List Part) → Some s ≡ segment_at rows i → ps ≡ parts_at rows i
+    → drop i rows ≡ (record { segment = s; parts = ps }) ∷ drop (suc i) rows
+rest_from [] i s ps e f = absurd (grind (arith, e))
+rest_from (row ∷ rows) zero s ps e f =
+    let same : s ≡ row.segment = grind (arith, e) in
+    ap (λ x. (record { segment = x; parts = row.parts }) ∷ rows) (sym same) ∙ ap (λ x. (record { segment = s; parts = x }) ∷ rows) (sym f)
+rest_from (row ∷ rows) (suc i) s ps e f = rest_from rows i s ps e f
+
+behind_first : (i : ℕ) → (i + 1 == 0) ≡ false
+behind_first i = grind (arith, nat_tests)
 
 -- the text so far and the lines from this place on stay the whole text when this segment's are added
-pub next-place : (old new whole : List ℕ) (ks : List Row) (i : ℕ) (k : Row) → slice_get ks i ≡ Some k → new ≡ old ++ segment_lines (finished_of k)
-    → old ++ lines (drop i ks) ≡ whole → new ++ lines (drop (i + 1) ks) ≡ whole
-next-place old new whole ks i k e added h =
-    ap (λ t. t ++ lines (drop (i + 1) ks)) added
-    ∙ append_assoc old (segment_lines (finished_of k)) (lines (drop (i + 1) ks))
-    ∙ ap (λ xs. old ++ lines xs) (sym (drop-got ks i k e))
+pub next-place : (old new whole : List ℕ) (rows : List Row) (i : ℕ) (s : Segment) (ps : List Part) → Some s ≡ segment_at rows i → ps ≡ parts_at rows i
+    → new ≡ old ++ segment_lines (finished_of (i == 0) (record { segment = s; parts = ps }))
+    → old ++ lines (i == 0) (drop i rows) ≡ whole → new ++ lines (i + 1 == 0) (drop (i + 1) rows) ≡ whole
+next-place old new whole rows i s ps e f added h =
+    let next : suc i ≡ i + 1 = omega arith in
+    let block = segment_lines (finished_of (i == 0) (record { segment = s; parts = ps })) in
+    ap (λ b. new ++ lines b (drop (i + 1) rows)) (behind_first i)
+    ∙ ap (λ t. t ++ lines false (drop (i + 1) rows)) added
+    ∙ append_assoc old block (lines false (drop (i + 1) rows))
+    ∙ ap (λ j. old ++ (block ++ lines false (drop j rows))) (sym next)
+    ∙ ap (λ xs. old ++ lines (i == 0) xs) (sym (rest_from rows i s ps e f))
     ∙ h
 
 -- there is a segment at each place below their number
-pub some-place : (ks : List Row) (i : ℕ) → i < length ks → slice_get ks i ≡ None → ⊥
+pub some-place : (rows : List Row) (i : ℕ) → i < length rows → None ≡ segment_at rows i → ⊥
 some-place [] i h e = absurd (omega arith)
-some-place (k ∷ ks) i h e = let got = slice_get-get_or (k ∷ ks) i k h in absurd (cc)
+some-place (row ∷ rows) zero h e = absurd (grind (arith, e))
+some-place (row ∷ rows) (suc i) h e = some-place rows i (omega arith) e

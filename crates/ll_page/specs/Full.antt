@@ -1,13 +1,14 @@
 -- The full playlist of a rendition (sections 4.4 and 6.2.1).
-use Rattle.std.specs.Prelude.{ℕ, ◌+◌, ◌*◌, List, [], ◌∷◌, Option, Some, None, map}
+use Rattle.std.specs.Prelude.{ℕ, ◌+◌, ◌*◌, ◌/◌, ◌||◌, ◌==◌, List, [], ◌∷◌, Bool, true, false, Option, Some, None, length}
+use Rattle.ll_time.specs.Times.{time_text}
 use Rattle.ll_item.specs.Settings.{Configuration}
 use Rattle.ll_item.specs.declared.item.Item.{Item}
 use Rattle.ll_window.specs.declared.part.Part.{Part}
-use Rattle.ll_window.specs.Compact.{Compact}
+use Rattle.ll_window.specs.Compact.{Compact, unfinished}
 use Rattle.ll_window.specs.Rows.{Row}
 use Rattle.ll_page.specs.Playlist.{PartLine, Block, Finished, Header, Playlist}
 use Rattle.ll_page.specs.Spelling.{spelling}
-use Rattle.ll_page.specs.Uris.{segment_uri, part_uri}
+use Rattle.ll_page.specs.Uris.{segment_uri, part_uri, map_uri}
 use Rattle.ll_page.specs.View.{Seen, seen, asked}
 
 abbrev pub header_of : Configuration → Header
@@ -25,29 +26,45 @@ part_lines number index [] = []
 part_lines number index (p ∷ ps) =
     (record { duration = p.duration; uri = part_uri number index; independent = p.independent }) ∷ part_lines number (index + 1) ps
 
-abbrev pub block_of : ℕ → List Part → Block
-block_of number ps = record { parts = part_lines number 0 ps }
+abbrev pub map_of : Bool → ℕ → Option (List ℕ)
+map_of true number = Some (map_uri number)
+map_of false number = None
 
-abbrev pub finished_of : Row → Finished
-finished_of row = record { block = block_of row.number row.parts; duration = row.duration; uri = segment_uri row.number }
+-- A MAP line stands at the first segment of a playlist, which leads, and at each broken one (section 4.4.4.5).
+-- The time is cut to milliseconds.
+abbrev pub block_of : Bool → Row → Block
+block_of leads row = record {
+  broken = row.segment.broken;
+  map = map_of (leads || row.segment.broken) row.segment.map_number;
+  time = time_text (row.segment.time / 1000);
+  parts = part_lines row.segment.number 0 row.parts;
+}
+
+abbrev pub finished_of : Bool → Row → Finished
+finished_of leads row = record { block = block_of leads row; duration = row.segment.duration; uri = segment_uri row.segment.number }
+
+-- finished segments, of which the first leads the playlist or doesn't
+abbrev pub printed : Bool → List Row → List Finished
+printed leads [] = []
+printed leads (row ∷ more) = finished_of leads row ∷ printed false more
 
 -- the open segment's block, where it has a part
-abbrev pub open_of : ℕ → List Part → Option Block
-open_of number [] = None
-open_of number (p ∷ ps) = Some (block_of number (p ∷ ps))
+abbrev pub open_of : Bool → Option Row → Option Block
+open_of leads None = None
+open_of leads (Some row) = Some (block_of leads row)
 
 -- the number of the first segment; without one, of the open segment or else the next
 abbrev pub sequence_of : Compact → List Row → ℕ
 sequence_of k [] = k.next_number
-sequence_of k (row ∷ more) = row.number
+sequence_of k (row ∷ more) = row.segment.number
 
 abbrev pub playlist_of : Configuration → Compact → Playlist
 playlist_of c k = record {
   header = header_of c;
   sequence = sequence_of k k.window;
-  discontinuity = 0;
-  segments = map finished_of k.window;
-  open_block = open_of k.next_number k.open_parts;
+  discontinuity = k.discontinuity;
+  segments = printed true k.window;
+  open_block = open_of (length k.window == 0) (unfinished k);
 }
 
 -- the playlist of the rendition that is asked for

@@ -7,3 +7,4 @@ pub mod Worked
 pub use Rattle.ll_window.specs.Compact
 pub use Rattle.ll_window.specs.Rows
 pub use Rattle.ll_item.specs.Settings
+pub use Rattle.ll_time.specs.Times

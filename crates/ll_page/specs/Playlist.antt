@@ -10,6 +10,12 @@ pub record PartLine : Type 0 where
 
 -- the lines of a segment that stand before its EXTINF line
 pub record Block : Type 0 where
+  -- whether it is broken from the segment before it
+  pub broken : Bool
+  -- the URI of the Media Initialization Section that its EXT-X-MAP line names, where it has one
+  pub map : Option (List ℕ)
+  -- the time of its first sample
+  pub time : List ℕ
   pub parts : List PartLine
 
 -- a segment that has its EXTINF line and its URI

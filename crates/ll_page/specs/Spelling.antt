@@ -29,6 +29,22 @@ sequence_line number = codes "#EXT-X-MEDIA-SEQUENCE:" ++ (decimal number ++ code
 unfoldable pub discontinuity_line : ℕ → List ℕ
 discontinuity_line number = codes "#EXT-X-DISCONTINUITY-SEQUENCE:" ++ (decimal number ++ codes "\n")
 
+-- section 4.4.4.3
+unfoldable pub broken_line : Bool → List ℕ
+broken_line broken = if broken then codes "#EXT-X-DISCONTINUITY\n" else []
+
+-- section 4.4.4.5
+unfoldable pub map_line : List ℕ → List ℕ
+map_line uri = codes "#EXT-X-MAP:URI=\"" ++ (uri ++ codes "\"\n")
+
+abbrev pub map_lines : Option (List ℕ) → List ℕ
+map_lines None = []
+map_lines (Some uri) = map_line uri
+
+-- section 4.4.4.6
+unfoldable pub time_line : List ℕ → List ℕ
+time_line time = codes "#EXT-X-PROGRAM-DATE-TIME:" ++ (time ++ codes "\n")
+
 unfoldable pub independent_flag : Bool → List ℕ
 independent_flag independent = if independent then codes ",INDEPENDENT=YES" else []
 
@@ -46,7 +62,7 @@ header_lines h =
     first_lines h.version ++ (target_line h.target ++ (control_line h.hold_back h.skip_until ++ part_target_line h.part_target))
 
 abbrev pub block_lines : Block → List ℕ
-block_lines b = flat_map part_line b.parts
+block_lines b = broken_line b.broken ++ (map_lines b.map ++ (time_line b.time ++ flat_map part_line b.parts))
 
 abbrev pub segment_lines : Finished → List ℕ
 segment_lines s = block_lines s.block ++ finished_lines s.duration s.uri

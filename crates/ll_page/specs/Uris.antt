@@ -8,3 +8,7 @@ segment_uri number = codes "s" ++ (decimal number ++ codes ".m4s")
 -- the part of this index in it
 unfoldable pub part_uri : ℕ → ℕ → List ℕ
 part_uri number index = codes "s" ++ (decimal number ++ (codes "." ++ (decimal index ++ codes ".m4s")))
+
+-- the Media Initialization Section of this number
+unfoldable pub map_uri : ℕ → List ℕ
+map_uri number = codes "init" ++ (decimal number ++ codes ".mp4")

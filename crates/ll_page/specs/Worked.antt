@@ -35,9 +35,11 @@ two_renditions = record {
 abbrev pub one_part : List Item
 one_part = item.Part 0 1000000 true true ∷ []
 
--- parts of both renditions, three of them of the second, which go on behind a finished segment
+-- parts of both renditions, three of them of the second, which go on with a break behind a finished segment
 abbrev pub mixed_parts : List Item
-mixed_parts = item.Part 1 334000 true false ∷ item.Part 0 300000 true true ∷ item.Part 1 333999 false true ∷ item.Part 1 1 true false ∷ []
+mixed_parts =
+    item.Part 1 334000 true false ∷ item.Part 0 300000 true true ∷ item.Part 1 333999 false true ∷ item.Break 1 ∷ item.Break 0
+    ∷ item.Part 1 1 true false ∷ []
 
 abbrev pub empty_text : List ℕ
 empty_text =
@@ -52,6 +54,8 @@ empty_text =
 abbrev pub one_segment_text : List ℕ
 one_segment_text =
     empty_text
+    ++ codes "#EXT-X-MAP:URI=\"init0.mp4\"\n"
+    ++ codes "#EXT-X-PROGRAM-DATE-TIME:1970-01-01T00:00:00.000Z\n"
     ++ codes "#EXT-X-PART:DURATION=1.000000,URI=\"s0.0.m4s\",INDEPENDENT=YES\n"
     ++ codes "#EXTINF:1.000000,\n"
     ++ codes "s0.m4s\n"
@@ -65,10 +69,15 @@ open_segment_text =
     ++ codes "#EXT-X-PART-INF:PART-TARGET=0.334000\n"
     ++ codes "#EXT-X-MEDIA-SEQUENCE:7\n"
     ++ codes "#EXT-X-DISCONTINUITY-SEQUENCE:0\n"
+    ++ codes "#EXT-X-MAP:URI=\"init0.mp4\"\n"
+    ++ codes "#EXT-X-PROGRAM-DATE-TIME:1970-01-01T00:00:00.000Z\n"
     ++ codes "#EXT-X-PART:DURATION=0.334000,URI=\"s7.0.m4s\",INDEPENDENT=YES\n"
     ++ codes "#EXT-X-PART:DURATION=0.333999,URI=\"s7.1.m4s\"\n"
     ++ codes "#EXTINF:0.667999,\n"
     ++ codes "s7.m4s\n"
+    ++ codes "#EXT-X-DISCONTINUITY\n"
+    ++ codes "#EXT-X-MAP:URI=\"init1.mp4\"\n"
+    ++ codes "#EXT-X-PROGRAM-DATE-TIME:1970-01-01T00:00:00.667Z\n"
     ++ codes "#EXT-X-PART:DURATION=0.000001,URI=\"s8.0.m4s\",INDEPENDENT=YES\n"
 
 pub record WorkedPlaylists : Type 0 where

@@ -1,10 +1,12 @@
 //! One function for each kind of line of a playlist, which adds it to a text.
 ghost use Rattle.std.specs.Prelude.{◌≡◌, ◌++◌, ◌*◌, OnOk, string_bytes};
 ghost use Rattle.ll_window.specs.declared.part.Part.{Part};
-ghost use Rattle.ll_page.specs.Spelling.{first_lines, target_line, control_line, part_target_line, sequence_line, discontinuity_line, independent_flag, part_line, finished_lines};
-ghost use Rattle.ll_page.specs.Uris.{segment_uri, part_uri};
+ghost use Rattle.ll_page.specs.Spelling.{first_lines, target_line, control_line, part_target_line, sequence_line, discontinuity_line, broken_line, map_line, time_line, independent_flag, part_line, finished_lines};
+ghost use Rattle.ll_page.specs.Uris.{segment_uri, part_uri, map_uri};
+ghost use Rattle.ll_time.specs.Times.{time_text};
 
 use ll_attr::Micros;
+use ll_time::UtcTime;
 use ll_window::Part;
 use std::alloc::AllocError;
 
@@ -64,6 +66,31 @@ pub(crate) fn push_discontinuity_line(text: &mut String, number: u64) -> Result<
     ensures { OnOk result (string_bytes text.new ≡ string_bytes text.old ++ discontinuity_line number) }
 {
     write!(text, "#EXT-X-DISCONTINUITY-SEQUENCE:{number}\n")
+}
+
+/// EXT-X-DISCONTINUITY (section 4.4.4.3), where the segment is broken from the one before it.
+#[tactic(auto, unfolding(crate::specs::Spelling::broken_line))]
+pub(crate) fn push_broken_line(text: &mut String, broken: bool) -> Result<(), AllocError>
+    ensures { OnOk result (string_bytes text.new ≡ string_bytes text.old ++ broken_line broken) }
+{
+    let line = if broken { "#EXT-X-DISCONTINUITY\n" } else { "" };
+    text.push_str(line)
+}
+
+/// EXT-X-MAP (section 4.4.4.5): the Media Initialization Section of this number.
+#[tactic(auto, unfolding(crate::specs::Spelling::map_line, crate::specs::Uris::map_uri))]
+pub(crate) fn push_map_line(text: &mut String, number: u64) -> Result<(), AllocError>
+    ensures { OnOk result (string_bytes text.new ≡ string_bytes text.old ++ map_line (map_uri number)) }
+{
+    write!(text, "#EXT-X-MAP:URI=\"init{number}.mp4\"\n")
+}
+
+/// EXT-X-PROGRAM-DATE-TIME (section 4.4.4.6).
+#[tactic(auto, unfolding(crate::specs::Spelling::time_line))]
+pub(crate) fn push_time_line(text: &mut String, time: UtcTime) -> Result<(), AllocError>
+    ensures { OnOk result (string_bytes text.new ≡ string_bytes text.old ++ time_line (time_text time)) }
+{
+    write!(text, "#EXT-X-PROGRAM-DATE-TIME:{time}\n")
 }
 
 /// The attribute of a part that can be played without a part before it (section 4.4.4.9).

@@ -1,17 +1,20 @@
-ghost use Rattle.std.specs.Prelude.{◌≡◌, ◌++◌, IfOk, OnOk, string_bytes, flat_map, map};
-ghost use Rattle.ll_page.specs.Full.{full_text, header_of, block_of, finished_of, sequence_of};
-ghost use Rattle.ll_page.specs.Spelling.{header_lines, block_lines, segment_lines};
+ghost use Rattle.std.specs.Prelude.{◌≡◌, ◌≤◌, ◌/◌, ◌==◌, ◌++◌, IfOk, OnOk, string_bytes, flat_map, length, true};
+ghost use Rattle.ll_item.specs.Settings.{last_micro};
+ghost use Rattle.ll_window.specs.Compact.{unfinished};
+ghost use Rattle.ll_page.specs.Full.{full_text, header_of, part_lines, block_of, finished_of, printed, open_of, sequence_of};
+ghost use Rattle.ll_page.specs.Spelling.{header_lines, part_line, block_lines, segment_lines, open_lines};
 
 use crate::lines::*;
 use crate::view::View;
 use ll_attr::{Micros, Text};
 use ll_item::Settings;
+use ll_time::UtcTime;
 use ll_window::{Part, Segment, Window};
 use std::alloc::{AllocError, Global};
 
-/// The text of the full Media Playlist of a view (section 4.4): the lines that tell of the channel, then of each finished
-/// segment its parts, EXTINF and URI, then the open segment's parts. LF ends each line. It fails only where no memory is
-/// found.
+/// The text of the full Media Playlist of a view (section 4.4): the lines that tell of the channel, then of each segment of
+/// the window its discontinuity, map, time and parts, its EXTINF and URI, then the same lines of the open segment. LF ends
+/// each line. It fails only where no memory is found.
 pub fn full(alloc: Global, view: &View<'_>) -> Result<Text, AllocError>
     ensures { IfOk result (λ text. text ≡ full_text view.now) }
 {
@@ -19,9 +22,9 @@ pub fn full(alloc: Global, view: &View<'_>) -> Result<Text, AllocError>
     let mut text = String::new(alloc);
     push_header(&mut text, settings)?;
     push_sequence_line(&mut text, sequence(window))?;
-    push_discontinuity_line(&mut text, 0)?;
+    push_discontinuity_line(&mut text, window.discontinuity())?;
     push_segments(&mut text, window)?;
-    push_block(&mut text, window.next_number(), window.open_parts())?;
+    push_open(&mut text, window)?;
     Ok(Text::from_string(text))
 }
 
@@ -45,37 +48,85 @@ fn sequence(window: &Window) -> u64
     ensures { result ≡ sequence_of window.now window.now.window }
 {
     match window.segment(0) {
-        Some(segment) => segment.number(),
+        Some(segment) => segment.number,
         None => window.next_number(),
     }
 }
 
 /// Adds the lines of all finished segments.
 fn push_segments(text: &mut String, window: &Window) -> Result<(), AllocError>
-    ensures { OnOk result (string_bytes text.new ≡ string_bytes text.old ++ flat_map segment_lines (map finished_of window.now.window)) }
+    ensures { OnOk result (string_bytes text.new ≡ string_bytes text.old ++ flat_map segment_lines (printed true window.now.window)) }
 {
     for place in 0..window.segment_count() {
         if let Some(segment) = window.segment(place) {
-            push_segment(text, segment)?;
+            push_segment(text, place == 0, segment, window.shown_parts(place))?;
         }
     }
     Ok(())
 }
 
-/// Adds the lines of a finished segment.
-fn push_segment(text: &mut String, segment: &Segment) -> Result<(), AllocError>
-    ensures { OnOk result (string_bytes text.new ≡ string_bytes text.old ++ segment_lines (finished_of segment.now)) }
+/// Adds the lines of a finished segment, which leads the playlist or doesn't, and lists these parts.
+fn push_segment(
+    text: &mut String,
+    leads: bool,
+    segment: Segment,
+    parts: &[Part],
+) -> Result<(), AllocError>
+    requires { segment.time ≤ last_micro }
+    ensures { OnOk result (string_bytes text.new ≡ string_bytes text.old
+        ++ segment_lines (finished_of leads (record { segment = segment; parts = parts.now }))) }
 {
-    push_block(text, segment.number(), segment.parts())?;
-    push_finished_lines(text, segment.number(), Micros(segment.duration()))
+    push_block(text, leads, segment, parts)?;
+    push_finished_lines(text, segment.number, Micros(segment.duration))
+}
+
+/// Adds the lines of the open segment, where there is one.
+fn push_open(text: &mut String, window: &Window) -> Result<(), AllocError>
+    ensures { OnOk result (string_bytes text.new ≡ string_bytes text.old
+        ++ open_lines (open_of (length window.now.window == 0) (unfinished window.now))) }
+{
+    match window.open_segment() {
+        Some(segment) => {
+            let leads = window.segment_count() == 0;
+            push_block(text, leads, segment, window.open_parts())
+        }
+        None => Ok(()),
+    }
+}
+
+/// Adds the lines of a segment that stand before its EXTINF line.
+fn push_block(
+    text: &mut String,
+    leads: bool,
+    segment: Segment,
+    parts: &[Part],
+) -> Result<(), AllocError>
+    requires { segment.time ≤ last_micro }
+    ensures { OnOk result (string_bytes text.new ≡ string_bytes text.old
+        ++ block_lines (block_of leads (record { segment = segment; parts = parts.now }))) }
+{
+    push_broken_line(text, segment.broken)?;
+    if leads || segment.broken {
+        push_map_line(text, segment.map_number)?;
+    }
+    push_time_line(text, utc_time(segment.time))?;
+    push_parts(text, segment.number, parts)
 }
 
 /// Adds a line for each part of the segment of this number.
-fn push_block(text: &mut String, number: u64, parts: &[Part]) -> Result<(), AllocError>
-    ensures { OnOk result (string_bytes text.new ≡ string_bytes text.old ++ block_lines (block_of number parts.now)) }
+fn push_parts(text: &mut String, number: u64, parts: &[Part]) -> Result<(), AllocError>
+    ensures { OnOk result (string_bytes text.new ≡ string_bytes text.old ++ flat_map part_line (part_lines number 0 parts.now)) }
 {
     for (index, part) in parts.iter().enumerate() {
         push_part_line(text, number, index as u64, *part)?;
     }
     Ok(())
+}
+
+/// The moment so many microseconds after 1970-01-01T00:00:00Z, cut to milliseconds.
+fn utc_time(micros: u64) -> UtcTime
+    requires { micros ≤ last_micro }
+    ensures { result ≡ micros / 1000 }
+{
+    UtcTime::at(micros / 1_000).unwrap()
 }

@@ -2,6 +2,7 @@ pub mod ChannelLemmas
 pub mod CutLemmas
 pub mod DriverLemmas
 pub mod LineLemmas
+pub mod MemoryLemmas
 pub mod PlaceLemmas
 pub mod ReadingLemmas
 pub mod RenditionLemmas

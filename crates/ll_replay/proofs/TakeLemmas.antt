@@ -15,7 +15,7 @@ settings-kept [] = refl
 settings-kept (c ∷ cs) = ap (λ xs. c.settings ∷ xs) (settings-kept cs)
 
 -- the driver reads a line as the world does
-acts-same : (k : Kept) (ds : List KeptChannel) (last : Option ℕ) (w : World) (text : List ℕ) → k ≡ kept w → ds ≡ k.channels → last ≡ k.last_id
+pub acts-same : (k : Kept) (ds : List KeptChannel) (last : Option ℕ) (w : World) (text : List ℕ) → k ≡ kept w → ds ≡ k.channels → last ≡ k.last_id
     → acts (settings_kept ds) last text ≡ acts (settings_of w) w.last_id text
 acts-same k ds last w text h d l =
     ap₂ (λ cs i. acts cs i text)

@@ -32,6 +32,7 @@ event_end = 2 ^ 60
 abbrev pub refusal_of : PushFault → Refusal
 refusal_of push.BadDuration = refused.BadDuration
 refusal_of push.TooLong = refused.TooLong
+refusal_of push.OpenSegment = refused.OpenSegment
 refusal_of push.CountEnd = refused.CountEnd
 refusal_of push.TimeEnd = refused.TimeEnd
 refusal_of push.Memory = refused.Memory

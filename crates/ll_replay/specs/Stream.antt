@@ -1,12 +1,14 @@
 -- A script as a stream of bytes. Its lines end in LF or CR LF; the last end may be missing.
-use Rattle.std.specs.Prelude.{◌≡◌, ℕ, ◌==◌, List, [], ◌∷◌, ◌++◌, Option, Some, None, option_map, fold, ⊤}
+use Rattle.std.specs.Prelude.{◌≡◌, ◌≢◌, ◌≤◌, ℕ, ◌==◌, List, [], ◌∷◌, ◌++◌, Option, Some, None, option_map, fold, length, IsOk, ⊤}
 use Rattle.std.specs.List.{slice_split}
 use Rattle.std.specs.Str.Lines.{lines, strip_carriage_return}
+use Rattle.ll_item.specs.Settings.{settings_in}
 use Rattle.ll_replay.specs.declared.outcome.RunFault.{RunFault}
 use Rattle.ll_replay.specs.declared.outcome.RunFault.TheVariants as fault
 use Rattle.ll_replay.specs.declared.outcome.Summary.{Summary}
 use Rattle.ll_replay.specs.Kept.{Kept, Stands}
-use Rattle.ll_replay.specs.World.{World, Ending, BadLine, LineTooLong, start, line, summary_of}
+use Rattle.ll_replay.specs.Lines.{acts}
+use Rattle.ll_replay.specs.World.{World, Ending, BadLine, LineTooLong, start, line, line_end, settings_of, summary_of}
 
 -- what a script comes to
 abbrev pub world_of : List ℕ → World
@@ -60,6 +62,23 @@ EndsBy ending base written input = ((world_of input).ending ≡ Some ending) × 
 abbrev pub StopsAfter : (before after base written : Option (List ℕ)) → Type 0
 StopsAfter before after base written =
     (bytes : List ℕ) × (before ≡ option_map (λ rest. bytes ++ rest) after) × Wrote base written (world_so_far bytes).text
+
+-- a line that may want memory: it isn't too long, and it means something, or else it spells settings (which take memory
+-- before their place is looked at)
+abbrev pub MayWant : World → List ℕ → Type 0
+MayWant w text = (length text ≤ line_end) × (acts (settings_of w) w.last_id text ≡ None → IsOk (settings_in text))
+
+-- what may want memory where these bytes of a line were read: the next byte, or the line, if it ends here
+abbrev pub WantsAt : World → (held left : List ℕ) → Type 0
+WantsAt w held [] = MayWant w held
+WantsAt w held (b ∷ more) = (b ≢ 10 → length held ≤ line_end) × (b ≡ 10 → MayWant w (strip_carriage_return held))
+
+-- a run stopped at a line for want of memory: no line before it ends the script, and all that was written since base are the
+-- answers to those lines
+abbrev pub StopsForMemory : Option (List ℕ) → Option (List ℕ) → List ℕ → Type 0
+StopsForMemory base written input =
+    (bytes : List ℕ) × (left : List ℕ) × (input ≡ bytes ++ left) × ((world_so_far bytes).ending ≡ None)
+    × Wrote base written (world_so_far bytes).text × WantsAt (world_so_far bytes) (open_line bytes) left
 
 -- what a fault says of a script that comes to w
 abbrev pub IsCutAt : Option (List ℕ) → Option (List ℕ) → World → RunFault → Type 0

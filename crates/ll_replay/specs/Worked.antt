@@ -21,6 +21,8 @@ empty_playlist =
 abbrev pub segment_playlist : List ℕ
 segment_playlist =
     empty_playlist
+    ++ codes "#EXT-X-MAP:URI=\"init0.mp4\"\n"
+    ++ codes "#EXT-X-PROGRAM-DATE-TIME:1970-01-01T00:00:00.000Z\n"
     ++ codes "#EXT-X-PART:DURATION=1.000000,URI=\"s0.0.m4s\",INDEPENDENT=YES\n"
     ++ codes "#EXTINF:1.000000,\n"
     ++ codes "s0.m4s\n"
@@ -31,7 +33,8 @@ asked_at_once = channel_line ++ codes "get 1 /cam/hi/live.m3u8\n"
 abbrev pub asked_later : List ℕ
 asked_later = channel_line ++ codes "pub cam part hi 1000000 if\n" ++ codes "get 1 /cam/hi/live.m3u8\n"
 
--- a comment, an empty line that ends in CR LF, five refusals, one of them of a line that is no UTF-8, and an item without a last end
+-- a comment, an empty line that ends in CR LF, six refusals, one of them of a line that is no UTF-8, a break, and an item without
+-- a last end
 abbrev pub refused_lines : List ℕ
 refused_lines =
     codes "# a camera\n\r\n"
@@ -41,6 +44,9 @@ refused_lines =
     ++ codes "pub cam part lo 1000000 if\r\n"
     ++ codes "pub two part hi 1000000 if\n"
     ++ codes "pub cam part hi 1000000 " ++ 255 ∷ codes "\n"
+    ++ codes "pub cam break hi\n"
+    ++ codes "pub cam part hi 1000000 -\n"
+    ++ codes "pub cam break hi\n"
     ++ codes "pub cam part hi 1000000 -"
 
 abbrev pub refusals_text : List ℕ
@@ -51,6 +57,9 @@ refusals_text =
     ++ codes "no 14 UnknownChannel\n"
     ++ codes "no 13 BadLine\n"
     ++ codes "ok 1\n"
+    ++ codes "ok 2\n"
+    ++ codes "no 5 OpenSegment\n"
+    ++ codes "ok 3\n"
 
 -- the second number of a request does not rise
 abbrev pub same_number : List ℕ
@@ -58,7 +67,7 @@ same_number = asked_at_once ++ codes "get 1 /cam/hi/live.m3u8\n" ++ codes "pub c
 
 pub record WorkedScript : Type 0 where
   pub at_once : script asked_at_once ≡ codes "reply 1 200 234\n" ++ empty_playlist
-  pub later : script asked_later ≡ codes "ok 1\n" ++ codes "reply 1 200 320\n" ++ segment_playlist
+  pub later : script asked_later ≡ codes "ok 1\n" ++ codes "reply 1 200 397\n" ++ segment_playlist
   pub refusals : script refused_lines ≡ refusals_text
   pub same_text : script same_number ≡ codes "reply 1 200 234\n" ++ empty_playlist
   pub same_ending : (world_of same_number).ending ≡ Some (BadLine 3)

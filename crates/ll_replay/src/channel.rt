@@ -47,6 +47,7 @@ impl From<PushFault> for Refusal {
         match fault {
             PushFault::BadDuration => Refusal::BadDuration,
             PushFault::TooLong => Refusal::TooLong,
+            PushFault::OpenSegment => Refusal::OpenSegment,
             PushFault::CountEnd => Refusal::CountEnd,
             PushFault::TimeEnd => Refusal::TimeEnd,
             PushFault::Memory => Refusal::Memory,

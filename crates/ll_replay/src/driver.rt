@@ -99,6 +99,7 @@ impl Driver {
             → WroteFront base (W.written writer.new) (line w text.now).text }
         ensures memory_line { IsErrOf result RunFault.Memory → (length text.now ≤ 65536)
             × (acts (settings_kept self.old.channels) self.old.last_id text.now ≡ None → IsOk (settings_in text.now)) }
+        ensures silent { IsErrOf result RunFault.Memory → W.written writer.new ≡ W.written writer.old }
         ensures not_read { result ≢ Err RunFault.Read }
         ensures not_endless { result ≢ Err RunFault.Endless }
         ensures steady { OnOk result (W.failures writer.new ≡ W.failures writer.old) }
@@ -125,6 +126,7 @@ impl Driver {
         ensures cut { IfErr result (λ f. (w : World) (base : Option (List ℕ)) → Stands self.old base (W.written writer.old) w
             → IsBroken base (W.written writer.new) (world.act w act).text f) }
         ensures kind { IfErr result IsDevice }
+        ensures silent { IsErrOf result RunFault.Memory → W.written writer.new ≡ W.written writer.old }
         ensures steady { OnOk result (W.failures writer.new ≡ W.failures writer.old) }
         ensures write_failed { IsErrOf result RunFault.Write → W.failures writer.old < W.failures writer.new }
     {

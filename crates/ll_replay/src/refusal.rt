@@ -10,6 +10,8 @@ pub enum Refusal {
     BadDuration,
     /// A part longer than the part target, or whose segment rounds to more than the target duration.
     TooLong,
+    /// A break inside a segment.
+    OpenSegment,
     /// A part of a segment whose media sequence number is past 2^60.
     CountEnd,
     /// A part that ends past the year 9999.
@@ -33,6 +35,7 @@ impl Refusal {
             Refusal::NoRendition => 1,
             Refusal::BadDuration => 3,
             Refusal::TooLong => 4,
+            Refusal::OpenSegment => 5,
             Refusal::CountEnd => 6,
             Refusal::TimeEnd => 7,
             Refusal::RecordFull => 11,
@@ -50,6 +53,7 @@ impl Refusal {
             Refusal::NoRendition => "NoRendition",
             Refusal::BadDuration => "BadDuration",
             Refusal::TooLong => "TooLong",
+            Refusal::OpenSegment => "OpenSegment",
             Refusal::CountEnd => "CountEnd",
             Refusal::TimeEnd => "TimeEnd",
             Refusal::RecordFull => "RecordFull",

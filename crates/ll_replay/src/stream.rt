@@ -1,7 +1,7 @@
 ghost use Rattle.std.specs.Prelude.{◌≡◌, ◌<◌, ◌≤◌, ◌+◌, ◌-◌, ◌^◌, ◌++◌, [], ◌∷◌, ℕ, List, Option, Some, Err, ◌≢◌, IfOk, IfErr, OnOk, IsErrOf, length, vec_len};
 ghost use Rattle.std.specs.Str.Lines.{strip_carriage_return};
 ghost use Rattle.ll_replay.specs.World as world;
-ghost use Rattle.ll_replay.specs.Stream.{StandsFor, IsCutAt, IsWhole, EndsBy, StopsAfter, WroteFront, script, world_of};
+ghost use Rattle.ll_replay.specs.Stream.{StandsFor, IsCutAt, IsWhole, EndsBy, StopsAfter, StopsForMemory, WroteFront, script, world_of};
 
 use crate::device::{Reader, Writer};
 use crate::driver::Driver;
@@ -82,6 +82,9 @@ impl Stream {
         ensures cut { IfErr result (λ fault. (bytes : List ℕ) (base : Option (List ℕ))
             → StandsFor self.old.line.items self.old.driver base (W.written writer.old) bytes
             → (more : List ℕ) → IsCutAt base (W.written writer.new) (world_of (bytes ++ b ∷ more)) fault) }
+        ensures memory { IsErrOf result RunFault.Memory → (bytes : List ℕ) (base : Option (List ℕ))
+            → StandsFor self.old.line.items self.old.driver base (W.written writer.old) bytes
+            → (more : List ℕ) → StopsForMemory base (W.written writer.new) (bytes ++ b ∷ more) }
         ensures steady { OnOk result (W.failures writer.new ≡ W.failures writer.old) }
         ensures write_failed { IsErrOf result RunFault.Write → W.failures writer.old < W.failures writer.new }
     {
@@ -104,6 +107,9 @@ impl Stream {
         ensures cut { IfErr result (λ fault. (bytes : List ℕ) (base : Option (List ℕ))
             → StandsFor self.old.line.items self.old.driver base (W.written writer.old) bytes
             → (more : List ℕ) → IsCutAt base (W.written writer.new) (world_of (bytes ++ (piece.now ++ more))) fault) }
+        ensures memory { IsErrOf result RunFault.Memory → (bytes : List ℕ) (base : Option (List ℕ))
+            → StandsFor self.old.line.items self.old.driver base (W.written writer.old) bytes
+            → (more : List ℕ) → StopsForMemory base (W.written writer.new) (bytes ++ (piece.now ++ more)) }
         ensures steady { OnOk result (W.failures writer.new ≡ W.failures writer.old) }
         ensures write_failed { IsErrOf result RunFault.Write → W.failures writer.old < W.failures writer.new }
     {
@@ -122,6 +128,9 @@ impl Stream {
         ensures cut { IfErr result (λ fault. (bytes : List ℕ) (base : Option (List ℕ))
             → StandsFor self.old.line.items self.old.driver base (W.written writer.old) bytes
             → IsCutAt base (W.written writer.new) (world_of bytes) fault) }
+        ensures memory { IsErrOf result RunFault.Memory → (bytes : List ℕ) (base : Option (List ℕ))
+            → StandsFor self.old.line.items self.old.driver base (W.written writer.old) bytes
+            → StopsForMemory base (W.written writer.new) bytes }
         ensures steady { OnOk result (W.failures writer.new ≡ W.failures writer.old) }
         ensures write_failed { IsErrOf result RunFault.Write → W.failures writer.old < W.failures writer.new }
     {
@@ -147,6 +156,8 @@ pub fn run<R: Reader, W: Writer>(
         → WroteFront (W.written writer.old) (W.written writer.new) (script input) }
     ensures cut_by_memory { (input : List ℕ) → R.left reader.old ≡ Some input → IsErrOf result RunFault.Memory
         → WroteFront (W.written writer.old) (W.written writer.new) (script input) }
+    ensures memory_last { (input : List ℕ) → R.left reader.old ≡ Some input → IsErrOf result RunFault.Memory
+        → StopsForMemory (W.written writer.old) (W.written writer.new) input }
     ensures stopped_by_read { IsErrOf result RunFault.Read
         → StopsAfter (R.left reader.old) (R.left reader.new) (W.written writer.old) (W.written writer.new) }
     ensures stopped_by_endless { IsErrOf result RunFault.Endless

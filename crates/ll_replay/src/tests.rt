@@ -17,28 +17,23 @@ const CHANNEL: &[u8] =
 const ONE_SEGMENT: &[u8] = b"pub cam part hi 1000000 if\nget 1 /cam/hi/live.m3u8\n";
 
 const ONE_SEGMENT_TEXT: &[u8] =
-    b"ok 1\nreply 1 200 320\n#EXTM3U\n#EXT-X-VERSION:9\n#EXT-X-TARGETDURATION:4\n\
+    b"ok 1\nreply 1 200 397\n#EXTM3U\n#EXT-X-VERSION:9\n#EXT-X-TARGETDURATION:4\n\
 #EXT-X-SERVER-CONTROL:CAN-BLOCK-RELOAD=YES,PART-HOLD-BACK=3.000000,CAN-SKIP-UNTIL=24.000000\n\
 #EXT-X-PART-INF:PART-TARGET=1.000000\n#EXT-X-MEDIA-SEQUENCE:0\n#EXT-X-DISCONTINUITY-SEQUENCE:0\n\
+#EXT-X-MAP:URI=\"init0.mp4\"\n#EXT-X-PROGRAM-DATE-TIME:1970-01-01T00:00:00.000Z\n\
 #EXT-X-PART:DURATION=1.000000,URI=\"s0.0.m4s\",INDEPENDENT=YES\n#EXTINF:1.000000,\ns0.m4s\n";
 
-/// A request for the playlist of a channel with no item.
-const NO_ITEM: &[u8] = b"get 1 /cam/hi/live.m3u8\n";
+/// Items and breaks, of which two are accepted.
+const BREAKS: &[u8] =
+    b"pub cam break hi\npub cam part hi 1 i\npub cam break hi\npub cam break lo\n";
 
-const NO_ITEM_TEXT: &[u8] = b"reply 1 200 234\n#EXTM3U\n#EXT-X-VERSION:9\n#EXT-X-TARGETDURATION:4\n\
-#EXT-X-SERVER-CONTROL:CAN-BLOCK-RELOAD=YES,PART-HOLD-BACK=3.000000,CAN-SKIP-UNTIL=24.000000\n\
-#EXT-X-PART-INF:PART-TARGET=1.000000\n#EXT-X-MEDIA-SEQUENCE:0\n#EXT-X-DISCONTINUITY-SEQUENCE:0\n";
+const BREAKS_TEXT: &[u8] = b"ok 1\nok 2\nno 5 OpenSegment\nno 1 NoRendition\n";
 
 /// All bytes at once.
 const WHOLE: Device = Device {
     step: 100_000,
     times: 1_000,
 };
-
-const NOTHING: Result<Summary, RunFault> = Ok(Summary {
-    events: 0,
-    replies: 0,
-});
 
 /// Bytes that are read so many at a time, until a read fails.
 #[derive(Drop)]
@@ -166,12 +161,13 @@ fn behind_channel(alloc: Global, lines: &[u8]) -> Result<Vec<u8>, AllocError> {
 }
 
 #[test]
-fn playlists_come_in_any_pieces(rt: HostRuntime) -> Result<(), AllocError> {
-    let cases: [(&[u8], u64, &[u8]); 2] = [
-        (ONE_SEGMENT, 2, ONE_SEGMENT_TEXT),
-        (NO_ITEM, 1, NO_ITEM_TEXT),
+fn answers_come_in_any_pieces(rt: HostRuntime) -> Result<(), AllocError> {
+    let cases: [(&[u8], u64, u64, &[u8]); 3] = [
+        (b"", 0, 0, b""),
+        (ONE_SEGMENT, 2, 1, ONE_SEGMENT_TEXT),
+        (BREAKS, 2, 0, BREAKS_TEXT),
     ];
-    for (lines, events, text) in cases {
+    for (lines, events, replies, text) in cases {
         let script = behind_channel(rt.alloc(), lines)?;
         for step in [1, 2, 3, 7, 64, 100_000] {
             for taken in [1, 1_000] {
@@ -181,7 +177,7 @@ fn playlists_come_in_any_pieces(rt: HostRuntime) -> Result<(), AllocError> {
                     times: 1_000,
                 };
                 let ran = run_with(rt.alloc(), &script, from, to);
-                assert_eq!(rt; ran.result, Ok(Summary { events, replies: 1 }));
+                assert_eq!(rt; ran.result, Ok(Summary { events, replies }));
                 assert_eq!(rt; ran.text.as_slice(), text);
             }
         }
@@ -228,176 +224,12 @@ fn failed_writes_stop_a_run(rt: HostRuntime) -> Result<(), AllocError> {
 }
 
 #[test]
-fn publishers_lines_are_answered(rt: HostRuntime) -> Result<(), AllocError> {
-    let cases: [(&[u8], u64, &[u8]); 15] = [
-        (b"", 0, b""),
-        (b"pub cam part hi 1000000 -", 1, b"ok 1\n"),
-        (
-            b"pub cam part hi 1 i\r\npub cam part hi 1 f\r\n",
-            2,
-            b"ok 1\nok 2\n",
-        ),
-        (
-            b"pub cam part hi 0 if\npub cam part hi 1 f\n",
-            1,
-            b"no 3 BadDuration\nok 1\n",
-        ),
-        (b"pub cam part hi 1000001 if\n", 0, b"no 4 TooLong\n"),
-        (b"pub cam part lo 1000000 if\n", 0, b"no 1 NoRendition\n"),
-        (
-            b"pub two part hi 1000000 if\n",
-            0,
-            b"no 14 UnknownChannel\n",
-        ),
-        (b"pub ca part hi 1000000 if\n", 0, b"no 14 UnknownChannel\n"),
-        (b"pub \n", 0, b"no 13 BadLine\n"),
-        (b"pub cam\n", 0, b"no 13 BadLine\n"),
-        (b"pub cam part hi 1000000 fi\n", 0, b"no 13 BadLine\n"),
-        (b"pub cam part hi 1000000 \xff\n", 0, b"no 13 BadLine\n"),
-        (b"pub \xc3\n", 0, b"no 13 BadLine\n"),
-        (b"# \xff\n\n\r\n#pub cam part hi 1 f\n", 0, b""),
-        (b"pub cam part hi 1 f\r", 0, b"no 13 BadLine\n"),
-    ];
-    for (lines, events, text) in cases {
-        let script = behind_channel(rt.alloc(), lines)?;
-        let ran = run_with(rt.alloc(), &script, WHOLE, WHOLE);
-        assert_eq!(rt; ran.result, Ok(Summary { events, replies: 0 }));
-        assert_eq!(rt; ran.text.as_slice(), text);
-    }
-    Ok(())
-}
-
-#[test]
-fn bad_requests_end_a_script(rt: HostRuntime) -> Result<(), AllocError> {
-    let cases: [(&[u8], u64, &[u8]); 9] = [
-        (b"get 1 /two/hi/live.m3u8\n", 2, b""),
-        (b"get 1 /cam/lo/live.m3u8\n", 2, b""),
-        (b"get 1 /cam/hi/live.m3u\n", 2, b""),
-        (b"get 1 cam/hi/live.m3u8\n", 2, b""),
-        (b"get 1 /cam/hi/live.m3u8 \n", 2, b""),
-        (b"get 1000000000 /cam/hi/live.m3u8\n", 2, b""),
-        (b"get \xff\n", 2, b""),
-        (
-            b"get 1 /cam/hi/live.m3u8\nget 1 /cam/hi/live.m3u8\n",
-            3,
-            NO_ITEM_TEXT,
-        ),
-        (
-            b"get 1 /cam/hi/live.m3u8\r\nget 0 /cam/hi/live.m3u8",
-            3,
-            NO_ITEM_TEXT,
-        ),
-    ];
-    for (lines, line, text) in cases {
-        let script = behind_channel(rt.alloc(), lines)?;
-        let ran = run_with(rt.alloc(), &script, WHOLE, WHOLE);
-        assert_eq!(rt; ran.result, Err(RunFault::BadLine { line }));
-        assert_eq!(rt; ran.text.as_slice(), text);
-    }
-    Ok(())
-}
-
-#[test]
-fn bad_lines_end_a_script(rt: HostRuntime) -> Result<(), AllocError> {
-    let cases: [(&[u8], u64, &[u8]); 8] = [
-        (
-            b"pub cam part hi 1 f\n# one\n\nget x\npub cam part hi 1 f\n",
-            5,
-            b"ok 1\n",
-        ),
-        (b"pub\n", 2, b""),
-        (b" \n", 2, b""),
-        (b"\xff\n", 2, b""),
-        (CHANNEL, 2, b""),
-        (
-            b"channel cam target=2 part=500000 skip=12 window=18 renditions=lo first=0 start=0\n",
-            2,
-            b"",
-        ),
-        (
-            b"channel two target=4 part=1000000 skip=24 window=36 renditions=hi,hi first=0 start=0\n",
-            2,
-            b"",
-        ),
-        (
-            b"channel two target=4 part=1000000 skip=24 window=36 renditions=lo,hi first=0 start=0\n",
-            2,
-            b"",
-        ),
-    ];
-    for (lines, line, text) in cases {
-        let script = behind_channel(rt.alloc(), lines)?;
-        let ran = run_with(rt.alloc(), &script, WHOLE, WHOLE);
-        assert_eq!(rt; ran.result, Err(RunFault::BadLine { line }));
-        assert_eq!(rt; ran.text.as_slice(), text);
-    }
-    Ok(())
-}
-
-#[test]
-fn channels_go_their_own_ways(rt: HostRuntime) -> Result<(), AllocError> {
-    // the segment of `two` has the last number, and ends with the last microsecond of the year 9999
-    let lines =
-        b"channel two target=4 part=1000000 skip=24 window=36 renditions=lo first=1152921504606846976 start=253402300799000\n\
-pub two part lo 999999 f\npub two part lo 1 f\npub cam part lo 1 f\npub two part hi 1 f\n\
-channel end target=4 part=1000000 skip=24 window=36 renditions=hi first=0 start=253402300799000\n\
-pub end part hi 1000000 if\npub cam part hi 1000000 if\nget 1 /cam/hi/live.m3u8\n";
-    let mut text = Vec::new(rt.alloc());
-    text.extend_from_slice(
-        b"ok 1\nno 6 CountEnd\nno 1 NoRendition\nno 1 NoRendition\nno 7 TimeEnd\n",
-    )?;
-    text.extend_from_slice(ONE_SEGMENT_TEXT)?;
-    let script = behind_channel(rt.alloc(), lines)?;
-    let ran = run_with(rt.alloc(), &script, WHOLE, WHOLE);
-    assert_eq!(rt;
-        ran.result,
-        Ok(Summary {
-            events: 3,
-            replies: 1
-        })
-    );
-    assert_eq!(rt; ran.text.as_slice(), text.as_slice());
-    Ok(())
-}
-
-/// A comment of so many bytes, and then these.
-fn comment(alloc: Global, length: usize, end: &[u8]) -> Result<Vec<u8>, AllocError> {
-    let mut line = vec![in alloc; b'#'; length]?;
-    line.extend_from_slice(end)?;
-    Ok(line)
-}
-
-#[test]
-fn lines_are_never_too_long(rt: HostRuntime) -> Result<(), AllocError> {
-    let too_long = Err(RunFault::LineTooLong { line: 1 });
-    let cases: [(usize, &[u8], Result<Summary, RunFault>); 9] = [
-        (65_536, b"\n", NOTHING),
-        (65_536, b"\r\n", NOTHING),
-        (65_536, b"", NOTHING),
-        (65_537, b"\n", too_long),
-        (65_537, b"\r\n", too_long),
-        (65_537, b"", too_long),
-        (65_536, b"\r", too_long),
-        (65_536, b"\r\r\n", too_long),
-        (65_536, b"\nx\n", Err(RunFault::BadLine { line: 2 })),
-    ];
-    for (length, end, result) in cases {
-        let script = comment(rt.alloc(), length, end)?;
-        for step in [1_000, 65_536, 100_000] {
-            let ran = run_with(rt.alloc(), &script, Device { step, times: 1_000 }, WHOLE);
-            assert_eq!(rt; ran.result, result);
-            assert_eq!(rt; ran.text.len(), 0);
-        }
-    }
-    Ok(())
-}
-
-#[test]
 fn refusals_have_codes_and_names(rt: HostRuntime) {
     let cases = [
         (Refusal::NoRendition, 1, "NoRendition"),
         (Refusal::BadDuration, 3, "BadDuration"),
         (Refusal::TooLong, 4, "TooLong"),
+        (Refusal::OpenSegment, 5, "OpenSegment"),
         (Refusal::CountEnd, 6, "CountEnd"),
         (Refusal::TimeEnd, 7, "TimeEnd"),
         (Refusal::RecordFull, 11, "RecordFull"),

@@ -1,3 +1,7 @@
+pub mod KeptLemmas
 pub mod NumberLemmas
+pub mod ReaderLemmas
 pub mod SplitLemmas
 pub mod StepLemmas
+pub mod SuffixLemmas
+pub mod WindowLemmas

@@ -2,8 +2,8 @@
 use Rattle.std.proofs.Common.{◌≡◌, ℕ, ◌+◌, List, [], ◌∷◌, ◌++◌, Bool, true, false, refl, ap, sym, ◌∙◌, cond}
 use Rattle.ll_window.specs.declared.part.Part.{Part}
 use Rattle.ll_window.specs.Numbers.{NumberedPart, numbered_parts, placed, placed_rows, number_after, NumbersLaw}
-use Rattle.ll_window.specs.Rows.{rows}
-use Rattle.ll_window.specs.Segments.{split, put_by}
+use Rattle.ll_window.specs.Rows.{rows, one_if, is_broken}
+use Rattle.ll_window.specs.Segments.{split, put_by, duration}
 
 -- segments of which the first begins at this index, and then the open one
 abbrev laid : ℕ → ℕ → List (List Part) → List Part → List NumberedPart
@@ -28,9 +28,11 @@ by_places number index (p ∷ ps) =
     ∙ ap (λ more. numbered number index p ∷ cond p.finish (laid (number + 1) 0 (split ps).finished (split ps).unfinished) more) (by_places number (index + 1) ps)
     ∙ laid-put p.finish number index p (split ps).finished (split ps).unfinished
 
-laid-rows : (number : ℕ) (gs : List (List Part)) (rest : List Part) → placed_rows (rows number gs) (number_after number gs) rest ≡ laid number 0 gs rest
-laid-rows number [] rest = refl
-laid-rows number (g ∷ gs) rest = ap (λ more. placed number 0 g ++ more) (laid-rows (number + 1) gs rest)
+laid-rows : (number maps time : ℕ) (gs : List (List Part)) (rest : List Part)
+    → placed_rows (rows number maps time gs) (number_after number gs) rest ≡ laid number 0 gs rest
+laid-rows number maps time [] rest = refl
+laid-rows number maps time (g ∷ gs) rest =
+    ap (λ more. placed number 0 g ++ more) (laid-rows (number + 1) (maps + one_if (is_broken g)) (time + duration g) gs rest)
 
 pub numbers-law : NumbersLaw
-numbers-law first ps = laid-rows first (split ps).finished (split ps).unfinished ∙ sym (by_places first 0 ps)
+numbers-law first maps time ps = laid-rows first maps time (split ps).finished (split ps).unfinished ∙ sym (by_places first 0 ps)

@@ -1,10 +1,11 @@
 -- What of all items of a rendition is still needed.
-use Rattle.std.specs.Prelude.{ℕ, ◌+◌, List, [], ◌∷◌, length}
+use Rattle.std.specs.Prelude.{ℕ, ◌+◌, ◌*◌, List, [], ◌∷◌, Bool, false, Option, Some, None, length}
 use Rattle.ll_item.specs.Settings.{Configuration}
 use Rattle.ll_item.specs.declared.item.Item.{Item}
 use Rattle.ll_window.specs.declared.part.Part.{Part}
-use Rattle.ll_window.specs.Rows.{Row, rows}
-use Rattle.ll_window.specs.Segments.{own, segments, open_segment, end_time}
+use Rattle.ll_window.specs.Rows.{Row, row, rows, lasting, broken_in}
+use Rattle.ll_window.specs.Segments.{own, segments, open_segment, duration, end_time, pending_after}
+use Rattle.ll_window.specs.Window.{window_limit, near_limit, gone, window, listed}
 
 pub record Compact : Type 0 where
   pub settings : Configuration
@@ -13,18 +14,42 @@ pub record Compact : Type 0 where
   pub open_parts : List Part
   -- the media sequence number of the open segment, or of the next where none is open
   pub next_number : ℕ
+  -- how many finished segments are broken from the one before
+  pub maps : ℕ
+  -- when the open segment begins, or the next where none is open: microseconds since 1970-01-01T00:00:00Z
+  pub open_time : ℕ
   -- microseconds
   pub end_time : ℕ
+  -- whether a break stands behind the last part
+  pub pending : Bool
+  -- how many broken segments have left the window (section 4.4.3.3)
+  pub discontinuity : ℕ
+
+-- all finished segments
+abbrev pub all_rows : Configuration → List Item → List Row
+all_rows c items = rows c.first 0 (c.start * 1000) (segments items)
 
 -- of all items of one rendition
 abbrev pub compact : Configuration → List Item → Compact
 compact c items = record {
   settings = c;
-  window = rows c.first (segments items);
+  window = listed (near_limit c) (duration (open_segment items)) (window (window_limit c) (all_rows c items));
   open_parts = open_segment items;
   next_number = c.first + length (segments items);
+  maps = broken_in (all_rows c items);
+  open_time = c.start * 1000 + lasting (all_rows c items);
   end_time = end_time items;
+  pending = pending_after false items;
+  discontinuity = broken_in (gone (window_limit c) (all_rows c items));
 }
+
+-- the open segment, where it has a part
+abbrev pub open_row : ℕ → ℕ → ℕ → List Part → Option Row
+open_row number maps time [] = None
+open_row number maps time (p ∷ ps) = Some (row number maps time (p ∷ ps))
+
+abbrev pub unfinished : Compact → Option Row
+unfinished k = open_row k.next_number k.maps k.open_time k.open_parts
 
 abbrev pub compacts_from : Configuration → List Item → ℕ → List (List ℕ) → List Compact
 compacts_from c items rendition [] = []

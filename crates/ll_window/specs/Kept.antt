@@ -1,12 +1,25 @@
 -- What a window keeps beside its value.
-use Rattle.std.specs.Prelude.{◌≡◌, ℕ, ◌+◌, ◌*◌, ◌≤◌, List}
+use Rattle.std.specs.Prelude.{◌≡◌, ℕ, ◌+◌, ◌*◌, ◌≤◌, List, [], ◌∷◌}
 use Rattle.ll_item.specs.Settings.{Configuration, number_end, last_micro}
 use Rattle.ll_window.specs.declared.part.Part.{Part}
+use Rattle.ll_window.specs.declared.progress.Progress.{Progress}
+use Rattle.ll_window.specs.declared.finished.Finished.{Finished}
+use Rattle.ll_window.specs.Rows.{Row, lasting, broken_in}
 use Rattle.ll_window.specs.Segments.{duration}
 
--- the open segment's duration is kept, and numbers and times have not passed their ends
-pub record IsKept (c : Configuration) (open_parts : List Part) (open_duration next_number end_time : ℕ) : Type 0 where
-  pub lasts : open_duration ≡ duration open_parts
-  pub within : open_duration ≤ end_time
-  pub numbers : next_number ≤ number_end + 1
-  pub times : c.start * 1000 + end_time ≤ last_micro
+-- each of these segments ends so long before this time as those behind it last
+abbrev pub AreTimed : List Row → ℕ → Type 0
+AreTimed [] time = Unit
+AreTimed (r ∷ rs) time = (r.segment.time + r.segment.duration + lasting rs ≡ time) × AreTimed rs time
+
+-- sums are kept, and numbers and times have not passed their ends
+pub record IsKept (c : Configuration) (f : Finished) (open_parts : List Part) (p : Progress) : Type 0 where
+  pub sum : f.lasting ≡ lasting f.rows.items
+  pub lasts : p.open_duration ≡ duration open_parts
+  pub ends : c.start * 1000 + p.end_time ≡ p.open_time + p.open_duration
+  pub timed : AreTimed f.rows.items p.open_time
+  pub within : lasting f.rows.items ≤ p.open_time
+  pub breaks : f.discontinuity + broken_in f.rows.items ≡ p.maps
+  pub few_maps : p.maps ≤ p.next_number
+  pub numbers : p.next_number ≤ number_end + 1
+  pub times : c.start * 1000 + p.end_time ≤ last_micro

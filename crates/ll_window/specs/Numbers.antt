@@ -24,7 +24,7 @@ placed number index (p ∷ ps) = (record { number = number; index = index; part 
 -- the parts of these rows and then of the open segment, with their places
 abbrev pub placed_rows : List Row → ℕ → List Part → List NumberedPart
 placed_rows [] next open_parts = placed next 0 open_parts
-placed_rows (row ∷ more) next open_parts = placed row.number 0 row.parts ++ placed_rows more next open_parts
+placed_rows (row ∷ more) next open_parts = placed row.segment.number 0 row.parts ++ placed_rows more next open_parts
 
 -- the number behind these segments
 abbrev pub number_after : ℕ → List (List Part) → ℕ
@@ -33,5 +33,5 @@ number_after number (segment ∷ segments) = number_after (number + 1) segments
 
 -- The segments' numbers and the parts' places in them are the numbers and indexes that the parts have one by one.
 abbrev pub NumbersLaw : Type 0
-NumbersLaw = (first : ℕ) (ps : List Part)
-    → placed_rows (rows first (split ps).finished) (number_after first (split ps).finished) (split ps).unfinished ≡ numbered_parts first 0 ps
+NumbersLaw = (first maps time : ℕ) (ps : List Part)
+    → placed_rows (rows first maps time (split ps).finished) (number_after first (split ps).finished) (split ps).unfinished ≡ numbered_parts first 0 ps

@@ -1,10 +1,11 @@
 -- Which items may follow.
-use Rattle.std.specs.Prelude.{ℕ, ◌+◌, ◌*◌, ◌/◌, ◌||◌, ◌==◌, List, length, nat_lt, Option, Some, None, if◌then◌else◌}
+use Rattle.std.specs.Prelude.{ℕ, ◌+◌, ◌*◌, ◌/◌, ◌||◌, ◌==◌, List, [], ◌∷◌, length, nat_lt, Option, Some, None, if◌then◌else◌}
 use Rattle.ll_item.specs.Settings.{Configuration, number_end, last_micro}
 use Rattle.ll_item.specs.declared.item.Item.{Item}
 use Rattle.ll_item.specs.declared.item.Item.TheVariants as item
+use Rattle.ll_window.specs.declared.part.Part.{Part}
 use Rattle.ll_window.specs.declared.window.PushFault.{PushFault}
-use Rattle.ll_window.specs.declared.window.PushFault.TheVariants.{BadDuration, TooLong, CountEnd, TimeEnd}
+use Rattle.ll_window.specs.declared.window.PushFault.TheVariants.{BadDuration, TooLong, OpenSegment, CountEnd, TimeEnd}
 use Rattle.ll_window.specs.Segments.{segments, open_segment, duration, end_time}
 
 -- microseconds as the nearest whole seconds, half upwards
@@ -21,7 +22,13 @@ part_refusal c number lasts ends micros =
     else if nat_lt last_micro (c.start * 1000 + ends + micros) then Some TimeEnd
     else None
 
+-- why a break may not follow these parts of the open segment: it has one
+abbrev pub break_refusal : List Part → Option PushFault
+break_refusal [] = None
+break_refusal (p ∷ ps) = Some OpenSegment
+
 -- the first reason for which an item may not follow these items of its rendition, or none
 abbrev pub refusal : Configuration → List Item → Item → Option PushFault
 refusal c before (item.Part rendition micros independent finish) =
     part_refusal c (c.first + length (segments before)) (duration (open_segment before)) (end_time before) micros
+refusal c before (item.Break rendition) = break_refusal (open_segment before)

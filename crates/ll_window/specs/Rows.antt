@@ -1,17 +1,47 @@
 -- What is told of each finished segment.
-use Rattle.std.specs.Prelude.{ℕ, ◌+◌, List, [], ◌∷◌}
+use Rattle.std.specs.Prelude.{ℕ, ◌+◌, List, [], ◌∷◌, Bool, true, false, sum_by}
 use Rattle.ll_window.specs.declared.part.Part.{Part}
+use Rattle.ll_window.specs.declared.segment.Segment.{Segment}
 use Rattle.ll_window.specs.Segments.{duration}
 
 pub record Row : Type 0 where
-  -- media sequence number
-  pub number : ℕ
-  -- microseconds
-  pub duration : ℕ
+  pub segment : Segment
   -- the parts that are listed
   pub parts : List Part
 
--- one row for each segment; the first has this media sequence number, each next one more (section 4.4.3.2)
-abbrev pub rows : ℕ → List (List Part) → List Row
-rows number [] = []
-rows number (segment ∷ segments) = (record { number = number; duration = duration segment; parts = segment }) ∷ rows (number + 1) segments
+-- a segment is broken from the one before where a break stands before its first part (section 4.4.4.3)
+abbrev pub is_broken : List Part → Bool
+is_broken [] = false
+is_broken (p ∷ ps) = p.after_break
+
+abbrev pub one_if : Bool → ℕ
+one_if true = 1
+one_if false = 0
+
+-- the segment of this media sequence number, behind so many broken ones, which begins at this time
+abbrev pub row : ℕ → ℕ → ℕ → List Part → Row
+row number maps time ps = record {
+  segment = record {
+    number = number;
+    broken = is_broken ps;
+    map_number = maps + one_if (is_broken ps);
+    time = time;
+    duration = duration ps;
+  };
+  parts = ps;
+}
+
+-- one row for each segment, the first behind so many broken ones: each number is one more than the last (section 4.4.3.2),
+-- each segment begins when the last one ends
+abbrev pub rows : ℕ → ℕ → ℕ → List (List Part) → List Row
+rows number maps time [] = []
+rows number maps time (segment ∷ segments) =
+    row number maps time segment ∷ rows (number + 1) (maps + one_if (is_broken segment)) (time + duration segment) segments
+
+-- microseconds
+abbrev pub lasting : List Row → ℕ
+lasting rows = sum_by (λ r. r.segment.duration) rows
+
+-- how many of these segments are broken from the one before
+abbrev pub broken_in : List Row → ℕ
+broken_in rows = sum_by (λ r. one_if r.segment.broken) rows

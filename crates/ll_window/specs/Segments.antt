@@ -9,14 +9,22 @@ use Rattle.ll_window.specs.declared.part.Part.{Part}
 abbrev pub own : ℕ → List Item → List Item
 own rendition items = filter (λ i. rendition_of i == rendition) items
 
--- the part that an item announces
-abbrev pub part_of : Item → Part
-part_of (item.Part rendition duration independent finish) = record { duration = duration; independent = independent; finish = finish }
+-- the parts among the items of one rendition, where a break stands before these items or doesn't
+abbrev pub parts_from : Bool → List Item → List Part
+parts_from pending [] = []
+parts_from pending (item.Part rendition duration independent finish ∷ items) =
+    (record { duration = duration; independent = independent; finish = finish; after_break = pending }) ∷ parts_from false items
+parts_from pending (item.Break rendition ∷ items) = parts_from true items
+
+-- whether a break stands behind the last part, where one stands before these items or doesn't
+abbrev pub pending_after : Bool → List Item → Bool
+pending_after pending [] = pending
+pending_after pending (item.Part rendition duration independent finish ∷ items) = pending_after false items
+pending_after pending (item.Break rendition ∷ items) = pending_after true items
 
 -- the parts among the items of one rendition
 abbrev pub parts : List Item → List Part
-parts [] = []
-parts (item.Part rendition duration independent finish ∷ items) = part_of (item.Part rendition duration independent finish) ∷ parts items
+parts items = parts_from false items
 
 -- segments that have a finishing part, and the parts after the last of them
 pub record Split : Type 0 where

@@ -1,30 +1,74 @@
--- What one more part makes of what is kept of the items before it, and why it may not follow them.
-use Rattle.std.specs.Prelude.{ℕ, ◌+◌, [], ◌∷◌, ◌++◌, Bool, true, false, Option}
+-- What one more item makes of what is kept of the items before it, and why it may not follow them.
+use Rattle.std.specs.Prelude.{ℕ, ◌+◌, List, [], ◌∷◌, ◌++◌, Bool, true, false, Option}
+use Rattle.ll_item.specs.declared.item.Item.{Item}
+use Rattle.ll_item.specs.declared.item.Item.TheVariants as item
 use Rattle.ll_window.specs.declared.part.Part.{Part}
 use Rattle.ll_window.specs.Compact.{Compact}
-use Rattle.ll_window.specs.Refusal.{part_refusal}
+use Rattle.ll_window.specs.Refusal.{part_refusal, break_refusal}
+use Rattle.ll_window.specs.Rows.{Row, row, one_if, is_broken, broken_in}
 use Rattle.ll_window.specs.Segments.{duration}
+use Rattle.ll_window.specs.Window.{window_limit, near_limit, gone, window, listed}
 use Rattle.ll_window.specs.declared.window.PushFault.{PushFault}
 
-abbrev pub with_part_by : Bool → Compact → Part → Compact
-with_part_by true k p = record {
+-- the window and one more segment
+abbrev pub window_with : Compact → Row → List Row
+window_with k r = k.window ++ r ∷ []
+
+-- the open segment is finished with these parts, whose durations end at this time
+abbrev pub with_segment : Compact → List Part → ℕ → Compact
+with_segment k ps ends = record {
   settings = k.settings;
-  window = k.window ++ (record { number = k.next_number; duration = duration (k.open_parts ++ p ∷ []); parts = k.open_parts ++ p ∷ [] }) ∷ [];
+  window = listed (near_limit k.settings) 0 (window (window_limit k.settings) (window_with k (row k.next_number k.maps k.open_time ps)));
   open_parts = [];
   next_number = k.next_number + 1;
-  end_time = k.end_time + p.duration;
+  maps = k.maps + one_if (is_broken ps);
+  open_time = k.open_time + duration ps;
+  end_time = ends;
+  pending = false;
+  discontinuity = k.discontinuity + broken_in (gone (window_limit k.settings) (window_with k (row k.next_number k.maps k.open_time ps)));
 }
-with_part_by false k p = record {
+
+-- the open segment has these parts, whose durations end at this time
+abbrev pub with_open : Compact → List Part → ℕ → Compact
+with_open k ps ends = record {
   settings = k.settings;
-  window = k.window;
-  open_parts = k.open_parts ++ p ∷ [];
+  window = listed (near_limit k.settings) (duration ps) k.window;
+  open_parts = ps;
   next_number = k.next_number;
-  end_time = k.end_time + p.duration;
+  maps = k.maps;
+  open_time = k.open_time;
+  end_time = ends;
+  pending = false;
+  discontinuity = k.discontinuity;
 }
+
+abbrev pub with_part_by : Bool → Compact → Part → Compact
+with_part_by true k p = with_segment k (k.open_parts ++ p ∷ []) (k.end_time + p.duration)
+with_part_by false k p = with_open k (k.open_parts ++ p ∷ []) (k.end_time + p.duration)
 
 abbrev pub with_part : Compact → Part → Compact
 with_part k p = with_part_by p.finish k p
 
--- a part of so many microseconds
-abbrev pub refusal_after : Compact → ℕ → Option PushFault
-refusal_after k micros = part_refusal k.settings k.next_number (duration k.open_parts) k.end_time micros
+-- a break stands behind the last part
+abbrev pub with_break : Compact → Compact
+with_break k = record {
+  settings = k.settings;
+  window = k.window;
+  open_parts = k.open_parts;
+  next_number = k.next_number;
+  maps = k.maps;
+  open_time = k.open_time;
+  end_time = k.end_time;
+  pending = true;
+  discontinuity = k.discontinuity;
+}
+
+abbrev pub with_item : Compact → Item → Compact
+with_item k (item.Part rendition duration independent finish) =
+    with_part k (record { duration = duration; independent = independent; finish = finish; after_break = k.pending })
+with_item k (item.Break rendition) = with_break k
+
+-- why an item may not follow
+abbrev pub refusal_after : Compact → Item → Option PushFault
+refusal_after k (item.Part rendition micros independent finish) = part_refusal k.settings k.next_number (duration k.open_parts) k.end_time micros
+refusal_after k (item.Break rendition) = break_refusal k.open_parts

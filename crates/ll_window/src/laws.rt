@@ -1,8 +1,15 @@
 //! Facts of the definitions, proved; none of these does anything.
 ghost use Rattle.ll_window.specs.Numbers.{NumbersLaw};
+ghost use Rattle.ll_window.specs.Window.{WindowLaw};
 
 /// Segments' media sequence numbers and parts' places in them are the numbers and indexes that the parts have one by one
 /// (section 4.4.4.9).
 pub fn numbers_law()
     ensures { NumbersLaw }
+{}
+
+/// The window is the shortest suffix of the finished segments that lasts long enough, and all of them where they don't last
+/// so long (section 6.2.2).
+pub fn window_law()
+    ensures { WindowLaw }
 {}

@@ -2,12 +2,14 @@
 //! draft-pantos-hls-rfc8216bis-13.
 #![tactic(auto)]
 
+mod finished;
 mod laws;
 mod part;
+mod progress;
 mod segment;
 mod window;
 
-pub use laws::numbers_law;
+pub use laws::{numbers_law, window_law};
 pub use part::Part;
 pub use segment::Segment;
 pub use window::{PushFault, Window};

@@ -1,17 +1,24 @@
-ghost use Rattle.std.specs.Prelude.{◌≡◌, ◌≢◌, ◌++◌, ◌∷◌, [], List, IfOk, IfErr, MatchResult, OnOk, OnErr, IsErrOf, None, Some, length, slice_get};
-ghost use Rattle.std.specs.Option.{option_copied};
+ghost use Rattle.std.specs.Prelude.{◌≡◌, ◌≢◌, ◌≤◌, ◌+◌, ◌-◌, ◌++◌, ◌∷◌, [], List, IfOk, IfErr, IfSome, MatchResult, OnOk, OnErr, IsErrOf, None, Some, length, nat_lt, true};
+ghost use Rattle.std.specs.Option.{option_map};
 ghost use Rattle.ll_item.specs.declared.item.Item.{Item};
-ghost use Rattle.ll_window.specs.Compact.{compact};
-ghost use Rattle.ll_window.specs.Refusal.{refusal};
-ghost use Rattle.ll_window.specs.Step.{with_part, refusal_after};
+ghost use Rattle.ll_item.specs.Settings.{last_micro};
+ghost use Rattle.ll_window.specs.Compact.{compact, unfinished};
+ghost use Rattle.ll_window.specs.Refusal.{refusal, part_refusal};
+ghost use Rattle.ll_window.specs.Segments.{duration};
+ghost use Rattle.ll_window.specs.Step.{with_item, with_part, with_part_by, refusal_after};
+ghost use Rattle.ll_window.specs.Window.{near_limit, segment_at, parts_at};
 
+use crate::finished::Finished;
 use crate::part::Part;
+use crate::progress::Progress;
 use crate::segment::Segment;
 use ll_item::{Item, Settings};
 use std::alloc::{AllocError, Global};
 use std::marker::Model;
-use std::mem;
 use thiserror::Error;
+
+/// The largest media sequence number.
+const LAST_NUMBER: u64 = 1 << 60;
 
 /// The last microsecond of the year 9999, from 1970 on.
 const LAST_MICRO: u64 = 253_402_300_799_999_999;
@@ -27,6 +34,9 @@ pub enum PushFault {
     /// target duration, in whole seconds and half a second upwards (EXT-X-TARGETDURATION, section 4.4.3.1).
     #[error("TooLong")]
     TooLong,
+    /// A break inside a segment: it has parts and none that finishes it (EXT-X-DISCONTINUITY, section 4.4.4.3).
+    #[error("OpenSegment")]
+    OpenSegment,
     /// A part of a segment whose media sequence number is past 2^60 (EXT-X-MEDIA-SEQUENCE, section 4.4.3.2).
     #[error("CountEnd")]
     CountEnd,
@@ -38,33 +48,37 @@ pub enum PushFault {
     Memory,
 }
 
-/// What of all items of one rendition is still needed: the finished segments and the parts of the open one.
+/// What of all items of one rendition is still needed: the finished segments that a playlist shows and the parts of the
+/// open one. A segment leaves once those behind it alone last as long as the window does at least (section 6.2.2).
 #[derive(Debug, Drop)]
 pub struct Window {
     alloc: Global,
     settings: Settings,
-    segments: Vec<Segment>,
+    finished: Finished,
     open_parts: Vec<Part>,
-    open_duration: u64,
-    next_number: u64,
-    end_time: u64,
+    progress: Progress,
 }
 
 impl Model for Window {
     ghost use Rattle.ll_window.specs.Compact.{Compact};
     ghost use Rattle.ll_window.specs.Kept.{IsKept};
+    ghost use Rattle.ll_window.specs.Window.{near_limit, listed};
 
     ghost Value = { Compact };
 
     ghost view = { λ w. record {
       settings = w.settings;
-      window = w.segments.items;
+      window = listed (near_limit w.settings) w.progress.open_duration w.finished.rows.items;
       open_parts = w.open_parts.items;
-      next_number = w.next_number;
-      end_time = w.end_time;
+      next_number = w.progress.next_number;
+      maps = w.progress.maps;
+      open_time = w.progress.open_time;
+      end_time = w.progress.end_time;
+      pending = w.progress.pending;
+      discontinuity = w.finished.discontinuity;
     } };
 
-    ghost invariant = { λ w. IsKept w.settings w.open_parts.items w.open_duration w.next_number w.end_time };
+    ghost invariant = { λ w. IsKept w.settings w.finished w.open_parts.items w.progress };
 }
 
 impl Window {
@@ -73,21 +87,25 @@ impl Window {
         ensures { IfOk result (λ w. w ≡ compact settings.now []) }
     {
         let settings = settings.copy(alloc)?;
-        let next_number = settings.first();
-        // The start is in the year 9999 at most, as its reader ensures.
-        let _ = settings.start();
+        let progress = Progress {
+            next_number: settings.first(),
+            maps: 0,
+            open_time: settings.start() * 1_000,
+            open_duration: 0,
+            end_time: 0,
+            pending: false,
+        };
         Ok(Window {
             alloc,
             settings,
-            segments: Vec::new(alloc),
+            finished: Finished::new(alloc),
             open_parts: Vec::new(alloc),
-            open_duration: 0,
-            next_number,
-            end_time: 0,
+            progress,
         })
     }
 
-    /// Adds the next item of the rendition, or answers the first reason for which it may not follow; nothing changes then.
+    /// Adds the next item, or answers the first reason for which it may not follow, or that no memory was found; nothing
+    /// changes then. The caller brings the items of one rendition alone: which one an item names isn't looked at.
     pub fn push(&mut self, item: Item) -> Result<(), PushFault>
         ensures accepted { (items : List Item) → self.old ≡ compact self.old.settings items
             → OnOk result ((refusal self.old.settings items item ≡ None)
@@ -98,7 +116,13 @@ impl Window {
             → IsErrOf result PushFault.Memory → refusal self.old.settings items item ≡ None }
         ensures unchanged { OnErr result (self.new ≡ self.old) }
     {
-        self.push_part(Part::of(&item))
+        if let Some(fault) = self.fault(&item) {
+            return Err(fault);
+        }
+        match self.add(item) {
+            Ok(()) => Ok(()),
+            Err(AllocError) => Err(PushFault::Memory),
+        }
     }
 
     /// What `push` would answer but for memory; nothing changes.
@@ -106,85 +130,56 @@ impl Window {
         ensures { (items : List Item) → self.now ≡ compact self.now.settings items
             → MatchResult result (λ _. refusal self.now.settings items item.now ≡ None) (λ f. refusal self.now.settings items item.now ≡ Some f) }
     {
-        match self.part_fault(Part::of(item).duration) {
+        match self.fault(item) {
             Some(fault) => Err(fault),
             None => Ok(()),
         }
     }
 
-    /// Adds the next part, as `push` does an item.
-    fn push_part(&mut self, part: Part) -> Result<(), PushFault>
-        ensures accepted { OnOk result ((refusal_after self.old part.duration ≡ None) × (self.new ≡ with_part self.old part)) }
-        ensures refused { IfErr result (λ f. f ≢ PushFault.Memory → refusal_after self.old part.duration ≡ Some f) }
-        ensures memory { IsErrOf result PushFault.Memory → refusal_after self.old part.duration ≡ None }
-        ensures unchanged { OnErr result (self.new ≡ self.old) }
-    {
-        if let Some(fault) = self.part_fault(part.duration) {
-            return Err(fault);
-        }
-        match self.add(part) {
-            Ok(()) => Ok(()),
-            Err(AllocError) => Err(PushFault::Memory),
-        }
-    }
-
-    /// Why a part of so many microseconds may not follow.
-    fn part_fault(&self, micros: u64) -> Option<PushFault>
-        ensures { result ≡ refusal_after self.now micros }
-    {
-        let (part_target, target) = (self.settings.part_target(), self.settings.target());
-        if micros == 0 {
-            Some(PushFault::BadDuration)
-        } else if part_target < micros
-            || target < (self.open_duration + micros + 500_000) / 1_000_000
-        {
-            Some(PushFault::TooLong)
-        } else if 1 << 60 < self.next_number {
-            Some(PushFault::CountEnd)
-        } else if LAST_MICRO < self.settings.start() * 1_000 + self.end_time + micros {
-            Some(PushFault::TimeEnd)
-        } else {
-            None
-        }
-    }
-
-    /// Adds a part that may follow.
-    fn add(&mut self, part: Part) -> Result<(), AllocError>
-        requires { refusal_after self.old part.duration ≡ None }
-        ensures ok { OnOk result (self.new ≡ with_part self.old part) }
-        ensures err { OnErr result (self.new ≡ self.old) }
-    {
-        if part.finish {
-            self.segments.reserve(1)?;
-            self.open_parts.push(part)?;
-            let parts = mem::replace(&mut self.open_parts, Vec::new(self.alloc));
-            let segment = Segment::new(self.next_number, self.open_duration + part.duration, parts);
-            self.segments.push(segment)?;
-            self.open_duration = 0;
-            self.next_number += 1;
-        } else {
-            self.open_parts.push(part)?;
-            self.open_duration += part.duration;
-        }
-        self.end_time += part.duration;
-        Ok(())
-    }
-
     /// How many finished segments a playlist shows.
+    #[tactic(auto, using(crate::proofs::WindowLemmas::length_listed))]
     pub fn segment_count(&self) -> usize
         ensures { result ≡ length self.now.window }
     {
-        self.segments.len()
+        self.finished.rows.len()
     }
 
-    /// The finished segment at this place, 0 being the first that a playlist shows.
-    pub fn segment(&self, place: usize) -> Option<&Segment>
-        ensures { option_copied result ≡ slice_get self.now.window place }
+    /// The finished segment at this place, 0 being the first that a playlist shows; none behind the last.
+    #[tactic(auto, using(crate::proofs::ReaderLemmas::segment_listed, crate::proofs::ReaderLemmas::ends_before))]
+    pub fn segment(&self, place: usize) -> Option<Segment>
+        ensures value { result ≡ segment_at self.now.window place }
+        ensures time { IfSome result (λ s. s.time ≤ last_micro) }
     {
-        self.segments.get(place)
+        match self.finished.row(place) {
+            Some(kept) => Some(kept.segment),
+            None => None,
+        }
     }
 
-    /// The parts of the open segment, which has no finishing part yet; none where no segment is open.
+    /// The parts that a playlist lists of the finished segment at this place: all of them while the parts behind it last
+    /// less than three target durations, and then none (section 4.4.4.9); none behind the last segment either.
+    pub fn shown_parts(&self, place: usize) -> &[Part]
+        ensures { result.now ≡ parts_at self.now.window place }
+    {
+        match self.finished.row(place) {
+            Some(kept) if self.is_near(&kept.segment) => kept.parts.as_slice(),
+            _ => &[],
+        }
+    }
+
+    /// The open segment, which has no finishing part yet; none where no segment is open.
+    pub fn open_segment(&self) -> Option<Segment>
+        ensures value { result ≡ option_map (λ r. r.segment) (unfinished self.now) }
+        ensures time { IfSome result (λ s. s.time ≤ last_micro) }
+    {
+        if self.open_parts.is_empty() {
+            None
+        } else {
+            Some(self.progress.segment(self.open_parts.as_slice()))
+        }
+    }
+
+    /// The parts of the open segment; none where no segment is open.
     pub fn open_parts(&self) -> &[Part]
         ensures { result.now ≡ self.now.open_parts }
     {
@@ -195,6 +190,125 @@ impl Window {
     pub fn next_number(&self) -> u64
         ensures { result ≡ self.now.next_number }
     {
-        self.next_number
+        self.progress.next_number
+    }
+
+    /// How many segments that are broken from the one before have left the window (EXT-X-DISCONTINUITY-SEQUENCE, section
+    /// 4.4.3.3).
+    pub fn discontinuity(&self) -> u64
+        ensures { result ≡ self.now.discontinuity }
+    {
+        self.finished.discontinuity
+    }
+
+    /// How long all parts last, those that a playlist no longer shows included, in microseconds.
+    pub fn end_time(&self) -> u64
+        ensures { result ≡ self.now.end_time }
+    {
+        self.progress.end_time
+    }
+
+    /// Why an item may not follow.
+    fn fault(&self, item: &Item) -> Option<PushFault>
+        ensures { result ≡ refusal_after self.now item.now }
+    {
+        match item {
+            Item::Part { duration, .. } => self.part_fault(*duration),
+            Item::Break { .. } if self.open_parts.is_empty() => None,
+            Item::Break { .. } => Some(PushFault::OpenSegment),
+        }
+    }
+
+    /// Why a part of so many microseconds may not follow.
+    fn part_fault(&self, micros: u64) -> Option<PushFault>
+        ensures { result ≡ part_refusal self.now.settings self.now.next_number (duration self.now.open_parts) self.now.end_time micros }
+    {
+        let (part_target, target) = (self.settings.part_target(), self.settings.target());
+        if micros == 0 {
+            Some(PushFault::BadDuration)
+        } else if part_target < micros
+            || target < (self.progress.open_duration + micros + 500_000) / 1_000_000
+        {
+            Some(PushFault::TooLong)
+        } else if LAST_NUMBER < self.progress.next_number {
+            Some(PushFault::CountEnd)
+        } else if LAST_MICRO < self.settings.start() * 1_000 + self.progress.end_time + micros {
+            Some(PushFault::TimeEnd)
+        } else {
+            None
+        }
+    }
+
+    /// Adds an item that may follow.
+    fn add(&mut self, item: Item) -> Result<(), AllocError>
+        requires { refusal_after self.old item ≡ None }
+        ensures ok { OnOk result (self.new ≡ with_item self.old item) }
+        ensures err { OnErr result (self.new ≡ self.old) }
+    {
+        match item {
+            Item::Part {
+                duration,
+                independent,
+                finish,
+                ..
+            } => self.add_part(Part {
+                duration,
+                independent,
+                finish,
+                after_break: self.progress.pending,
+            })?,
+            Item::Break { .. } => self.progress.pending = true,
+        }
+        Ok(())
+    }
+
+    /// Adds a part that may follow.
+    fn add_part(&mut self, part: Part) -> Result<(), AllocError>
+        requires { part_refusal self.old.settings self.old.next_number (duration self.old.open_parts) self.old.end_time part.duration ≡ None }
+        ensures ok { OnOk result (self.new ≡ with_part self.old part) }
+        ensures err { OnErr result (self.new ≡ self.old) }
+    {
+        if part.finish {
+            self.finish(part)?;
+        } else {
+            self.open_parts.push(part)?;
+            self.progress.open_duration += part.duration;
+            self.progress.end_time += part.duration;
+            self.progress.pending = false;
+        }
+        Ok(())
+    }
+
+    /// Adds the last part of a segment, which may follow.
+    fn finish(&mut self, part: Part) -> Result<(), AllocError>
+        requires { part_refusal self.old.settings self.old.next_number (duration self.old.open_parts) self.old.end_time part.duration ≡ None }
+        ensures ok { OnOk result (self.new ≡ with_part_by true self.old part) }
+        ensures err { OnErr result (self.new ≡ self.old) }
+    {
+        let least = self.settings.window() * 1_000_000;
+        let mut progress = self.progress;
+        progress.open_duration += part.duration;
+        let parts = &mut self.open_parts;
+        let segment = self
+            .finished
+            .finish(self.alloc, least, progress, parts, part)?;
+        self.progress = Progress {
+            next_number: progress.next_number + 1,
+            maps: segment.map_number,
+            open_time: progress.open_time + segment.duration,
+            open_duration: 0,
+            end_time: progress.end_time + part.duration,
+            pending: false,
+        };
+        Ok(())
+    }
+
+    /// Whether the parts behind a finished segment last less than three target durations.
+    fn is_near(&self, segment: &Segment) -> bool
+        requires behind { segment.now.time + segment.now.duration ≤ self.now.open_time }
+        ensures { result ≡ nat_lt (self.now.open_time + duration self.now.open_parts - (segment.now.time + segment.now.duration)) (near_limit self.now.settings) }
+    {
+        let end = self.progress.open_time + self.progress.open_duration;
+        end - (segment.time + segment.duration) < 3 * (self.settings.target() * 1_000_000)
     }
 }

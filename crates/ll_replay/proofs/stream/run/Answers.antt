@@ -3,6 +3,7 @@ use Rattle.std.proofs.Common.{arith, refl, [], Err, ap, take, ◌∙◌, length,
 use Rattle.std.proofs.lemmas.List.{length-take}
 use Rattle.ll_replay.specs.declared.outcome.RunFault.TheVariants as fault
 use Rattle.ll_replay.proofs.RunLemmas.{StopsAfter-now, IsWhole-at_end, IsCutAt-at_end, IsCutAt-input_end, IsCutAt-piece, IsCutAt-piece_alone, handed-same, WasRead-more, WasRead-nothing, lines_fit_more}
+use Rattle.ll_replay.proofs.MemoryLemmas.{StopsForMemory-at_end, StopsForMemory-in_input}
 use Rattle.ll_replay.proofs.stream.run.Goals as goal
 
 pub loop-init : goal.loop-init
@@ -43,6 +44,11 @@ returns-then-count-eq0-clause-cut_by_memory g c input i e =
     IsCutAt-input_end c.finish.result fault.Memory _ _ _ _ _ _ _ c.loop.invariant.stands.0 input e c.finish.ensures.cut c.loop.invariant.stands.1 c.loop.invariant.stands.2
     (c.in-Ok.ensures.end c.if-count-eq0.true) i
 
+pub returns-then-count-eq0-clause-memory_last : goal.returns-then-count-eq0-clause-memory_last
+returns-then-count-eq0-clause-memory_last g c input i e =
+    StopsForMemory-at_end _ _ _ _ c.loop.invariant.stands.0 input c.loop.invariant.stands.2 (c.in-Ok.ensures.end c.if-count-eq0.true) i
+    (c.finish.ensures.memory e c.loop.invariant.stands.0 _ c.loop.invariant.stands.1)
+
 pub returns-then-count-eq0-clause-stopped_by_read : goal.returns-then-count-eq0-clause-stopped_by_read
 returns-then-count-eq0-clause-stopped_by_read g c e = absurd (IsCutAt-at_end c.finish.result fault.Read _ _ _ _ _ c.loop.invariant.stands.0 e c.finish.ensures.cut c.loop.invariant.stands.1)
 
@@ -77,6 +83,13 @@ pub returns-in_err-feed-clause-cut_by_memory : goal.returns-in_err-feed-clause-c
 returns-in_err-feed-clause-cut_by_memory g c input i e =
     IsCutAt-piece c.from_residual.result fault.Memory c.in_err-feed.field-0.0 _ _ _ _ _ _ _ _ c.loop.invariant.stands.0 (take c.in-Ok.count c.read.new.buf) input e
     c.from_residual.ensures.1 c.in_err-feed.ensures.cut c.loop.invariant.stands.1 c.loop.invariant.stands.2 c.in-Ok.ensures.bytes i
+
+pub returns-in_err-feed-clause-memory_last : goal.returns-in_err-feed-clause-memory_last
+returns-in_err-feed-clause-memory_last g c input i e =
+    StopsForMemory-in_input _ _ _ _ _ c.loop.invariant.stands.0 (take c.in-Ok.count c.read.new.buf) input
+    c.loop.invariant.stands.2 c.in-Ok.ensures.bytes i
+    (c.in_err-feed.ensures.memory (ap Err (handed-same c.from_residual.result fault.Memory c.in_err-feed.field-0.0 c.from_residual.ensures.1 e))
+    c.loop.invariant.stands.0 _ c.loop.invariant.stands.1)
 
 pub returns-in_err-feed-clause-stopped_by_read : goal.returns-in_err-feed-clause-stopped_by_read
 returns-in_err-feed-clause-stopped_by_read g c e =

@@ -1,8 +1,11 @@
 -- At the end the open line is the last line, if it has bytes; else the ended lines are all.
-use Rattle.std.proofs.Common.{◌≡◌, arith, length, vec_len}
+use Rattle.std.proofs.Common.{◌≡◌, arith, length, vec_len, ap, Err}
 use Rattle.ll_replay.specs.World.{line}
 use Rattle.ll_replay.specs.Stream.{world_so_far}
 use Rattle.ll_replay.proofs.CutLemmas.{IsCutAt-from_clauses, IsCutAt-last_line, IsWhole-all_ended, IsWhole-last_line, some_bytes, no_bytes, IfErr-handed}
+use Rattle.ll_replay.specs.declared.outcome.RunFault.TheVariants as fault
+use Rattle.ll_replay.proofs.MemoryLemmas.{StopsForMemory-last}
+use Rattle.ll_replay.proofs.RunLemmas.{handed-same}
 use Rattle.ll_replay.proofs.stream.Stream.finish.Goals as goal
 use Rattle.ll_replay.proofs.stream.Stream.finish.Goals.{then-not-is_empty+in_ok-take_line, else-not-is_empty}
 
@@ -18,6 +21,11 @@ returns-in_err-take_line-clause-cut g c =
     (λ e. c.in_err-take_line.ensures.memory e (world_so_far bytes) base s.stands)
     c.in_err-take_line.ensures.not_read
     c.in_err-take_line.ensures.not_endless))
+
+pub returns-in_err-take_line-clause-memory : goal.returns-in_err-take_line-clause-memory
+returns-in_err-take_line-clause-memory g c e bytes base s =
+    let m = ap Err (handed-same c.from_residual.result fault.Memory c.in_err-take_line.field-0.0 c.from_residual.ensures.1 e) in
+    StopsForMemory-last _ _ _ base _ _ bytes c.deref.ensures.value (c.in_err-take_line.ensures.silent m) s (c.in_err-take_line.ensures.memory_line m)
 
 pub returns-clause-whole : goal.returns-clause-whole
 returns-clause-whole g c bytes base s =

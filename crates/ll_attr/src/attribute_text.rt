@@ -1,0 +1,125 @@
+//! The pieces of an attribute list's text.
+ghost use Rattle.std.specs.Prelude.{◌≡◌, ◌<◌, ◌∷◌, [], true, false, MatchOption, IfSome, None, Some, length};
+ghost use Rattle.std.specs.List.{list_all, after_first};
+ghost use Rattle.ll_attr.specs.Attributes.{parts_outside, value_in, is_equals, is_quoted_byte};
+ghost use Rattle.ll_attr.specs.Attributes as spec;
+ghost use Rattle.ll_attr.specs.Reading.{is_named, value_as, inner_of};
+ghost use Rattle.ll_attr.specs.Reading as reading;
+ghost use Rattle.ll_attr.specs.Words.{parts_at};
+
+use crate::parts::cut;
+
+/// The text before the first comma outside quotes, and what stands behind that comma, where there is one.
+pub(crate) fn first_part(text: &str) -> (&str, Option<&str>)
+    ensures parts { MatchOption result.1 (parts_outside false text.now ≡ result.0.now ∷ [])
+        (λ behind. parts_outside false text.now ≡ result.0.now ∷ parts_outside false behind.now) }
+    ensures shorter { IfSome result.1 (λ behind. length behind.now < length text.now) }
+{
+    let (part, behind) = text.split_at(part_len(text));
+    (part, behind.strip_prefix(','))
+}
+
+/// How many bytes stand before the first comma outside quotes.
+fn part_len(text: &str) -> usize
+    ensures { result ≡ reading.part_len false text.now }
+{
+    let mut quoted = false;
+    for (place, byte) in text.as_bytes().iter().enumerate() {
+        if *byte == b',' && !quoted {
+            return place;
+        }
+        if *byte == b'"' {
+            quoted = !quoted;
+        }
+    }
+    text.len()
+}
+
+/// What stands before the first equals sign of a part, or the whole part, where none stands in it.
+pub(crate) fn name_of(part: &str) -> &str
+    ensures { result.now ≡ reading.name_of part.now }
+{
+    match part.split_once('=') {
+        Some((name, _)) => name,
+        None => part,
+    }
+}
+
+/// The name in front of a part's first equals sign and what stands behind it, where there is one.
+pub(crate) fn name_and_value(part: &str) -> Option<(&str, &str)>
+    ensures { MatchOption result (is_named part.now ≡ false)
+        (λ p. (is_named part.now ≡ true) × (p.0.now ≡ reading.name_of part.now) × (p.1.now ≡ after_first is_equals part.now)) }
+{
+    let Some((name, value)) = part.split_once('=') else {
+        return None;
+    };
+    if !is_attribute_name(name) {
+        return None;
+    }
+    Some((name, value))
+}
+
+/// Whether a text is an AttributeName.
+fn is_attribute_name(text: &str) -> bool
+    ensures { result ≡ spec.is_attribute_name text.now }
+{
+    !text.is_empty() && text.bytes().all(is_name_byte)
+}
+
+/// Whether a byte is A-Z, 0-9 or `-`.
+fn is_name_byte(b: u8) -> bool
+    ensures { result ≡ spec.is_name_byte b }
+{
+    b.is_ascii_uppercase() || b.is_ascii_digit() || b == b'-'
+}
+
+/// Whether a value is quoted, and its text without quotation marks.
+pub(crate) fn value_text(text: &str) -> Option<(bool, &str)>
+    ensures { MatchOption result (value_in text.now ≡ None) (λ v. value_in text.now ≡ Some (value_as v.0 v.1.now)) }
+{
+    if is_bare(text) {
+        return Some((false, text));
+    }
+    Some((true, quoted_text(text)?))
+}
+
+/// Whether a text is a bare value.
+fn is_bare(text: &str) -> bool
+    ensures { result ≡ spec.is_bare text.now }
+{
+    !text.is_empty() && text.bytes().all(is_bare_byte)
+}
+
+/// What stands between two quotation marks, where a text is a quoted string.
+fn quoted_text(text: &str) -> Option<&str>
+    ensures { MatchOption result (inner_of (parts_at 34 text.now) ≡ None) (λ inner. inner_of (parts_at 34 text.now) ≡ Some inner.now) }
+{
+    let (before, behind) = cut(text, '"')?;
+    let (inner, end) = cut(behind, '"')?;
+    if before.is_empty() && end.is_empty() && is_quoted(inner) {
+        Some(inner)
+    } else {
+        None
+    }
+}
+
+/// Whether a text may stand in quotes.
+fn is_quoted(text: &str) -> bool
+    ensures { result ≡ list_all is_quoted_byte text.now }
+{
+    text.bytes().all(is_quoted_byte)
+}
+
+/// Whether a byte may stand in quotes.
+fn is_quoted_byte(b: u8) -> bool
+    ensures { result ≡ spec.is_quoted_byte b }
+{
+    b != b'"' && b != b'\r' && b != b'\n'
+}
+
+/// Whether a byte may stand in a bare value.
+fn is_bare_byte(b: u8) -> bool
+    ensures { result ≡ spec.is_bare_byte b }
+{
+    is_quoted_byte(b) && b != b',' && b != b' ' && b != b'\t'
+}

@@ -1,0 +1,142 @@
+//! Attribute lists.
+ghost use Rattle.std.specs.Prelude.{◌≡◌, ◌≢◌, ◌++◌, [], IfOk, MatchOption, Ok, None, Some, string_bytes};
+ghost use Rattle.ll_attr.specs.Attributes.{attributes_in, attribute_spelling, spelling, value_named};
+
+use crate::text::Text;
+use std::alloc::AllocError;
+use std::marker::Model;
+use thiserror::Error;
+
+/// The value of an attribute (section 4.2).
+#[derive(Debug, Drop)]
+pub enum AttrValue {
+    /// What stands between quotation marks: any text without a quotation mark, CR or LF (quoted-string).
+    Quoted(Text),
+    /// One or more characters other than a quotation mark, a comma, a space, a tab, CR or LF.
+    Bare(Text),
+}
+
+/// A name and its value.
+#[derive(Debug, Drop)]
+pub struct Attribute {
+    pub(crate) name: Text,
+    pub(crate) value: AttrValue,
+}
+
+/// Why a text is no attribute list: its first fault from the left; within a pair its name, its standing twice, its value,
+/// in this order. Memory that isn't found comes after all of them.
+#[derive(Clone, Copy, Debug, PartialEq, Eq, Error)]
+pub enum AttrFault {
+    /// A name is empty, has a character outside A-Z, 0-9 and `-`, or no equals sign stands behind it.
+    #[error("BadName")]
+    BadName,
+    /// A value is no quoted string and no bare value.
+    #[error("BadValue")]
+    BadValue,
+    /// A name stands twice.
+    #[error("Twice")]
+    Twice,
+    /// No memory was found.
+    #[error("Memory")]
+    Memory,
+}
+
+/// An attribute list: names with their values, in the order in which they were written, none twice (section 4.2). A list
+/// of no attributes is a value too, though no text spells it.
+#[derive(Debug, Drop)]
+pub struct AttrList {
+    attributes: Vec<Attribute>,
+}
+
+impl Model for AttrList {
+    ghost use Rattle.std.specs.Prelude.{◌≡◌, ◌≢◌, List, [], Ok};
+    ghost use Rattle.ll_attr.specs.Attributes.{attributes_in, spelling};
+    ghost use Rattle.ll_attr.specs.declared.attributes.Attribute.{Attribute};
+
+    ghost Value = { List Attribute };
+
+    ghost view = { λ list. list.attributes.items };
+
+    ghost invariant = { λ list. list.attributes.items ≢ [] → attributes_in (spelling list.attributes.items) ≡ Ok list.attributes.items };
+}
+
+impl AttrList {
+    /// A list of attributes that are read from their spelling.
+    pub(crate) fn of(attributes: Vec<Attribute>) -> AttrList
+        requires { attributes_in (spelling attributes.items) ≡ Ok attributes.items }
+        ensures { result ≡ attributes.items }
+    {
+        AttrList { attributes }
+    }
+
+    /// The value of the attribute of this name, where the list has one. Names are compared byte by byte.
+    pub fn get(&self, name: &str) -> Option<&AttrValue>
+        ensures { MatchOption result (value_named name.now self.now ≡ None) (λ value. value_named name.now self.now ≡ Some value.now) }
+    {
+        for attribute in &self.attributes {
+            if attribute.name.as_str() == name {
+                return Some(&attribute.value);
+            }
+        }
+        None
+    }
+
+    /// The list's text, which `parse` reads as this list again, unless it has no attribute; or an error where no memory was
+    /// found.
+    pub fn write(&self) -> Result<Text, AllocError>
+        ensures value { IfOk result (λ text. text ≡ spelling self.now) }
+        ensures read_again { IfOk result (λ text. self.now ≢ [] → attributes_in text ≡ Ok self.now) }
+    {
+        let mut text = String::new(*self.attributes.allocator());
+        let mut separator = "";
+        for attribute in &self.attributes {
+            text.push_str(separator)?;
+            attribute.append_to(&mut text)?;
+            separator = ",";
+        }
+        Ok(Text::from_string(text))
+    }
+
+    /// A list equal to this one, or an error where no memory was found.
+    pub fn copy(&self) -> Result<AttrList, AllocError>
+        ensures { IfOk result (λ list. list ≡ self.now) }
+    {
+        let alloc = *self.attributes.allocator();
+        let mut attributes = Vec::with_capacity(alloc, self.attributes.len())?;
+        for attribute in &self.attributes {
+            attributes.push(attribute.copy()?)?;
+        }
+        Ok(AttrList { attributes })
+    }
+}
+
+impl Attribute {
+    /// Appends the name, an equals sign and the value.
+    fn append_to(&self, text: &mut String) -> Result<(), AllocError>
+        ensures { IfOk result (λ u. string_bytes text.new ≡ string_bytes text.old ++ attribute_spelling self.now) }
+    {
+        text.push_str(self.name.as_str())?;
+        text.push('=')?;
+        match &self.value {
+            AttrValue::Quoted(value) => {
+                text.push('"')?;
+                text.push_str(value.as_str())?;
+                text.push('"')
+            }
+            AttrValue::Bare(value) => text.push_str(value.as_str()),
+        }
+    }
+
+    /// An attribute equal to this one, or an error where no memory was found.
+    fn copy(&self) -> Result<Attribute, AllocError>
+        ensures { IfOk result (λ a. a ≡ self.now) }
+    {
+        Ok(Attribute {
+            name: self.name.copy()?,
+            value: match &self.value {
+                AttrValue::Quoted(value) => AttrValue::Quoted(value.copy()?),
+                AttrValue::Bare(value) => AttrValue::Bare(value.copy()?),
+            },
+        })
+    }
+}

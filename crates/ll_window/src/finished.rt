@@ -1,0 +1,134 @@
+//! The finished segments of the window.
+ghost use Rattle.std.specs.Prelude.{◌≡◌, ◌+◌, ◌<◌, ◌≤◌, ◌^◌, ◌++◌, ◌∷◌, [], IfOk, OnOk, OnErr, MatchBool, length, slice_get};
+ghost use Rattle.std.specs.Option.{option_copied};
+ghost use Rattle.ll_window.specs.Rows.{row, broken_in};
+ghost use Rattle.ll_window.specs.Rows as spec;
+ghost use Rattle.ll_window.specs.Segments.{duration};
+ghost use Rattle.ll_window.specs.Window.{window, gone};
+
+use crate::part::Part;
+use crate::progress::Progress;
+use crate::segment::Segment;
+use std::alloc::{AllocError, Global};
+use std::collections::VecDeque;
+use std::marker::Model;
+use std::mem;
+
+/// A finished segment with all its parts.
+#[derive(Debug, Drop)]
+pub(crate) struct Kept {
+    pub(crate) segment: Segment,
+    pub(crate) parts: Vec<Part>,
+}
+
+impl Model for Kept {
+    ghost use Rattle.ll_window.specs.Rows.{Row};
+
+    ghost Value = { Row };
+
+    ghost view = { λ k. record { segment = k.segment; parts = k.parts.items } };
+}
+
+/// The finished segments of the window, how long they last together in microseconds, and how many broken ones have left.
+#[derive(Debug, Drop)]
+pub(crate) struct Finished {
+    pub(crate) rows: VecDeque<Kept>,
+    pub(crate) lasting: u64,
+    pub(crate) discontinuity: u64,
+}
+
+impl Finished {
+    pub(crate) fn new(alloc: Global) -> Finished
+        ensures { (result.rows.items ≡ []) × (result.lasting ≡ 0) × (result.discontinuity ≡ 0) }
+    {
+        Finished {
+            rows: VecDeque::new(alloc),
+            lasting: 0,
+            discontinuity: 0,
+        }
+    }
+
+    /// Adds the open segment, of which this is the last part, and gives up the segments behind which the others alone last
+    /// so many microseconds at least. It answers the segment that it added; where no memory is found, nothing changes.
+    pub(crate) fn finish(
+        &mut self,
+        alloc: Global,
+        least: u64,
+        progress: Progress,
+        open_parts: &mut Vec<Part>,
+        last: Part,
+    ) -> Result<Segment, AllocError>
+        requires sum { self.old.lasting ≡ spec.lasting self.old.rows.items }
+        requires open { progress.open_duration ≡ duration (open_parts.old.items ++ last ∷ []) }
+        requires lasting { self.old.lasting + progress.open_duration < 2 ^ 64 }
+        requires maps { progress.maps + 1 < 2 ^ 64 }
+        requires breaks { self.old.discontinuity + broken_in self.old.rows.items ≤ progress.maps }
+        ensures rows { OnOk result (self.new.rows.items
+            ≡ window least (self.old.rows.items ++ row progress.next_number progress.maps progress.open_time (open_parts.old.items ++ last ∷ []) ∷ [])) }
+        ensures left { OnOk result (self.new.discontinuity ≡ self.old.discontinuity
+            + broken_in (gone least (self.old.rows.items ++ row progress.next_number progress.maps progress.open_time (open_parts.old.items ++ last ∷ []) ∷ []))) }
+        ensures segment { IfOk result (λ s. s ≡ (row progress.next_number progress.maps progress.open_time (open_parts.old.items ++ last ∷ [])).segment) }
+        ensures sums { OnOk result (self.new.lasting ≡ spec.lasting self.new.rows.items) }
+        ensures emptied { OnOk result (open_parts.new.items ≡ []) }
+        ensures err { OnErr result ((self.new.rows.items ≡ self.old.rows.items) × (self.new.lasting ≡ self.old.lasting)
+            × (self.new.discontinuity ≡ self.old.discontinuity) × (open_parts.new.items ≡ open_parts.old.items)) }
+    {
+        self.rows.reserve(1)?;
+        open_parts.push(last)?;
+        let parts = mem::replace(open_parts, Vec::new(alloc));
+        let segment = progress.segment(parts.as_slice());
+        self.rows.push_back(Kept { segment, parts })?;
+        self.lasting += segment.duration;
+        self.shrink(least);
+        Ok(segment)
+    }
+
+    /// The segment at this place with its parts, 0 being the first.
+    pub(crate) fn row(&self, place: usize) -> Option<&Kept>
+        ensures { option_copied result ≡ slice_get self.now.rows.items place }
+    {
+        self.rows.get(place)
+    }
+
+    /// Gives up the segments behind which the others alone last so many microseconds at least.
+    fn shrink(&mut self, least: u64)
+        requires sum { self.old.lasting ≡ spec.lasting self.old.rows.items }
+        requires breaks { self.old.discontinuity + broken_in self.old.rows.items < 2 ^ 64 }
+        ensures rows { self.new.rows.items ≡ window least self.old.rows.items }
+        ensures left { self.new.discontinuity ≡ self.old.discontinuity + broken_in (gone least self.old.rows.items) }
+        ensures sum { self.new.lasting ≡ spec.lasting self.new.rows.items }
+    {
+        while self.leave(least) {}
+    }
+
+    /// Gives up the first segment, where those behind it last so many microseconds at least; answers whether it did.
+    fn leave(&mut self, least: u64) -> bool
+        requires sum { self.old.lasting ≡ spec.lasting self.old.rows.items }
+        requires breaks { self.old.discontinuity + broken_in self.old.rows.items < 2 ^ 64 }
+        ensures sum { self.new.lasting ≡ spec.lasting self.new.rows.items }
+        ensures breaks { self.new.discontinuity + broken_in self.new.rows.items ≡ self.old.discontinuity + broken_in self.old.rows.items }
+        ensures window { window least self.new.rows.items ≡ window least self.old.rows.items }
+        ensures gone { self.new.discontinuity + broken_in (gone least self.new.rows.items)
+            ≡ self.old.discontinuity + broken_in (gone least self.old.rows.items) }
+        ensures done { MatchBool result (length self.new.rows.items < length self.old.rows.items)
+            ((window least self.new.rows.items ≡ self.new.rows.items) × (gone least self.new.rows.items ≡ [])) }
+    {
+        let Some(first) = self.rows.front() else {
+            return false;
+        };
+        let Segment {
+            duration,
+            broken,
+            ..
+        } = first.segment;
+        if self.lasting - duration < least {
+            return false;
+        }
+        self.rows.pop_front();
+        self.lasting -= duration;
+        if broken {
+            self.discontinuity += 1;
+        }
+        true
+    }
+}
