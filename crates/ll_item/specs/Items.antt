@@ -5,7 +5,7 @@ use Rattle.ll_attr.specs.Words.{words}
 use Rattle.ll_item.specs.Names.{is_name}
 use Rattle.ll_item.specs.Settings.{Configuration}
 use Rattle.ll_item.specs.declared.item.Item.{Item}
-use Rattle.ll_item.specs.declared.item.Item.TheVariants.{Part, Break}
+use Rattle.ll_item.specs.declared.item.Item.TheVariants.{Part, Break, End}
 use Rattle.ll_item.specs.declared.item.ItemFault.{ItemFault}
 use Rattle.ll_item.specs.declared.item.ItemFault.TheVariants.{BadLine, NoRendition}
 
@@ -13,6 +13,7 @@ use Rattle.ll_item.specs.declared.item.ItemFault.TheVariants.{BadLine, NoRenditi
 abbrev pub rendition_of : Item → ℕ
 rendition_of (Part rendition duration independent finish) = rendition
 rendition_of (Break rendition) = rendition
+rendition_of (End rendition) = rendition
 
 -- the index of the rendition of this name
 abbrev pub rendition_named : Configuration → List ℕ → Option ℕ
@@ -44,16 +45,32 @@ part_by c name None flags = Err BadLine
 part_by c name (Some duration) None = Err BadLine
 part_by c name (Some duration) (Some flags) = part_at (named c name) duration flags
 
+-- `RENDITION MICROSECONDS FLAGS`
+abbrev pub part_in : Configuration → List (List ℕ) → Result Item ItemFault
+part_in c (name ∷ duration ∷ flags ∷ []) = part_by c name (number_in 20 duration) (flags_in flags)
+part_in c other = Err BadLine
+
+-- `RENDITION`
+abbrev pub alone_in : Configuration → List (List ℕ) → Result ℕ ItemFault
+alone_in c (name ∷ []) = named c name
+alone_in c other = Err BadLine
+
 abbrev pub break_at : Result ℕ ItemFault → Result Item ItemFault
 break_at (Err fault) = Err fault
 break_at (Ok rendition) = Ok (Break rendition)
 
--- `part RENDITION MICROSECONDS FLAGS` or `break RENDITION`
+abbrev pub end_at : Result ℕ ItemFault → Result Item ItemFault
+end_at (Err fault) = Err fault
+end_at (Ok rendition) = Ok (End rendition)
+
+-- `part RENDITION MICROSECONDS FLAGS`, `break RENDITION` or `end RENDITION`
 abbrev pub item_of : Configuration → List (List ℕ) → Result Item ItemFault
-item_of c (kind ∷ name ∷ []) = if bytes_eq kind (codes "break") then break_at (named c name) else Err BadLine
-item_of c (kind ∷ name ∷ duration ∷ flags ∷ []) =
-    if bytes_eq kind (codes "part") then part_by c name (number_in 20 duration) (flags_in flags) else Err BadLine
-item_of c other = Err BadLine
+item_of c [] = Err BadLine
+item_of c (kind ∷ rest) =
+    if bytes_eq kind (codes "part") then part_in c rest
+    else if bytes_eq kind (codes "break") then break_at (alone_in c rest)
+    else if bytes_eq kind (codes "end") then end_at (alone_in c rest)
+    else Err BadLine
 
 -- the item that a line spells, or what is wrong with it
 abbrev pub item_in : Configuration → List ℕ → Result Item ItemFault

@@ -25,6 +25,11 @@ pub enum Item {
         /// The rendition's index in the order of the settings.
         rendition: usize,
     },
+    /// The rendition has no more parts (EXT-X-ENDLIST, section 4.4.3.4). It finishes an open segment.
+    End {
+        /// The rendition's index in the order of the settings.
+        rendition: usize,
+    },
 }
 
 /// Why a line is no item.
@@ -44,7 +49,9 @@ impl Item {
         ensures { result ≡ rendition_of self.now }
     {
         match self {
-            Item::Part { rendition, .. } | Item::Break { rendition } => *rendition,
+            Item::Part { rendition, .. } | Item::Break { rendition } | Item::End { rendition } => {
+                *rendition
+            }
         }
     }
 
@@ -65,6 +72,9 @@ impl Item {
                 finish: *finish,
             },
             Item::Break { rendition } => Item::Break {
+                rendition: *rendition,
+            },
+            Item::End { rendition } => Item::End {
                 rendition: *rendition,
             },
         })

@@ -1,8 +1,8 @@
 //! The lines that spell items.
-ghost use Rattle.std.specs.Prelude.{◌≡◌, ◌∷◌, [], MatchOption, Err, codes};
+ghost use Rattle.std.specs.Prelude.{◌≡◌, ◌∷◌, [], MatchOption, Err};
 ghost use Rattle.ll_attr.specs.Words.{words};
 ghost use Rattle.ll_item.specs.Settings.{Configuration};
-ghost use Rattle.ll_item.specs.Items.{item_in, item_of, flags_in};
+ghost use Rattle.ll_item.specs.Items.{item_in, part_in, alone_in, flags_in};
 ghost use Rattle.ll_item.specs.Items as spec;
 
 use crate::item::{Item, ItemFault};
@@ -13,8 +13,8 @@ use ll_attr::{cut, parse_number};
 
 impl Item {
     /// The item that a line spells: `part RENDITION MICROSECONDS FLAGS`, where the flags are `-` for none, `i` for independent,
-    /// `f` for finishing its segment, or `if` for both; or `break RENDITION`. Or why there is none: the line is of neither
-    /// form, or the channel has no such rendition.
+    /// `f` for finishing its segment, or `if` for both; `break RENDITION`; or `end RENDITION`. Or why there is none: the
+    /// line is of none of these forms, or the channel has no such rendition.
     pub fn read(settings: &Settings, line: &str) -> Result<Item, ItemFault>
         ensures { result ≡ item_in settings.now line.now }
     {
@@ -24,7 +24,11 @@ impl Item {
         if kind == "part" {
             read_part(settings, rest)
         } else if kind == "break" {
-            read_break(settings, rest)
+            let rendition = read_alone(settings, rest)?;
+            Ok(Item::Break { rendition })
+        } else if kind == "end" {
+            let rendition = read_alone(settings, rest)?;
+            Ok(Item::End { rendition })
         } else {
             Err(ItemFault::BadLine)
         }
@@ -33,7 +37,7 @@ impl Item {
 
 /// The part whose rendition, duration and flags are the words of this text.
 fn read_part(settings: &Settings, text: &str) -> Result<Item, ItemFault>
-    ensures { result ≡ item_of settings.now (codes "part" ∷ words text.now) }
+    ensures { result ≡ part_in settings.now (words text.now) }
 {
     let Some((name, duration, flags)) = part_words(text) else {
         return Err(ItemFault::BadLine);
@@ -54,7 +58,7 @@ fn read_part(settings: &Settings, text: &str) -> Result<Item, ItemFault>
 
 /// The rendition's name, the duration and the flags of a part, where there are three words.
 fn part_words(text: &str) -> Option<(&str, &str, &str)>
-    ensures { (c : Configuration) → MatchOption result (item_of c (codes "part" ∷ words text.now) ≡ Err ItemFault.BadLine)
+    ensures { (c : Configuration) → MatchOption result (part_in c (words text.now) ≡ Err ItemFault.BadLine)
         (λ w. words text.now ≡ w.0.now ∷ w.1.now ∷ w.2.now ∷ []) }
 {
     let (name, rest) = cut(text, ' ')?;
@@ -79,16 +83,14 @@ fn part_flags(text: &str) -> Option<(bool, bool)>
     }
 }
 
-/// The break in the rendition whose name this text is.
-fn read_break(settings: &Settings, text: &str) -> Result<Item, ItemFault>
-    ensures { result ≡ item_of settings.now (codes "break" ∷ words text.now) }
+/// The index of the rendition whose name this text is, or what is wrong with it.
+fn read_alone(settings: &Settings, text: &str) -> Result<usize, ItemFault>
+    ensures { result ≡ alone_in settings.now (words text.now) }
 {
-    let Some(name) = one_word(text) else {
-        return Err(ItemFault::BadLine);
-    };
-    Ok(Item::Break {
-        rendition: named(settings, name)?,
-    })
+    match one_word(text) {
+        Some(name) => named(settings, name),
+        None => Err(ItemFault::BadLine),
+    }
 }
 
 /// The index of the rendition of this name, or what is wrong with the name.

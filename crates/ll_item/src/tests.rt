@@ -244,10 +244,14 @@ fn items_are_read(rt: HostRuntime) -> Result<(), Fail> {
 }
 
 #[test]
-fn breaks_are_read(rt: HostRuntime) -> Result<(), Fail> {
+fn breaks_and_ends_are_read(rt: HostRuntime) -> Result<(), Fail> {
     let settings = Settings::read(rt.alloc(), LINE)?;
-    for (line, rendition) in [("break lo", 0), ("break hi", 1)] {
-        let item = Item::Break { rendition };
+    for (line, rendition, item) in [
+        ("break lo", 0, Item::Break { rendition: 0 }),
+        ("break hi", 1, Item::Break { rendition: 1 }),
+        ("end lo", 0, Item::End { rendition: 0 }),
+        ("end hi", 1, Item::End { rendition: 1 }),
+    ] {
         assert_eq!(rt; item.rendition(), rendition, "at {line}");
         assert_eq!(rt; item.copy()?, item, "at {line}");
         assert_eq!(rt; Item::read(&settings, line), Ok(item), "at {line}");
@@ -278,6 +282,11 @@ fn lines_that_are_no_item_are_refused(rt: HostRuntime) -> Result<(), Fail> {
         ("break Hi", ItemFault::BadLine),
         ("break hi x", ItemFault::BadLine),
         ("break hi 1 -", ItemFault::BadLine),
+        ("end zz", ItemFault::NoRendition),
+        ("end", ItemFault::BadLine),
+        ("end hi ", ItemFault::BadLine),
+        ("end hi x", ItemFault::BadLine),
+        ("End hi", ItemFault::BadLine),
         ("breaks hi", ItemFault::BadLine),
         ("Break hi", ItemFault::BadLine),
         ("part hi", ItemFault::BadLine),

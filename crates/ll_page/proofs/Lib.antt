@@ -1,3 +1,4 @@
 pub mod PlaceLemmas
+pub mod ReportLemmas
 pub mod SegmentLemmas
 pub mod WorkedExamples

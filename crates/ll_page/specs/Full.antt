@@ -1,14 +1,15 @@
 -- The full playlist of a rendition (sections 4.4 and 6.2.1).
-use Rattle.std.specs.Prelude.{ℕ, ◌+◌, ◌*◌, ◌/◌, ◌||◌, ◌==◌, List, [], ◌∷◌, Bool, true, false, Option, Some, None, length}
+use Rattle.std.specs.Prelude.{ℕ, ◌+◌, ◌*◌, ◌/◌, ◌||◌, ◌==◌, List, [], ◌∷◌, ◌++◌, Bool, true, false, Option, Some, None, length, slice_get}
 use Rattle.ll_time.specs.Times.{time_text}
 use Rattle.ll_item.specs.Settings.{Configuration}
 use Rattle.ll_item.specs.declared.item.Item.{Item}
 use Rattle.ll_window.specs.declared.part.Part.{Part}
+use Rattle.ll_window.specs.declared.place.Place.{Place}
 use Rattle.ll_window.specs.Compact.{Compact, unfinished}
 use Rattle.ll_window.specs.Rows.{Row}
-use Rattle.ll_page.specs.Playlist.{PartLine, Block, Finished, Header, Playlist}
+use Rattle.ll_page.specs.Playlist.{PartLine, Block, Finished, Report, Header, Playlist}
 use Rattle.ll_page.specs.Spelling.{spelling}
-use Rattle.ll_page.specs.Uris.{segment_uri, part_uri, map_uri}
+use Rattle.ll_page.specs.Uris.{segment_uri, part_uri, map_uri, report_uri}
 use Rattle.ll_page.specs.View.{Seen, seen, asked}
 
 abbrev pub header_of : Configuration → Header
@@ -58,18 +59,44 @@ abbrev pub sequence_of : Compact → List Row → ℕ
 sequence_of k [] = k.next_number
 sequence_of k (row ∷ more) = row.segment.number
 
-abbrev pub playlist_of : Configuration → Compact → Playlist
-playlist_of c k = record {
+-- the report of a rendition, where it has a part and the playlist is not its own
+abbrev pub report_by : Bool → Option (List ℕ) → Option Place → List Report
+report_by true name last = []
+report_by false None last = []
+report_by false (Some name) None = []
+report_by false (Some name) (Some place) = (record { uri = report_uri name; number = place.number; index = place.index }) ∷ []
+
+-- the reports of these renditions, of which the first has this index, in the playlist of the one that is asked for
+abbrev pub reports_from : List (List ℕ) → ℕ → ℕ → List Compact → List Report
+reports_from names asked rendition [] = []
+reports_from names asked rendition (k ∷ ks) =
+    report_by (rendition == asked) (slice_get names rendition) k.last ++ reports_from names asked (rendition + 1) ks
+
+abbrev pub reports_of : Seen → List Report
+reports_of v = reports_from v.settings.renditions v.rendition 0 v.windows
+
+abbrev pub hint_by : Bool → List ℕ → Option (List ℕ)
+hint_by true uri = None
+hint_by false uri = Some uri
+
+-- the part behind the last of the open segment, or the first of the next
+abbrev pub hint_of : Compact → Option (List ℕ)
+hint_of k = hint_by k.ended (part_uri k.next_number (length k.open_parts))
+
+abbrev pub playlist_of : Configuration → List Report → Compact → Playlist
+playlist_of c reports k = record {
   header = header_of c;
   sequence = sequence_of k k.window;
   discontinuity = k.discontinuity;
   segments = printed true k.window;
   open_block = open_of (length k.window == 0) (unfinished k);
+  reports = reports;
+  hint = hint_of k;
 }
 
 -- the playlist of the rendition that is asked for
 abbrev pub full_playlist : Seen → Playlist
-full_playlist v = playlist_of v.settings (asked v)
+full_playlist v = playlist_of v.settings (reports_of v) (asked v)
 
 -- its text
 abbrev pub full_text : Seen → List ℕ

@@ -25,6 +25,14 @@ pub record Finished : Type 0 where
   pub duration : ℕ
   pub uri : List ℕ
 
+-- how far another rendition has come
+pub record Report : Type 0 where
+  pub uri : List ℕ
+  -- the media sequence number of its last segment with a part
+  pub number : ℕ
+  -- the index of that segment's last part
+  pub index : ℕ
+
 -- what does not change while the stream goes on
 pub record Header : Type 0 where
   pub version : ℕ
@@ -46,3 +54,6 @@ pub record Playlist : Type 0 where
   pub segments : List Finished
   -- the lines of the open segment, where it has a part
   pub open_block : Option Block
+  pub reports : List Report
+  -- the URI of the part that comes next; none where the rendition has ended
+  pub hint : Option (List ℕ)

@@ -1,7 +1,7 @@
 -- The text of a playlist, line by line. Each line ends in LF.
 use Rattle.std.specs.Prelude.{ℕ, List, [], ◌++◌, Bool, Option, Some, None, if◌then◌else◌, codes, decimal, flat_map}
 use Rattle.ll_attr.specs.Durations.{seconds}
-use Rattle.ll_page.specs.Playlist.{PartLine, Block, Finished, Header, Playlist}
+use Rattle.ll_page.specs.Playlist.{PartLine, Block, Finished, Report, Header, Playlist}
 
 -- sections 4.4.1.1 and 4.4.1.2
 unfoldable pub first_lines : ℕ → List ℕ
@@ -71,8 +71,25 @@ abbrev pub open_lines : Option Block → List ℕ
 open_lines None = []
 open_lines (Some b) = block_lines b
 
+-- section 4.4.5.4
+unfoldable pub report_line : Report → List ℕ
+report_line r =
+    codes "#EXT-X-RENDITION-REPORT:URI=\"" ++ (r.uri ++ (codes "\",LAST-MSN=" ++ (decimal r.number ++ (codes ",LAST-PART=" ++ (decimal r.index ++ codes "\n")))))
+
+-- section 4.4.5.3
+unfoldable pub hint_line : List ℕ → List ℕ
+hint_line uri = codes "#EXT-X-PRELOAD-HINT:TYPE=PART,URI=\"" ++ (uri ++ codes "\"\n")
+
+-- section 4.4.3.4
+unfoldable pub end_line : List ℕ
+end_line = codes "#EXT-X-ENDLIST\n"
+
+abbrev pub last_line : Option (List ℕ) → List ℕ
+last_line None = end_line
+last_line (Some uri) = hint_line uri
+
 -- the text of a playlist
 abbrev pub spelling : Playlist → List ℕ
 spelling p =
     header_lines p.header ++ (sequence_line p.sequence ++ (discontinuity_line p.discontinuity
-    ++ (flat_map segment_lines p.segments ++ open_lines p.open_block)))
+    ++ (flat_map segment_lines p.segments ++ (open_lines p.open_block ++ (flat_map report_line p.reports ++ last_line p.hint)))))

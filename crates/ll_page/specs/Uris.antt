@@ -12,3 +12,7 @@ part_uri number index = codes "s" ++ (decimal number ++ (codes "." ++ (decimal i
 -- the Media Initialization Section of this number
 unfoldable pub map_uri : ℕ → List ℕ
 map_uri number = codes "init" ++ (decimal number ++ codes ".mp4")
+
+-- the playlist of the rendition of this name, from that of another one
+unfoldable pub report_uri : List ℕ → List ℕ
+report_uri name = codes "../" ++ (name ++ codes "/live.m3u8")

@@ -39,10 +39,10 @@ one_part = item.Part 0 1000000 true true ∷ []
 abbrev pub mixed_parts : List Item
 mixed_parts =
     item.Part 1 334000 true false ∷ item.Part 0 300000 true true ∷ item.Part 1 333999 false true ∷ item.Break 1 ∷ item.Break 0
-    ∷ item.Part 1 1 true false ∷ []
+    ∷ item.Part 1 1 true false ∷ item.End 0 ∷ []
 
-abbrev pub empty_text : List ℕ
-empty_text =
+abbrev pub header_text : List ℕ
+header_text =
     codes "#EXTM3U\n"
     ++ codes "#EXT-X-VERSION:9\n"
     ++ codes "#EXT-X-TARGETDURATION:4\n"
@@ -51,14 +51,18 @@ empty_text =
     ++ codes "#EXT-X-MEDIA-SEQUENCE:0\n"
     ++ codes "#EXT-X-DISCONTINUITY-SEQUENCE:0\n"
 
+abbrev pub empty_text : List ℕ
+empty_text = header_text ++ codes "#EXT-X-PRELOAD-HINT:TYPE=PART,URI=\"s0.0.m4s\"\n"
+
 abbrev pub one_segment_text : List ℕ
 one_segment_text =
-    empty_text
+    header_text
     ++ codes "#EXT-X-MAP:URI=\"init0.mp4\"\n"
     ++ codes "#EXT-X-PROGRAM-DATE-TIME:1970-01-01T00:00:00.000Z\n"
     ++ codes "#EXT-X-PART:DURATION=1.000000,URI=\"s0.0.m4s\",INDEPENDENT=YES\n"
     ++ codes "#EXTINF:1.000000,\n"
     ++ codes "s0.m4s\n"
+    ++ codes "#EXT-X-PRELOAD-HINT:TYPE=PART,URI=\"s1.0.m4s\"\n"
 
 abbrev pub open_segment_text : List ℕ
 open_segment_text =
@@ -79,6 +83,26 @@ open_segment_text =
     ++ codes "#EXT-X-MAP:URI=\"init1.mp4\"\n"
     ++ codes "#EXT-X-PROGRAM-DATE-TIME:1970-01-01T00:00:00.667Z\n"
     ++ codes "#EXT-X-PART:DURATION=0.000001,URI=\"s8.0.m4s\",INDEPENDENT=YES\n"
+    ++ codes "#EXT-X-RENDITION-REPORT:URI=\"../lo/live.m3u8\",LAST-MSN=7,LAST-PART=0\n"
+    ++ codes "#EXT-X-PRELOAD-HINT:TYPE=PART,URI=\"s8.1.m4s\"\n"
+
+-- the first rendition has ended
+abbrev pub ended_text : List ℕ
+ended_text =
+    codes "#EXTM3U\n"
+    ++ codes "#EXT-X-VERSION:9\n"
+    ++ codes "#EXT-X-TARGETDURATION:4\n"
+    ++ codes "#EXT-X-SERVER-CONTROL:CAN-BLOCK-RELOAD=YES,PART-HOLD-BACK=1.002000,CAN-SKIP-UNTIL=24.000000\n"
+    ++ codes "#EXT-X-PART-INF:PART-TARGET=0.334000\n"
+    ++ codes "#EXT-X-MEDIA-SEQUENCE:7\n"
+    ++ codes "#EXT-X-DISCONTINUITY-SEQUENCE:0\n"
+    ++ codes "#EXT-X-MAP:URI=\"init0.mp4\"\n"
+    ++ codes "#EXT-X-PROGRAM-DATE-TIME:1970-01-01T00:00:00.000Z\n"
+    ++ codes "#EXT-X-PART:DURATION=0.300000,URI=\"s7.0.m4s\",INDEPENDENT=YES\n"
+    ++ codes "#EXTINF:0.300000,\n"
+    ++ codes "s7.m4s\n"
+    ++ codes "#EXT-X-RENDITION-REPORT:URI=\"../hi/live.m3u8\",LAST-MSN=8,LAST-PART=0\n"
+    ++ codes "#EXT-X-ENDLIST\n"
 
 pub record WorkedPlaylists : Type 0 where
   -- the settings of the first two examples are those that a line spells
@@ -87,3 +111,4 @@ pub record WorkedPlaylists : Type 0 where
   pub empty : text_after whole_seconds [] 0 ≡ empty_text
   pub one_segment : text_after whole_seconds one_part 0 ≡ one_segment_text
   pub open_segment : text_after two_renditions mixed_parts 1 ≡ open_segment_text
+  pub has_ended : text_after two_renditions mixed_parts 0 ≡ ended_text

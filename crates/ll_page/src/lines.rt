@@ -1,13 +1,13 @@
 //! One function for each kind of line of a playlist, which adds it to a text.
 ghost use Rattle.std.specs.Prelude.{◌≡◌, ◌++◌, ◌*◌, OnOk, string_bytes};
 ghost use Rattle.ll_window.specs.declared.part.Part.{Part};
-ghost use Rattle.ll_page.specs.Spelling.{first_lines, target_line, control_line, part_target_line, sequence_line, discontinuity_line, broken_line, map_line, time_line, independent_flag, part_line, finished_lines};
-ghost use Rattle.ll_page.specs.Uris.{segment_uri, part_uri, map_uri};
+ghost use Rattle.ll_page.specs.Spelling.{first_lines, target_line, control_line, part_target_line, sequence_line, discontinuity_line, broken_line, map_line, time_line, independent_flag, part_line, report_line, hint_line, end_line, finished_lines};
+ghost use Rattle.ll_page.specs.Uris.{segment_uri, part_uri, map_uri, report_uri};
 ghost use Rattle.ll_time.specs.Times.{time_text};
 
 use ll_attr::Micros;
 use ll_time::UtcTime;
-use ll_window::Part;
+use ll_window::{Part, Place};
 use std::alloc::AllocError;
 
 /// EXTM3U (section 4.4.1.1) and EXT-X-VERSION (section 4.4.1.2).
@@ -118,6 +118,38 @@ pub(crate) fn push_part_line(
         text,
         "#EXT-X-PART:DURATION={duration},URI=\"s{number}.{index}.m4s\"{flag}\n"
     )
+}
+
+/// EXT-X-RENDITION-REPORT (section 4.4.5.4): where the last part of the rendition of this name stands.
+#[tactic(auto, unfolding(crate::specs::Spelling::report_line, crate::specs::Uris::report_uri))]
+pub(crate) fn push_report_line(text: &mut String, name: &str, last: Place) -> Result<(), AllocError>
+    ensures { OnOk result (string_bytes text.new ≡ string_bytes text.old
+        ++ report_line (record { uri = report_uri name.now; number = last.number; index = last.index })) }
+{
+    let (number, index) = (last.number, last.index);
+    write!(
+        text,
+        "#EXT-X-RENDITION-REPORT:URI=\"../{name}/live.m3u8\",LAST-MSN={number},LAST-PART={index}\n"
+    )
+}
+
+/// EXT-X-PRELOAD-HINT (section 4.4.5.3): the part of this index, in the segment of this media sequence number.
+#[tactic(auto, unfolding(crate::specs::Spelling::hint_line, crate::specs::Uris::part_uri))]
+pub(crate) fn push_hint_line(text: &mut String, number: u64, index: u64) -> Result<(), AllocError>
+    ensures { OnOk result (string_bytes text.new ≡ string_bytes text.old ++ hint_line (part_uri number index)) }
+{
+    write!(
+        text,
+        "#EXT-X-PRELOAD-HINT:TYPE=PART,URI=\"s{number}.{index}.m4s\"\n"
+    )
+}
+
+/// EXT-X-ENDLIST (section 4.4.3.4).
+#[tactic(auto, unfolding(crate::specs::Spelling::end_line))]
+pub(crate) fn push_end_line(text: &mut String) -> Result<(), AllocError>
+    ensures { OnOk result (string_bytes text.new ≡ string_bytes text.old ++ end_line) }
+{
+    text.push_str("#EXT-X-ENDLIST\n")
 }
 
 /// EXTINF (section 4.4.4.1), and the URI of the segment of this media sequence number.

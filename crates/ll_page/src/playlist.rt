@@ -1,20 +1,21 @@
 ghost use Rattle.std.specs.Prelude.{◌≡◌, ◌≤◌, ◌/◌, ◌==◌, ◌++◌, IfOk, OnOk, string_bytes, flat_map, length, true};
 ghost use Rattle.ll_item.specs.Settings.{last_micro};
 ghost use Rattle.ll_window.specs.Compact.{unfinished};
-ghost use Rattle.ll_page.specs.Full.{full_text, header_of, part_lines, block_of, finished_of, printed, open_of, sequence_of};
-ghost use Rattle.ll_page.specs.Spelling.{header_lines, part_line, block_lines, segment_lines, open_lines};
+ghost use Rattle.ll_page.specs.Full.{full_text, header_of, part_lines, block_of, finished_of, printed, open_of, report_by, reports_of, hint_of, sequence_of};
+ghost use Rattle.ll_page.specs.Spelling.{header_lines, part_line, block_lines, segment_lines, open_lines, report_line, last_line};
+ghost use Rattle.std.specs.Option.{option_copied};
 
 use crate::lines::*;
 use crate::view::View;
 use ll_attr::{Micros, Text};
 use ll_item::Settings;
 use ll_time::UtcTime;
-use ll_window::{Part, Segment, Window};
+use ll_window::{Part, Place, Segment, Window};
 use std::alloc::{AllocError, Global};
 
 /// The text of the full Media Playlist of a view (section 4.4): the lines that tell of the channel, then of each segment of
-/// the window its discontinuity, map, time and parts, its EXTINF and URI, then the same lines of the open segment. LF ends
-/// each line. It fails only where no memory is found.
+/// the window its discontinuity, map, time and parts, its EXTINF and URI, then the same lines of the open segment, a report of each
+/// other rendition, and a hint of the next part or the end. LF ends each line. It fails only where no memory is found.
 pub fn full(alloc: Global, view: &View<'_>) -> Result<Text, AllocError>
     ensures { IfOk result (λ text. text ≡ full_text view.now) }
 {
@@ -25,6 +26,8 @@ pub fn full(alloc: Global, view: &View<'_>) -> Result<Text, AllocError>
     push_discontinuity_line(&mut text, window.discontinuity())?;
     push_segments(&mut text, window)?;
     push_open(&mut text, window)?;
+    push_reports(&mut text, view)?;
+    push_last_line(&mut text, window)?;
     Ok(Text::from_string(text))
 }
 
@@ -91,6 +94,52 @@ fn push_open(text: &mut String, window: &Window) -> Result<(), AllocError>
             push_block(text, leads, segment, window.open_parts())
         }
         None => Ok(()),
+    }
+}
+
+/// Adds a report of each other rendition that has a part.
+fn push_reports(text: &mut String, view: &View<'_>) -> Result<(), AllocError>
+    ensures { OnOk result (string_bytes text.new ≡ string_bytes text.old ++ flat_map report_line (reports_of view.now)) }
+{
+    let (names, asked) = (view.settings().renditions(), view.rendition());
+    for (rendition, window) in view.windows().iter().enumerate() {
+        push_report(
+            text,
+            rendition == asked,
+            names.get(rendition),
+            window.last(),
+        )?;
+    }
+    Ok(())
+}
+
+/// Adds the report of a rendition of this name, where it has a part and the playlist is not its own.
+fn push_report(
+    text: &mut String,
+    is_asked: bool,
+    name: Option<&Text>,
+    last: Option<Place>,
+) -> Result<(), AllocError>
+    ensures { OnOk result (string_bytes text.new ≡ string_bytes text.old
+        ++ flat_map report_line (report_by is_asked (option_copied name.entry) last)) }
+{
+    if is_asked {
+        return Ok(());
+    }
+    if let (Some(name), Some(last)) = (name, last) {
+        push_report_line(text, name.as_str(), last)?;
+    }
+    Ok(())
+}
+
+/// Adds the hint of the part that comes next, or the end.
+fn push_last_line(text: &mut String, window: &Window) -> Result<(), AllocError>
+    ensures { OnOk result (string_bytes text.new ≡ string_bytes text.old ++ last_line (hint_of window.now)) }
+{
+    if window.ended() {
+        push_end_line(text)
+    } else {
+        push_hint_line(text, window.next_number(), window.open_parts().len() as u64)
     }
 }
 

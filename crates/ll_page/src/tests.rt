@@ -4,14 +4,16 @@ use ll_window::Window;
 use std::alloc::Global;
 use std::test::Fail;
 
-/// The playlist of no parts, where the target duration is 4 s and the part target 1 s.
-const EMPTY: &str = "#EXTM3U\n\
+/// The playlist of an ended rendition of no parts, where the target duration is 4 s and the part target 1 s.
+const ENDED: &str = "#EXTM3U\n\
     #EXT-X-VERSION:9\n\
     #EXT-X-TARGETDURATION:4\n\
     #EXT-X-SERVER-CONTROL:CAN-BLOCK-RELOAD=YES,PART-HOLD-BACK=3.000000,CAN-SKIP-UNTIL=24.000000\n\
     #EXT-X-PART-INF:PART-TARGET=1.000000\n\
     #EXT-X-MEDIA-SEQUENCE:0\n\
-    #EXT-X-DISCONTINUITY-SEQUENCE:0\n";
+    #EXT-X-DISCONTINUITY-SEQUENCE:0\n\
+    #EXT-X-RENDITION-REPORT:URI=\"../lo/live.m3u8\",LAST-MSN=1,LAST-PART=0\n\
+    #EXT-X-ENDLIST\n";
 
 /// The playlist of a segment of one part and, behind a break, an open segment of one part.
 const BROKEN: &str = "#EXTM3U\n\
@@ -29,9 +31,10 @@ const BROKEN: &str = "#EXTM3U\n\
     #EXT-X-DISCONTINUITY\n\
     #EXT-X-MAP:URI=\"init1.mp4\"\n\
     #EXT-X-PROGRAM-DATE-TIME:1970-01-01T00:00:00.999Z\n\
-    #EXT-X-PART:DURATION=1.000000,URI=\"s1.0.m4s\"\n";
+    #EXT-X-PART:DURATION=1.000000,URI=\"s1.0.m4s\"\n\
+    #EXT-X-PRELOAD-HINT:TYPE=PART,URI=\"s1.1.m4s\"\n";
 
-/// The settings, the window of no items, and that of the items of `BROKEN`.
+/// The settings, an ended window of no parts, and that of the items of `BROKEN`.
 fn windows(alloc: Global) -> Result<(Settings, Vec<Window>), Fail> {
     let line =
         "channel cam target=4 part=1000000 skip=24 window=36 renditions=hi,lo first=0 start=0";
@@ -50,7 +53,9 @@ fn windows(alloc: Global) -> Result<(Settings, Vec<Window>), Fail> {
         independent: false,
         finish: false,
     })?;
-    let windows = vec![in alloc; Window::new(alloc, &settings)?, broken]?;
+    let mut ended = Window::new(alloc, &settings)?;
+    ended.push(Item::End { rendition: 0 })?;
+    let windows = vec![in alloc; ended, broken]?;
     Ok((settings, windows))
 }
 
@@ -58,12 +63,13 @@ fn windows(alloc: Global) -> Result<(Settings, Vec<Window>), Fail> {
 fn playlists_of_views_are_written(rt: HostRuntime) -> Result<(), Fail> {
     let (settings, windows) = windows(rt.alloc())?;
     assert_eq!(rt; View::new(&settings, &windows, 2, 9).is_none(), true);
-    for (rendition, segments, text) in [(0, 0, EMPTY), (1, 1, BROKEN)] {
+    for (rendition, segments, text) in [(0, 0, ENDED), (1, 1, BROKEN)] {
         let view = View::new(&settings, &windows, rendition, 9).ok_or("the rendition")?;
         assert_eq!(rt; view.rendition(), rendition);
         assert_eq!(rt; view.count(), 9);
         assert_eq!(rt; view.settings().channel(), "cam");
         assert_eq!(rt; view.window().segment_count(), segments);
+        assert_eq!(rt; view.windows().len(), 2);
         assert_eq!(rt; full(rt.alloc(), &view)?.as_str(), text);
     }
     Ok(())

@@ -64,6 +64,13 @@ impl<'a> View<'a> {
         &self.windows[self.rendition]
     }
 
+    /// The windows of all renditions, in the order of the settings.
+    pub fn windows(&self) -> &'a [Window]
+        ensures { result.now ≡ self.now.windows }
+    {
+        self.windows
+    }
+
     /// The index of the rendition that is asked for.
     pub fn rendition(&self) -> usize
         ensures { result ≡ self.now.rendition }

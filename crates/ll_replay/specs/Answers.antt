@@ -2,10 +2,11 @@
 use Rattle.std.specs.Prelude.{ℕ, List, [], ◌++◌, codes, decimal, length, Option, Some, None, String, string_bytes}
 use Rattle.std.specs.declared.alloc.Global.{Global}
 use Rattle.ll_replay.specs.declared.refusal.Refusal.{Refusal}
-use Rattle.ll_replay.specs.declared.refusal.Refusal.TheVariants.{NoRendition, BadDuration, TooLong, OpenSegment, CountEnd, TimeEnd, RecordFull, Memory, BadLine, UnknownChannel}
+use Rattle.ll_replay.specs.declared.refusal.Refusal.TheVariants.{NoRendition, Ended, BadDuration, TooLong, OpenSegment, CountEnd, TimeEnd, RecordFull, Memory, BadLine, UnknownChannel}
 
 abbrev pub code_of : Refusal → ℕ
 code_of NoRendition = 1
+code_of Ended = 2
 code_of BadDuration = 3
 code_of TooLong = 4
 code_of OpenSegment = 5
@@ -18,6 +19,7 @@ code_of UnknownChannel = 14
 
 abbrev pub name_of : Refusal → List ℕ
 name_of NoRendition = codes "NoRendition"
+name_of Ended = codes "Ended"
 name_of BadDuration = codes "BadDuration"
 name_of TooLong = codes "TooLong"
 name_of OpenSegment = codes "OpenSegment"

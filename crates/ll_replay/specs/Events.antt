@@ -30,6 +30,7 @@ event_end = 2 ^ 60
 
 -- the same reason by its name in answers
 abbrev pub refusal_of : PushFault → Refusal
+refusal_of push.Ended = refused.Ended
 refusal_of push.BadDuration = refused.BadDuration
 refusal_of push.TooLong = refused.TooLong
 refusal_of push.OpenSegment = refused.OpenSegment

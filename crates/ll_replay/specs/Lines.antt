@@ -1,5 +1,5 @@
 -- What the lines of a script mean.
-use Rattle.std.specs.Prelude.{ℕ, ◌+◌, List, [], ◌∷◌, Bool, true, ◌&&◌, ◌==◌, Option, Some, None, Result, Ok, Err, if◌then◌else◌, is_none, option_map, length, nat_lt, bytes_eq, codes}
+use Rattle.std.specs.Prelude.{ℕ, ◌+◌, List, [], ◌∷◌, Bool, true, ◌&&◌, ◌==◌, Option, Some, None, Result, Ok, Err, if◌then◌else◌, is_none, option_map, nat_lt, bytes_eq, codes}
 use Rattle.std.specs.List.{list_any, before_first, after_first}
 use Rattle.std.specs.Str.{is_utf8}
 use Rattle.ll_attr.specs.Numbers.{number_in}
@@ -64,10 +64,10 @@ abbrev pub get_of : List Configuration → Option ℕ → List (List ℕ) → Op
 get_of channels last (id ∷ target ∷ []) = get_by last (number_in 9 id) (target_of channels (parts_at 47 target))
 get_of channels last other = None
 
--- a channel of one rendition, whose name no other has
+-- a channel whose name no other has
 abbrev pub declaration : List Configuration → Result Configuration SettingsFault → Option Act
 declaration channels (Err fault) = None
-declaration channels (Ok c) = if (length c.renditions == 1) && is_none (channel_named channels 0 c.channel) then Some (Declare c) else None
+declaration channels (Ok c) = if is_none (channel_named channels 0 c.channel) then Some (Declare c) else None
 
 abbrev pub act_by : List Configuration → Option ℕ → List ℕ → Option (List ℕ) → Option Act
 act_by channels last line (Some text) = get_of channels last (words text)

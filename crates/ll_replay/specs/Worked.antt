@@ -6,9 +6,9 @@ use Rattle.ll_replay.specs.World.{BadLine}
 abbrev pub channel_line : List ℕ
 channel_line = codes "channel cam target=4 part=1000000 skip=24 window=36 renditions=hi first=0 start=0\n"
 
--- no item was published
-abbrev pub empty_playlist : List ℕ
-empty_playlist =
+-- the lines of a playlist that come first
+abbrev pub header_lines : List ℕ
+header_lines =
     codes "#EXTM3U\n"
     ++ codes "#EXT-X-VERSION:9\n"
     ++ codes "#EXT-X-TARGETDURATION:4\n"
@@ -17,15 +17,20 @@ empty_playlist =
     ++ codes "#EXT-X-MEDIA-SEQUENCE:0\n"
     ++ codes "#EXT-X-DISCONTINUITY-SEQUENCE:0\n"
 
+-- no item was published
+abbrev pub empty_playlist : List ℕ
+empty_playlist = header_lines ++ codes "#EXT-X-PRELOAD-HINT:TYPE=PART,URI=\"s0.0.m4s\"\n"
+
 -- one part, which is a whole segment
 abbrev pub segment_playlist : List ℕ
 segment_playlist =
-    empty_playlist
+    header_lines
     ++ codes "#EXT-X-MAP:URI=\"init0.mp4\"\n"
     ++ codes "#EXT-X-PROGRAM-DATE-TIME:1970-01-01T00:00:00.000Z\n"
     ++ codes "#EXT-X-PART:DURATION=1.000000,URI=\"s0.0.m4s\",INDEPENDENT=YES\n"
     ++ codes "#EXTINF:1.000000,\n"
     ++ codes "s0.m4s\n"
+    ++ codes "#EXT-X-PRELOAD-HINT:TYPE=PART,URI=\"s1.0.m4s\"\n"
 
 abbrev pub asked_at_once : List ℕ
 asked_at_once = channel_line ++ codes "get 1 /cam/hi/live.m3u8\n"
@@ -33,8 +38,8 @@ asked_at_once = channel_line ++ codes "get 1 /cam/hi/live.m3u8\n"
 abbrev pub asked_later : List ℕ
 asked_later = channel_line ++ codes "pub cam part hi 1000000 if\n" ++ codes "get 1 /cam/hi/live.m3u8\n"
 
--- a comment, an empty line that ends in CR LF, six refusals, one of them of a line that is no UTF-8, a break, and an item without
--- a last end
+-- a comment, an empty line that ends in CR LF, seven refusals, one of them of a line that is no UTF-8, a break, an end, and an
+-- item behind it without a last end
 abbrev pub refused_lines : List ℕ
 refused_lines =
     codes "# a camera\n\r\n"
@@ -47,6 +52,7 @@ refused_lines =
     ++ codes "pub cam break hi\n"
     ++ codes "pub cam part hi 1000000 -\n"
     ++ codes "pub cam break hi\n"
+    ++ codes "pub cam end hi\n"
     ++ codes "pub cam part hi 1000000 -"
 
 abbrev pub refusals_text : List ℕ
@@ -60,14 +66,15 @@ refusals_text =
     ++ codes "ok 2\n"
     ++ codes "no 5 OpenSegment\n"
     ++ codes "ok 3\n"
+    ++ codes "no 2 Ended\n"
 
 -- the second number of a request does not rise
 abbrev pub same_number : List ℕ
 same_number = asked_at_once ++ codes "get 1 /cam/hi/live.m3u8\n" ++ codes "pub cam part hi 1000000 if\n"
 
 pub record WorkedScript : Type 0 where
-  pub at_once : script asked_at_once ≡ codes "reply 1 200 234\n" ++ empty_playlist
-  pub later : script asked_later ≡ codes "ok 1\n" ++ codes "reply 1 200 397\n" ++ segment_playlist
+  pub at_once : script asked_at_once ≡ codes "reply 1 200 279\n" ++ empty_playlist
+  pub later : script asked_later ≡ codes "ok 1\n" ++ codes "reply 1 200 442\n" ++ segment_playlist
   pub refusals : script refused_lines ≡ refusals_text
-  pub same_text : script same_number ≡ codes "reply 1 200 234\n" ++ empty_playlist
+  pub same_text : script same_number ≡ codes "reply 1 200 279\n" ++ empty_playlist
   pub same_ending : (world_of same_number).ending ≡ Some (BadLine 3)

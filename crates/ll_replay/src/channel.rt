@@ -45,6 +45,7 @@ impl From<PushFault> for Refusal {
 
     fn from(fault: PushFault) -> Refusal {
         match fault {
+            PushFault::Ended => Refusal::Ended,
             PushFault::BadDuration => Refusal::BadDuration,
             PushFault::TooLong => Refusal::TooLong,
             PushFault::OpenSegment => Refusal::OpenSegment,

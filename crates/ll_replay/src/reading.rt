@@ -158,7 +158,7 @@ fn target_names(target: &str) -> Option<(&str, &str)>
     Some((channel, rendition))
 }
 
-/// A new channel of one rendition.
+/// A new channel, whose name no other has.
 fn read_declaration(alloc: Global, channels: &[Channel], line: &str) -> Result<Option<Act>, Unread>
     ensures act { IfOk result (λ a. a ≡ spec.declaration (settings_kept channels.now) (settings_in line.now)) }
     ensures never_bad { IsErrOf result Unread.BadLine → ⊥ }
@@ -166,7 +166,7 @@ fn read_declaration(alloc: Global, channels: &[Channel], line: &str) -> Result<O
 {
     match Settings::read(alloc, line) {
         Ok(settings) => {
-            if settings.renditions().len() != 1 || find(channels, settings.channel()).is_some() {
+            if find(channels, settings.channel()).is_some() {
                 return Ok(None);
             }
             Ok(Some(Act::Declare(settings)))

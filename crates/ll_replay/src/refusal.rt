@@ -6,6 +6,8 @@ ghost use Rattle.ll_replay.specs.Answers.{code_of, name_of};
 pub enum Refusal {
     /// The rendition is none of the channel's.
     NoRendition,
+    /// Anything behind the end of its rendition.
+    Ended,
     /// A part of 0 microseconds.
     BadDuration,
     /// A part longer than the part target, or whose segment rounds to more than the target duration.
@@ -33,6 +35,7 @@ impl Refusal {
     {
         match self {
             Refusal::NoRendition => 1,
+            Refusal::Ended => 2,
             Refusal::BadDuration => 3,
             Refusal::TooLong => 4,
             Refusal::OpenSegment => 5,
@@ -51,6 +54,7 @@ impl Refusal {
     {
         match self {
             Refusal::NoRendition => "NoRendition",
+            Refusal::Ended => "Ended",
             Refusal::BadDuration => "BadDuration",
             Refusal::TooLong => "TooLong",
             Refusal::OpenSegment => "OpenSegment",

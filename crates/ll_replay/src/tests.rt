@@ -17,17 +17,18 @@ const CHANNEL: &[u8] =
 const ONE_SEGMENT: &[u8] = b"pub cam part hi 1000000 if\nget 1 /cam/hi/live.m3u8\n";
 
 const ONE_SEGMENT_TEXT: &[u8] =
-    b"ok 1\nreply 1 200 397\n#EXTM3U\n#EXT-X-VERSION:9\n#EXT-X-TARGETDURATION:4\n\
+    b"ok 1\nreply 1 200 442\n#EXTM3U\n#EXT-X-VERSION:9\n#EXT-X-TARGETDURATION:4\n\
 #EXT-X-SERVER-CONTROL:CAN-BLOCK-RELOAD=YES,PART-HOLD-BACK=3.000000,CAN-SKIP-UNTIL=24.000000\n\
 #EXT-X-PART-INF:PART-TARGET=1.000000\n#EXT-X-MEDIA-SEQUENCE:0\n#EXT-X-DISCONTINUITY-SEQUENCE:0\n\
 #EXT-X-MAP:URI=\"init0.mp4\"\n#EXT-X-PROGRAM-DATE-TIME:1970-01-01T00:00:00.000Z\n\
-#EXT-X-PART:DURATION=1.000000,URI=\"s0.0.m4s\",INDEPENDENT=YES\n#EXTINF:1.000000,\ns0.m4s\n";
+#EXT-X-PART:DURATION=1.000000,URI=\"s0.0.m4s\",INDEPENDENT=YES\n#EXTINF:1.000000,\ns0.m4s\n\
+#EXT-X-PRELOAD-HINT:TYPE=PART,URI=\"s1.0.m4s\"\n";
 
-/// Items and breaks, of which two are accepted.
-const BREAKS: &[u8] =
-    b"pub cam break hi\npub cam part hi 1 i\npub cam break hi\npub cam break lo\n";
+/// Items, of which three are accepted.
+const ITEMS: &[u8] = b"pub cam break hi\npub cam part hi 1 i\npub cam break hi\npub cam break lo\n\
+pub cam end hi\npub cam end hi\n";
 
-const BREAKS_TEXT: &[u8] = b"ok 1\nok 2\nno 5 OpenSegment\nno 1 NoRendition\n";
+const ITEMS_TEXT: &[u8] = b"ok 1\nok 2\nno 5 OpenSegment\nno 1 NoRendition\nok 3\nno 2 Ended\n";
 
 /// All bytes at once.
 const WHOLE: Device = Device {
@@ -165,7 +166,7 @@ fn answers_come_in_any_pieces(rt: HostRuntime) -> Result<(), AllocError> {
     let cases: [(&[u8], u64, u64, &[u8]); 3] = [
         (b"", 0, 0, b""),
         (ONE_SEGMENT, 2, 1, ONE_SEGMENT_TEXT),
-        (BREAKS, 2, 0, BREAKS_TEXT),
+        (ITEMS, 3, 0, ITEMS_TEXT),
     ];
     for (lines, events, replies, text) in cases {
         let script = behind_channel(rt.alloc(), lines)?;
@@ -227,6 +228,7 @@ fn failed_writes_stop_a_run(rt: HostRuntime) -> Result<(), AllocError> {
 fn refusals_have_codes_and_names(rt: HostRuntime) {
     let cases = [
         (Refusal::NoRendition, 1, "NoRendition"),
+        (Refusal::Ended, 2, "Ended"),
         (Refusal::BadDuration, 3, "BadDuration"),
         (Refusal::TooLong, 4, "TooLong"),
         (Refusal::OpenSegment, 5, "OpenSegment"),

@@ -3,8 +3,10 @@ use Rattle.std.specs.Prelude.{ℕ, ◌+◌, ◌*◌, List, [], ◌∷◌, Bool, 
 use Rattle.ll_item.specs.Settings.{Configuration}
 use Rattle.ll_item.specs.declared.item.Item.{Item}
 use Rattle.ll_window.specs.declared.part.Part.{Part}
+use Rattle.ll_window.specs.declared.place.Place.{Place}
+use Rattle.ll_window.specs.Numbers.{numbered_parts, last_place}
 use Rattle.ll_window.specs.Rows.{Row, row, rows, lasting, broken_in}
-use Rattle.ll_window.specs.Segments.{own, segments, open_segment, duration, end_time, pending_after}
+use Rattle.ll_window.specs.Segments.{own, parts, segments, open_segment, duration, end_time, pending_after, ended}
 use Rattle.ll_window.specs.Window.{window_limit, near_limit, gone, window, listed}
 
 pub record Compact : Type 0 where
@@ -24,6 +26,10 @@ pub record Compact : Type 0 where
   pub pending : Bool
   -- how many broken segments have left the window (section 4.4.3.3)
   pub discontinuity : ℕ
+  -- where the last part stands, where there is one
+  pub last : Option Place
+  -- whether the rendition has ended
+  pub ended : Bool
 
 -- all finished segments
 abbrev pub all_rows : Configuration → List Item → List Row
@@ -41,6 +47,8 @@ compact c items = record {
   end_time = end_time items;
   pending = pending_after false items;
   discontinuity = broken_in (gone (window_limit c) (all_rows c items));
+  last = last_place (numbered_parts c.first 0 (parts items));
+  ended = ended items;
 }
 
 -- the open segment, where it has a part

@@ -1,9 +1,11 @@
 -- What a window keeps beside its value.
-use Rattle.std.specs.Prelude.{◌≡◌, ℕ, ◌+◌, ◌*◌, ◌≤◌, List, [], ◌∷◌}
+use Rattle.std.specs.Prelude.{◌≡◌, ℕ, ◌+◌, ◌*◌, ◌≤◌, List, [], ◌∷◌, false, Some}
 use Rattle.ll_item.specs.Settings.{Configuration, number_end, last_micro}
 use Rattle.ll_window.specs.declared.part.Part.{Part}
 use Rattle.ll_window.specs.declared.progress.Progress.{Progress}
 use Rattle.ll_window.specs.declared.finished.Finished.{Finished}
+use Rattle.ll_window.specs.declared.place.Place.{Place}
+use Rattle.ll_window.specs.declared.segment.Segment.{Segment}
 use Rattle.ll_window.specs.Rows.{Row, lasting, broken_in}
 use Rattle.ll_window.specs.Segments.{duration}
 
@@ -11,6 +13,37 @@ use Rattle.ll_window.specs.Segments.{duration}
 abbrev pub AreTimed : List Row → ℕ → Type 0
 AreTimed [] time = Unit
 AreTimed (r ∷ rs) time = (r.segment.time + r.segment.duration + lasting rs ≡ time) × AreTimed rs time
+
+-- with one more part of so many microseconds, which stands here
+abbrev pub grown : Progress → ℕ → Place → Progress
+grown p micros place = record {
+  next_number = p.next_number;
+  maps = p.maps;
+  open_time = p.open_time;
+  open_duration = p.open_duration + micros;
+  end_time = p.end_time + micros;
+  pending = false;
+  last = Some place;
+  ended = p.ended;
+}
+
+-- behind the open segment
+abbrev pub behind : Progress → Segment → Progress
+behind p s = record {
+  next_number = p.next_number + 1;
+  maps = s.map_number;
+  open_time = p.open_time + s.duration;
+  open_duration = 0;
+  end_time = p.end_time;
+  pending = p.pending;
+  last = p.last;
+  ended = p.ended;
+}
+
+-- a number past the last one may come next, where no segment is open
+abbrev pub spare : List Part → ℕ
+spare [] = 1
+spare (p ∷ ps) = 0
 
 -- sums are kept, and numbers and times have not passed their ends
 pub record IsKept (c : Configuration) (f : Finished) (open_parts : List Part) (p : Progress) : Type 0 where
@@ -21,5 +54,5 @@ pub record IsKept (c : Configuration) (f : Finished) (open_parts : List Part) (p
   pub within : lasting f.rows.items ≤ p.open_time
   pub breaks : f.discontinuity + broken_in f.rows.items ≡ p.maps
   pub few_maps : p.maps ≤ p.next_number
-  pub numbers : p.next_number ≤ number_end + 1
+  pub numbers : p.next_number ≤ number_end + spare open_parts
   pub times : c.start * 1000 + p.end_time ≤ last_micro

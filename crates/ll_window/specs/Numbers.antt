@@ -1,8 +1,9 @@
 -- Media sequence numbers and part indexes of all parts, one part after another (section 4.4.4.9).
-use Rattle.std.specs.Prelude.{◌≡◌, ℕ, ◌+◌, List, [], ◌∷◌, ◌++◌, if◌then◌else◌}
+use Rattle.std.specs.Prelude.{◌≡◌, ℕ, ◌+◌, List, [], ◌∷◌, ◌++◌, Bool, Option, Some, None, if◌then◌else◌}
 use Rattle.ll_window.specs.declared.part.Part.{Part}
+use Rattle.ll_window.specs.declared.place.Place.{Place}
 use Rattle.ll_window.specs.Rows.{Row, rows}
-use Rattle.ll_window.specs.Segments.{split}
+use Rattle.ll_window.specs.Segments.{split, finished_by, unfinished_by}
 
 pub record NumberedPart : Type 0 where
   pub number : ℕ
@@ -33,5 +34,12 @@ number_after number (segment ∷ segments) = number_after (number + 1) segments
 
 -- The segments' numbers and the parts' places in them are the numbers and indexes that the parts have one by one.
 abbrev pub NumbersLaw : Type 0
-NumbersLaw = (first maps time : ℕ) (ps : List Part)
-    → placed_rows (rows first maps time (split ps).finished) (number_after first (split ps).finished) (split ps).unfinished ≡ numbered_parts first 0 ps
+NumbersLaw = (first maps time : ℕ) (has_ended : Bool) (ps : List Part)
+    → placed_rows (rows first maps time (finished_by has_ended (split ps))) (number_after first (finished_by has_ended (split ps))) (unfinished_by has_ended (split ps))
+    ≡ numbered_parts first 0 ps
+
+-- the media sequence number and the index of the last of these parts, where there is one
+abbrev pub last_place : List NumberedPart → Option Place
+last_place [] = None
+last_place (p ∷ []) = Some (record { number = p.number; index = p.index })
+last_place (p ∷ q ∷ more) = last_place (q ∷ more)

@@ -1,12 +1,12 @@
 -- Which items may follow.
-use Rattle.std.specs.Prelude.{ℕ, ◌+◌, ◌*◌, ◌/◌, ◌||◌, ◌==◌, List, [], ◌∷◌, length, nat_lt, Option, Some, None, if◌then◌else◌}
+use Rattle.std.specs.Prelude.{ℕ, ◌+◌, ◌*◌, ◌/◌, ◌||◌, ◌==◌, List, [], ◌∷◌, Bool, true, false, length, nat_lt, Option, Some, None, if◌then◌else◌}
 use Rattle.ll_item.specs.Settings.{Configuration, number_end, last_micro}
 use Rattle.ll_item.specs.declared.item.Item.{Item}
 use Rattle.ll_item.specs.declared.item.Item.TheVariants as item
 use Rattle.ll_window.specs.declared.part.Part.{Part}
 use Rattle.ll_window.specs.declared.window.PushFault.{PushFault}
-use Rattle.ll_window.specs.declared.window.PushFault.TheVariants.{BadDuration, TooLong, OpenSegment, CountEnd, TimeEnd}
-use Rattle.ll_window.specs.Segments.{segments, open_segment, duration, end_time}
+use Rattle.ll_window.specs.declared.window.PushFault.TheVariants.{Ended, BadDuration, TooLong, OpenSegment, CountEnd, TimeEnd}
+use Rattle.ll_window.specs.Segments.{segments, open_segment, duration, end_time, ended}
 
 -- microseconds as the nearest whole seconds, half upwards
 abbrev pub rounded : ℕ → ℕ
@@ -27,8 +27,17 @@ abbrev pub break_refusal : List Part → Option PushFault
 break_refusal [] = None
 break_refusal (p ∷ ps) = Some OpenSegment
 
+-- why an item may not follow these items of its rendition, which has not ended
+abbrev pub refusal_before_end : Configuration → List Item → Item → Option PushFault
+refusal_before_end c before (item.Part rendition micros independent finish) =
+    part_refusal c (c.first + length (segments before)) (duration (open_segment before)) (end_time before) micros
+refusal_before_end c before (item.Break rendition) = break_refusal (open_segment before)
+refusal_before_end c before (item.End rendition) = None
+
+abbrev pub refusal_by : Bool → Option PushFault → Option PushFault
+refusal_by true other = Some Ended
+refusal_by false other = other
+
 -- the first reason for which an item may not follow these items of its rendition, or none
 abbrev pub refusal : Configuration → List Item → Item → Option PushFault
-refusal c before (item.Part rendition micros independent finish) =
-    part_refusal c (c.first + length (segments before)) (duration (open_segment before)) (end_time before) micros
-refusal c before (item.Break rendition) = break_refusal (open_segment before)
+refusal c before item = refusal_by (ended before) (refusal_before_end c before item)

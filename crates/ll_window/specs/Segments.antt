@@ -1,5 +1,5 @@
 -- Parts and Media Segments of one rendition, from the whole list of its items (sections 4.4.4 and 4.4.4.9).
-use Rattle.std.specs.Prelude.{ℕ, List, [], ◌∷◌, Bool, true, false, ◌==◌, filter, sum_by}
+use Rattle.std.specs.Prelude.{ℕ, List, [], ◌∷◌, ◌++◌, Bool, true, false, ◌==◌, filter, sum_by}
 use Rattle.ll_item.specs.Items.{rendition_of}
 use Rattle.ll_item.specs.declared.item.Item.{Item}
 use Rattle.ll_item.specs.declared.item.Item.TheVariants as item
@@ -15,12 +15,21 @@ parts_from pending [] = []
 parts_from pending (item.Part rendition duration independent finish ∷ items) =
     (record { duration = duration; independent = independent; finish = finish; after_break = pending }) ∷ parts_from false items
 parts_from pending (item.Break rendition ∷ items) = parts_from true items
+parts_from pending (item.End rendition ∷ items) = parts_from pending items
 
 -- whether a break stands behind the last part, where one stands before these items or doesn't
 abbrev pub pending_after : Bool → List Item → Bool
 pending_after pending [] = pending
 pending_after pending (item.Part rendition duration independent finish ∷ items) = pending_after false items
 pending_after pending (item.Break rendition ∷ items) = pending_after true items
+pending_after pending (item.End rendition ∷ items) = pending_after pending items
+
+-- whether the rendition has ended (section 4.4.3.4)
+abbrev pub ended : List Item → Bool
+ended [] = false
+ended (item.Part rendition duration independent finish ∷ items) = ended items
+ended (item.Break rendition ∷ items) = ended items
+ended (item.End rendition ∷ items) = true
 
 -- the parts among the items of one rendition
 abbrev pub parts : List Item → List Part
@@ -42,13 +51,26 @@ abbrev pub split : List Part → Split
 split [] = record { finished = []; unfinished = [] }
 split (p ∷ ps) = put_by p.finish p (split ps).finished (split ps).unfinished
 
--- the finished segments
+-- these parts as a segment, where there are any
+abbrev pub closed : List Part → List (List Part)
+closed [] = []
+closed (p ∷ ps) = (p ∷ ps) ∷ []
+
+abbrev pub finished_by : Bool → Split → List (List Part)
+finished_by true s = s.finished ++ closed s.unfinished
+finished_by false s = s.finished
+
+abbrev pub unfinished_by : Bool → Split → List Part
+unfinished_by true s = []
+unfinished_by false s = s.unfinished
+
+-- the finished segments; the end closes the last of them as if its last part had finished it
 abbrev pub segments : List Item → List (List Part)
-segments items = (split (parts items)).finished
+segments items = finished_by (ended items) (split (parts items))
 
 -- the parts of the open segment
 abbrev pub open_segment : List Item → List Part
-open_segment items = (split (parts items)).unfinished
+open_segment items = unfinished_by (ended items) (split (parts items))
 
 -- microseconds
 abbrev pub duration : List Part → ℕ

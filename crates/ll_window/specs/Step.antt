@@ -1,10 +1,11 @@
 -- What one more item makes of what is kept of the items before it, and why it may not follow them.
-use Rattle.std.specs.Prelude.{ℕ, ◌+◌, List, [], ◌∷◌, ◌++◌, Bool, true, false, Option}
+use Rattle.std.specs.Prelude.{ℕ, ◌+◌, List, [], ◌∷◌, ◌++◌, Bool, true, false, Option, Some, None, length}
 use Rattle.ll_item.specs.declared.item.Item.{Item}
 use Rattle.ll_item.specs.declared.item.Item.TheVariants as item
 use Rattle.ll_window.specs.declared.part.Part.{Part}
+use Rattle.ll_window.specs.declared.place.Place.{Place}
 use Rattle.ll_window.specs.Compact.{Compact}
-use Rattle.ll_window.specs.Refusal.{part_refusal, break_refusal}
+use Rattle.ll_window.specs.Refusal.{part_refusal, break_refusal, refusal_by}
 use Rattle.ll_window.specs.Rows.{Row, row, one_if, is_broken, broken_in}
 use Rattle.ll_window.specs.Segments.{duration}
 use Rattle.ll_window.specs.Window.{window_limit, near_limit, gone, window, listed}
@@ -14,9 +15,9 @@ use Rattle.ll_window.specs.declared.window.PushFault.{PushFault}
 abbrev pub window_with : Compact → Row → List Row
 window_with k r = k.window ++ r ∷ []
 
--- the open segment is finished with these parts, whose durations end at this time
-abbrev pub with_segment : Compact → List Part → ℕ → Compact
-with_segment k ps ends = record {
+-- the open segment is finished with these parts, whose durations end at this time; the last part stands here
+abbrev pub with_segment : Compact → List Part → ℕ → Bool → Option Place → Bool → Compact
+with_segment k ps ends pending last has_ended = record {
   settings = k.settings;
   window = listed (near_limit k.settings) 0 (window (window_limit k.settings) (window_with k (row k.next_number k.maps k.open_time ps)));
   open_parts = [];
@@ -24,13 +25,15 @@ with_segment k ps ends = record {
   maps = k.maps + one_if (is_broken ps);
   open_time = k.open_time + duration ps;
   end_time = ends;
-  pending = false;
+  pending = pending;
   discontinuity = k.discontinuity + broken_in (gone (window_limit k.settings) (window_with k (row k.next_number k.maps k.open_time ps)));
+  last = last;
+  ended = has_ended;
 }
 
 -- the open segment has these parts, whose durations end at this time
-abbrev pub with_open : Compact → List Part → ℕ → Compact
-with_open k ps ends = record {
+abbrev pub with_open : Compact → List Part → ℕ → Option Place → Compact
+with_open k ps ends last = record {
   settings = k.settings;
   window = listed (near_limit k.settings) (duration ps) k.window;
   open_parts = ps;
@@ -40,18 +43,23 @@ with_open k ps ends = record {
   end_time = ends;
   pending = false;
   discontinuity = k.discontinuity;
+  last = last;
+  ended = k.ended;
 }
 
+-- where the next part stands
+abbrev pub next_place : Compact → Place
+next_place k = record { number = k.next_number; index = length k.open_parts }
+
 abbrev pub with_part_by : Bool → Compact → Part → Compact
-with_part_by true k p = with_segment k (k.open_parts ++ p ∷ []) (k.end_time + p.duration)
-with_part_by false k p = with_open k (k.open_parts ++ p ∷ []) (k.end_time + p.duration)
+with_part_by true k p = with_segment k (k.open_parts ++ p ∷ []) (k.end_time + p.duration) false (Some (next_place k)) k.ended
+with_part_by false k p = with_open k (k.open_parts ++ p ∷ []) (k.end_time + p.duration) (Some (next_place k))
 
 abbrev pub with_part : Compact → Part → Compact
 with_part k p = with_part_by p.finish k p
 
--- a break stands behind the last part
-abbrev pub with_break : Compact → Compact
-with_break k = record {
+abbrev pub marked : Compact → Bool → Bool → Compact
+marked k pending has_ended = record {
   settings = k.settings;
   window = k.window;
   open_parts = k.open_parts;
@@ -59,16 +67,36 @@ with_break k = record {
   maps = k.maps;
   open_time = k.open_time;
   end_time = k.end_time;
-  pending = true;
+  pending = pending;
   discontinuity = k.discontinuity;
+  last = k.last;
+  ended = has_ended;
 }
+
+-- a break stands behind the last part
+abbrev pub with_break : Compact → Compact
+with_break k = marked k true k.ended
+
+abbrev pub ended_by : List Part → Compact → Compact
+ended_by [] k = marked k k.pending true
+ended_by (p ∷ ps) k = with_segment k (p ∷ ps) k.end_time k.pending k.last true
+
+-- the rendition has ended
+abbrev pub with_end : Compact → Compact
+with_end k = ended_by k.open_parts k
 
 abbrev pub with_item : Compact → Item → Compact
 with_item k (item.Part rendition duration independent finish) =
     with_part k (record { duration = duration; independent = independent; finish = finish; after_break = k.pending })
 with_item k (item.Break rendition) = with_break k
+with_item k (item.End rendition) = with_end k
+
+-- why an item may not follow, where the rendition has not ended
+abbrev pub refusal_going_on : Compact → Item → Option PushFault
+refusal_going_on k (item.Part rendition micros independent finish) = part_refusal k.settings k.next_number (duration k.open_parts) k.end_time micros
+refusal_going_on k (item.Break rendition) = break_refusal k.open_parts
+refusal_going_on k (item.End rendition) = None
 
 -- why an item may not follow
 abbrev pub refusal_after : Compact → Item → Option PushFault
-refusal_after k (item.Part rendition micros independent finish) = part_refusal k.settings k.next_number (duration k.open_parts) k.end_time micros
-refusal_after k (item.Break rendition) = break_refusal k.open_parts
+refusal_after k item = refusal_by k.ended (refusal_going_on k item)

@@ -48,33 +48,31 @@ impl Finished {
         }
     }
 
-    /// Adds the open segment, of which this is the last part, and gives up the segments behind which the others alone last
-    /// so many microseconds at least. It answers the segment that it added; where no memory is found, nothing changes.
+    /// Adds the open segment, which has all these parts, and gives up the segments behind which the others alone last so
+    /// many microseconds at least. It answers the segment that it added; where no memory is found, nothing changes.
     pub(crate) fn finish(
         &mut self,
         alloc: Global,
         least: u64,
         progress: Progress,
         open_parts: &mut Vec<Part>,
-        last: Part,
     ) -> Result<Segment, AllocError>
         requires sum { self.old.lasting ≡ spec.lasting self.old.rows.items }
-        requires open { progress.open_duration ≡ duration (open_parts.old.items ++ last ∷ []) }
+        requires open { progress.open_duration ≡ duration open_parts.old.items }
         requires lasting { self.old.lasting + progress.open_duration < 2 ^ 64 }
         requires maps { progress.maps + 1 < 2 ^ 64 }
         requires breaks { self.old.discontinuity + broken_in self.old.rows.items ≤ progress.maps }
         ensures rows { OnOk result (self.new.rows.items
-            ≡ window least (self.old.rows.items ++ row progress.next_number progress.maps progress.open_time (open_parts.old.items ++ last ∷ []) ∷ [])) }
+            ≡ window least (self.old.rows.items ++ row progress.next_number progress.maps progress.open_time open_parts.old.items ∷ [])) }
         ensures left { OnOk result (self.new.discontinuity ≡ self.old.discontinuity
-            + broken_in (gone least (self.old.rows.items ++ row progress.next_number progress.maps progress.open_time (open_parts.old.items ++ last ∷ []) ∷ []))) }
-        ensures segment { IfOk result (λ s. s ≡ (row progress.next_number progress.maps progress.open_time (open_parts.old.items ++ last ∷ [])).segment) }
+            + broken_in (gone least (self.old.rows.items ++ row progress.next_number progress.maps progress.open_time open_parts.old.items ∷ []))) }
+        ensures segment { IfOk result (λ s. s ≡ (row progress.next_number progress.maps progress.open_time open_parts.old.items).segment) }
         ensures sums { OnOk result (self.new.lasting ≡ spec.lasting self.new.rows.items) }
         ensures emptied { OnOk result (open_parts.new.items ≡ []) }
         ensures err { OnErr result ((self.new.rows.items ≡ self.old.rows.items) × (self.new.lasting ≡ self.old.lasting)
             × (self.new.discontinuity ≡ self.old.discontinuity) × (open_parts.new.items ≡ open_parts.old.items)) }
     {
         self.rows.reserve(1)?;
-        open_parts.push(last)?;
         let parts = mem::replace(open_parts, Vec::new(alloc));
         let segment = progress.segment(parts.as_slice());
         self.rows.push_back(Kept { segment, parts })?;

@@ -5,12 +5,14 @@
 mod finished;
 mod laws;
 mod part;
+mod place;
 mod progress;
 mod segment;
 mod window;
 
 pub use laws::{numbers_law, window_law};
 pub use part::Part;
+pub use place::Place;
 pub use segment::Segment;
 pub use window::{PushFault, Window};
 

@@ -3,8 +3,11 @@ ghost use Rattle.std.specs.Prelude.{◌≡◌, ◌+◌, ◌<◌, ◌^◌};
 ghost use Rattle.ll_window.specs.Rows.{row};
 ghost use Rattle.ll_window.specs.Segments.{duration};
 ghost use Rattle.ll_window.specs.Rows as spec;
+ghost use Rattle.ll_window.specs.Kept.{grown};
+ghost use Rattle.ll_window.specs.Kept as kept;
 
 use crate::part::Part;
+use crate::place::Place;
 use crate::segment::Segment;
 
 /// How many segments are finished and broken, when the open one begins, and how long all parts last.
@@ -22,6 +25,10 @@ pub(crate) struct Progress {
     pub(crate) end_time: u64,
     /// Whether a break stands behind the last part.
     pub(crate) pending: bool,
+    /// Where the last part stands, where there is one.
+    pub(crate) last: Option<Place>,
+    /// Whether the rendition has ended.
+    pub(crate) ended: bool,
 }
 
 impl Progress {
@@ -38,6 +45,36 @@ impl Progress {
             map_number: if broken { self.maps + 1 } else { self.maps },
             time: self.open_time,
             duration: self.open_duration,
+        }
+    }
+
+    /// With one more part of so many microseconds, which stands here.
+    pub(crate) fn with_part(self, micros: u64, place: Place) -> Progress
+        requires open { self.open_duration + micros < 2 ^ 64 }
+        requires end { self.end_time + micros < 2 ^ 64 }
+        ensures { result ≡ grown self micros place }
+    {
+        Progress {
+            open_duration: self.open_duration + micros,
+            end_time: self.end_time + micros,
+            pending: false,
+            last: Some(place),
+            ..self
+        }
+    }
+
+    /// Behind the open segment, which is finished.
+    pub(crate) fn behind(self, segment: Segment) -> Progress
+        requires number { self.next_number + 1 < 2 ^ 64 }
+        requires time { self.open_time + segment.duration < 2 ^ 64 }
+        ensures { result ≡ kept.behind self segment }
+    {
+        Progress {
+            next_number: self.next_number + 1,
+            maps: segment.map_number,
+            open_time: self.open_time + segment.duration,
+            open_duration: 0,
+            ..self
         }
     }
 }

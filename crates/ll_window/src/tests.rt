@@ -20,6 +20,8 @@ const ENDS: (u64, bool) = (1_000_000, true);
 
 const BREAK: Item = Item::Break { rendition: 0 };
 
+const END: Item = Item::End { rendition: 0 };
+
 /// The window of no items. It lasts 9 s, parts are listed within 3 s, a segment lasts less than 1.5 s.
 fn window(alloc: Global, first: u64, start: u64) -> Result<Window, Fail> {
     let line = format!(in alloc;
@@ -139,14 +141,15 @@ fn the_first_reason_is_answered(rt: HostRuntime) -> Result<(), Fail> {
         assert_eq!(rt; window.push(item((micros, false))), Err(fault));
         assert_eq!(rt; format!(in rt.alloc(); "{fault}")?.as_str(), name);
     }
-    let (open, time, memory) = (
+    let (ended, open, time, memory) = (
+        PushFault::Ended,
         PushFault::OpenSegment,
         PushFault::TimeEnd,
         PushFault::Memory,
     );
     assert_eq!(rt;
-        format!(in rt.alloc(); "{open} {time} {memory}")?.as_str(),
-        "OpenSegment TimeEnd Memory"
+        format!(in rt.alloc(); "{ended} {open} {time} {memory}")?.as_str(),
+        "Ended OpenSegment TimeEnd Memory"
     );
     Ok(())
 }
@@ -290,5 +293,39 @@ fn breaks_are_counted_as_they_leave(rt: HostRuntime) -> Result<(), Fail> {
             segment(12, false, 4, 4_751_000, 1_000_000),
         ],
     );
+    Ok(())
+}
+
+#[test]
+fn the_end_finishes_the_open_segment(rt: HostRuntime) -> Result<(), Fail> {
+    let mut window = window(rt.alloc(), 7, 0)?;
+    assert_eq!(rt; window.last(), None);
+    push_parts(
+        &mut window,
+        &[
+            (false, 1_000_000, true),
+            (false, 400_000, false),
+            (false, 1, false),
+        ],
+    )?;
+    let last = Some(Place {
+        number: 8,
+        index: 1,
+    });
+    assert_eq!(rt; window.last(), last);
+    assert_eq!(rt; window.ended(), false);
+    window.push(END)?;
+    for refused in [item(ENDS), BREAK, END] {
+        assert_eq!(rt; window.test(&refused), Err(PushFault::Ended));
+        assert_eq!(rt; window.push(refused), Err(PushFault::Ended));
+        expect_window(&rt, &window, (2, 0, 9, 1_400_001));
+        assert_eq!(rt; window.last(), last);
+        assert_eq!(rt; window.ended(), true);
+    }
+    let segments = [
+        segment(7, false, 0, 0, 1_000_000),
+        segment(8, false, 0, 1_000_000, 400_001),
+    ];
+    expect_segments(&rt, &window, &segments);
     Ok(())
 }

@@ -5,11 +5,13 @@ ghost use Rattle.ll_item.specs.Settings.{last_micro};
 ghost use Rattle.ll_window.specs.Compact.{compact, unfinished};
 ghost use Rattle.ll_window.specs.Refusal.{refusal, part_refusal};
 ghost use Rattle.ll_window.specs.Segments.{duration};
-ghost use Rattle.ll_window.specs.Step.{with_item, with_part, with_part_by, refusal_after};
+ghost use Rattle.ll_window.specs.Step.{with_item, with_part, with_part_by, with_end, refusal_after};
+ghost use Rattle.ll_window.specs.Step as step;
 ghost use Rattle.ll_window.specs.Window.{near_limit, segment_at, parts_at};
 
 use crate::finished::Finished;
 use crate::part::Part;
+use crate::place::Place;
 use crate::progress::Progress;
 use crate::segment::Segment;
 use ll_item::{Item, Settings};
@@ -27,6 +29,9 @@ const LAST_MICRO: u64 = 253_402_300_799_999_999;
 /// only where there is no other reason.
 #[derive(Clone, Copy, Debug, PartialEq, Eq, Error)]
 pub enum PushFault {
+    /// Anything behind the end of its rendition (EXT-X-ENDLIST, section 4.4.3.4).
+    #[error("Ended")]
+    Ended,
     /// A part of 0 microseconds.
     #[error("BadDuration")]
     BadDuration,
@@ -76,6 +81,8 @@ impl Model for Window {
       end_time = w.progress.end_time;
       pending = w.progress.pending;
       discontinuity = w.finished.discontinuity;
+      last = w.progress.last;
+      ended = w.progress.ended;
     } };
 
     ghost invariant = { λ w. IsKept w.settings w.finished w.open_parts.items w.progress };
@@ -94,6 +101,8 @@ impl Window {
             open_duration: 0,
             end_time: 0,
             pending: false,
+            last: None,
+            ended: false,
         };
         Ok(Window {
             alloc,
@@ -201,6 +210,20 @@ impl Window {
         self.finished.discontinuity
     }
 
+    /// Where the last part stands, where there is one: its segment is finished or open.
+    pub fn last(&self) -> Option<Place>
+        ensures { result ≡ self.now.last }
+    {
+        self.progress.last
+    }
+
+    /// Whether the rendition has ended (EXT-X-ENDLIST, section 4.4.3.4).
+    pub fn ended(&self) -> bool
+        ensures { result ≡ self.now.ended }
+    {
+        self.progress.ended
+    }
+
     /// How long all parts last, those that a playlist no longer shows included, in microseconds.
     pub fn end_time(&self) -> u64
         ensures { result ≡ self.now.end_time }
@@ -212,7 +235,11 @@ impl Window {
     fn fault(&self, item: &Item) -> Option<PushFault>
         ensures { result ≡ refusal_after self.now item.now }
     {
+        if self.progress.ended {
+            return Some(PushFault::Ended);
+        }
         match item {
+            Item::End { .. } => None,
             Item::Part { duration, .. } => self.part_fault(*duration),
             Item::Break { .. } if self.open_parts.is_empty() => None,
             Item::Break { .. } => Some(PushFault::OpenSegment),
@@ -258,6 +285,7 @@ impl Window {
                 after_break: self.progress.pending,
             })?,
             Item::Break { .. } => self.progress.pending = true,
+            Item::End { .. } => self.end()?,
         }
         Ok(())
     }
@@ -271,10 +299,9 @@ impl Window {
         if part.finish {
             self.finish(part)?;
         } else {
+            let place = self.next_place();
             self.open_parts.push(part)?;
-            self.progress.open_duration += part.duration;
-            self.progress.end_time += part.duration;
-            self.progress.pending = false;
+            self.progress = self.progress.with_part(part.duration, place);
         }
         Ok(())
     }
@@ -286,23 +313,48 @@ impl Window {
         ensures err { OnErr result (self.new ≡ self.old) }
     {
         let least = self.settings.window() * 1_000_000;
-        let mut progress = self.progress;
-        progress.open_duration += part.duration;
+        let progress = self.progress.with_part(part.duration, self.next_place());
+        self.open_parts.push(part)?;
         let parts = &mut self.open_parts;
-        let segment = self
-            .finished
-            .finish(self.alloc, least, progress, parts, part)?;
-        self.progress = Progress {
-            next_number: progress.next_number + 1,
-            maps: segment.map_number,
-            open_time: progress.open_time + segment.duration,
-            open_duration: 0,
-            end_time: progress.end_time + part.duration,
-            pending: false,
-        };
+        match self.finished.finish(self.alloc, least, progress, parts) {
+            Ok(segment) => {
+                self.progress = progress.behind(segment);
+                Ok(())
+            }
+            Err(AllocError) => {
+                self.open_parts.pop();
+                Err(AllocError)
+            }
+        }
+    }
+
+    /// Ends the rendition, and finishes the open segment where there is one.
+    fn end(&mut self) -> Result<(), AllocError>
+        ensures ok { OnOk result (self.new ≡ with_end self.old) }
+        ensures err { OnErr result (self.new ≡ self.old) }
+    {
+        if self.open_parts().is_empty() {
+            self.progress.ended = true;
+            return Ok(());
+        }
+        let least = self.settings.window() * 1_000_000;
+        let mut progress = self.progress;
+        progress.ended = true;
+        let parts = &mut self.open_parts;
+        let segment = self.finished.finish(self.alloc, least, progress, parts)?;
+        self.progress = progress.behind(segment);
         Ok(())
     }
 
+    /// Where the next part stands.
+    fn next_place(&self) -> Place
+        ensures { result ≡ step.next_place self.now }
+    {
+        Place {
+            number: self.progress.next_number,
+            index: self.open_parts.len() as u64,
+        }
+    }
     /// Whether the parts behind a finished segment last less than three target durations.
     fn is_near(&self, segment: &Segment) -> bool
         requires behind { segment.now.time + segment.now.duration ≤ self.now.open_time }

@@ -2,18 +2,21 @@
 use Rattle.std.proofs.Common.{ap, ◌∙◌}
 use Rattle.ll_window.specs.Refusal.{part_refusal}
 use Rattle.ll_window.specs.Segments.{duration}
-use Rattle.ll_window.proofs.KeptLemmas.{with_last_part, kept_with_last_part}
+use Rattle.ll_window.proofs.KeptLemmas.{told_finished, kept_finished}
 use Rattle.ll_window.proofs.window.Window.finish.Goals as goal
 
-pub invariant_of-self-2 : goal.invariant_of-self-2
-invariant_of-self-2 c =
-    let e = c.in_ok-segment.ensures in
-    kept_with_last_part _ c.window-least.result c.self.inside.finished c.finish.new.self c.self.inside.open_parts.items c.finish.new.open_parts.items c.self.inside.progress c.args.part c.in_ok-segment.segment
+pub invariant_of-self-in-Ok : goal.invariant_of-self-in-Ok
+invariant_of-self-in-Ok c =
+    let e = c.in-Ok.ensures in
+    kept_finished _ c.window-least.result c.self.inside.finished c.finish.new.self c.self.inside.open_parts.items c.push.new.self.items c.finish.new.open_parts.items c.self.inside.progress
+    c.with_part-progress.result c.behind-self-inside.result c.args.part c.next_place.result c.in-Ok.segment
     c.self.invariant (ap (λ k. part_refusal k.settings k.next_number (duration k.open_parts) k.end_time c.args.part.duration) c.self.view_is ∙ c.requires)
-    e.emptied e.segment e.rows e.left e.sums
+    c.in_ok-push.ensures.items c.with_part-progress.ensures c.behind-self-inside.ensures e.emptied e.segment e.rows e.left e.sums
 
-pub returns-clause-ok : goal.returns-clause-ok
-returns-clause-ok c =
-    let e = c.in_ok-segment.ensures in
-    with_last_part _ c.window-least.result c.self.inside.finished c.finish.new.self c.self.inside.open_parts.items c.finish.new.open_parts.items c.self.inside.progress c.args.part c.in_ok-segment.segment _
-    c.self.view_is c.window-least.ensures.value c.self.invariant.lasts e.emptied e.segment e.rows e.left
+pub returns-in-Ok-clause-ok : goal.returns-in-Ok-clause-ok
+returns-in-Ok-clause-ok c =
+    let e = c.in-Ok.ensures in
+    told_finished _ c.window-least.result c.self.inside.finished c.finish.new.self c.self.inside.open_parts.items c.push.new.self.items c.finish.new.open_parts.items c.self.inside.progress
+    c.with_part-progress.result c.behind-self-inside.result c.args.part c.next_place.result c.in-Ok.segment _
+    c.self.view_is c.window-least.ensures.value c.self.invariant.lasts c.next_place.ensures
+    c.in_ok-push.ensures.items c.with_part-progress.ensures c.behind-self-inside.ensures e.emptied e.segment e.rows e.left
