@@ -8,7 +8,7 @@ use Rattle.ll_attr.specs.declared.attributes.Attribute.{Attribute}
 use Rattle.ll_attr.proofs.ReadSoFar.{read_on, read_more, read_last, read_fault, with_others}
 use Rattle.ll_attr.proofs.attribute_parse.read.Goals as goal
 
--- the fault that `?` hands on
+-- the fault that the question mark hands on
 handed_on : {X : Type 0} (r : Result X AttrFault) (f : AttrFault) (Q : AttrFault → Type 0) → IsErrAnd r (λ e. e ≡ f) → Q f → IfErr r Q
 handed_on (Ok x) f Q same q = absurd same
 handed_on (Err e) f Q same q = rw same q
