@@ -10,3 +10,6 @@ pub mod Spelled
 pub mod ReadSoFar
 pub mod Faults
 pub mod Written
+pub mod Tails
+pub mod Joined
+pub mod Firsts

@@ -15,7 +15,7 @@ use Rattle.ll_attr.proofs.Values.{value_spelled}
 abbrev pub read_by : Bool → Bool → List ℕ → Option AttrValue → Result Attribute AttrFault
 read_by x y name v = if not x then Err BadName else if y then Err Twice else valued name v
 
-read_ok : (x y : Bool) (name : List ℕ) (v : Option AttrValue) (a : Attribute) → read_by x y name v ≡ Ok a → (x ≡ true) × (a.name ≡ name) × (v ≡ Some a.value)
+pub read_ok : (x y : Bool) (name : List ℕ) (v : Option AttrValue) (a : Attribute) → read_by x y name v ≡ Ok a → (x ≡ true) × (a.name ≡ name) × (v ≡ Some a.value)
 read_ok false y name v a h = cc
 read_ok true true name v a h = cc
 read_ok true false name None a h = cc
@@ -38,7 +38,7 @@ front_ok : (a : Attribute) (r : Result (List Attribute) AttrFault) (found : List
 front_ok a (Ok more) found h = (more, refl, cc)
 front_ok a (Err fault) found h = cc
 
-then_ok : (r : Result Attribute AttrFault) (f : Attribute → Result (List Attribute) AttrFault) (found : List Attribute) → and_then r f ≡ Ok found
+pub then_ok : (r : Result Attribute AttrFault) (f : Attribute → Result (List Attribute) AttrFault) (found : List Attribute) → and_then r f ≡ Ok found
     → (a : Attribute) × (more : List Attribute) × (r ≡ Ok a) × (f a ≡ Ok more) × (found ≡ a ∷ more)
 then_ok (Err fault) f found h = cc
 then_ok (Ok a) f found h = let p = front_ok a (f a) found h in (a, p.0, refl, p.1, p.2)
@@ -50,7 +50,7 @@ front_spelled a [] part (q ∷ qs) s l e = absurd (omega arith)
 front_spelled a (b ∷ bs) part [] s l e = absurd (omega arith)
 front_spelled a (b ∷ bs) part (q ∷ qs) s l e = ap (λ text. text ++ (44 ∷ spelling (b ∷ bs))) s ∙ ap (λ text. part ++ (44 ∷ text)) e
 
-parts_spelled : (names parts : List (List ℕ)) (found : List Attribute) → attributes_of names parts ≡ Ok found → (length found ≡ length parts) × (spelling found ≡ join_with_byte 44 parts)
+pub parts_spelled : (names parts : List (List ℕ)) (found : List Attribute) → attributes_of names parts ≡ Ok found → (length found ≡ length parts) × (spelling found ≡ join_with_byte 44 parts)
 parts_spelled names [] found h = let e : [] ≡ found = cc in (sym (ap length e), sym (ap spelling e))
 parts_spelled names (part ∷ parts) found h =
     let p = then_ok (attribute_in names part) (λ (a : Attribute). attributes_of (a.name ∷ names) parts) found h in

@@ -99,6 +99,7 @@ spelling [] = []
 spelling (a ∷ []) = attribute_spelling a
 spelling (a ∷ b ∷ more) = attribute_spelling a ++ (codes "," ++ spelling (b ∷ more))
 
+-- this value where its attribute has the name, else what is found later
 abbrev pub value_by_name : Bool → AttrValue → Option AttrValue → Option AttrValue
 value_by_name true value later = Some value
 value_by_name false value later = later

@@ -38,7 +38,7 @@ fn told(value: Option<&AttrValue>) -> Option<(bool, &str)> {
 }
 
 #[test]
-fn values_are_found_by_name(rt: HostRuntime) {
+fn values_are_found_by_name(rt: HostRuntime) -> Result<(), Fail> {
     let text = "A=1,B=\"x,y\",AB=b=c,C=\"\"";
     assert_eq!(rt; fault(rt, text), None);
     if let Ok(list) = AttrList::parse(rt.alloc(), text) {
@@ -49,7 +49,22 @@ fn values_are_found_by_name(rt: HostRuntime) {
         for name in ["", "a", "D", "ABC", "A=1"] {
             assert_eq!(rt; told(list.get(name)), None, "at {name}");
         }
+        assert_eq!(rt; list.attributes().len(), 4);
+        assert_eq!(rt; list.attributes()[2].name.as_str(), "AB");
+        assert_eq!(rt;
+            told(Some(&list.attributes()[2].value)),
+            Some((false, "b=c"))
+        );
+        let (first, others) = list.split_first().ok_or("it has four")?;
+        assert_eq!(rt; first.name.as_str(), "A");
+        assert_eq!(rt; told(Some(&first.value)), Some((false, "1")));
+        assert_eq!(rt; others.write()?.as_str(), "B=\"x,y\",AB=b=c,C=\"\"");
     }
+    let only = AttrList::parse(rt.alloc(), "A=1")?;
+    let (_, others) = only.split_first().ok_or("it has one")?;
+    assert_eq!(rt; others.attributes().len(), 0);
+    assert!(rt; others.split_first().is_none());
+    Ok(())
 }
 
 #[test]

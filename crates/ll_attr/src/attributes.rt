@@ -1,5 +1,5 @@
 //! Attribute lists.
-ghost use Rattle.std.specs.Prelude.{◌≡◌, ◌≢◌, ◌++◌, [], IfOk, MatchOption, Ok, None, Some, string_bytes};
+ghost use Rattle.std.specs.Prelude.{◌≡◌, ◌≢◌, ◌++◌, ◌∷◌, [], IfOk, MatchOption, Ok, None, Some, string_bytes};
 ghost use Rattle.ll_attr.specs.Attributes.{attributes_in, attribute_spelling, spelling, value_named};
 
 use crate::text::Text;
@@ -19,8 +19,10 @@ pub enum AttrValue {
 /// A name and its value.
 #[derive(Debug, Drop)]
 pub struct Attribute {
-    pub(crate) name: Text,
-    pub(crate) value: AttrValue,
+    /// One or more characters A-Z, 0-9 and `-`, compared byte by byte.
+    pub name: Text,
+    /// What stands behind the equals sign.
+    pub value: AttrValue,
 }
 
 /// Why a text is no attribute list: its first fault from the left; within a pair its name, its standing twice, its value,
@@ -67,6 +69,25 @@ impl AttrList {
         ensures { result ≡ attributes.items }
     {
         AttrList { attributes }
+    }
+
+    /// The attributes, in the order in which they were written.
+    pub fn attributes(&self) -> &[Attribute]
+        ensures { result.now ≡ self.now }
+    {
+        self.attributes.as_slice()
+    }
+
+    /// The first attribute and the list of the others, or nothing where the list has no attribute.
+    pub fn split_first(self) -> Option<(Attribute, AttrList)>
+        ensures { MatchOption result (self ≡ []) (λ s. self ≡ s.0 ∷ s.1) }
+    {
+        let mut attributes = self.attributes;
+        if attributes.is_empty() {
+            return None;
+        }
+        let first = attributes.remove(0);
+        Some((first, AttrList { attributes }))
     }
 
     /// The value of the attribute of this name, where the list has one. Names are compared byte by byte.

@@ -9,7 +9,7 @@ mod number;
 mod parts;
 mod text;
 
-pub use attributes::{AttrFault, AttrList, AttrValue};
+pub use attributes::{AttrFault, AttrList, AttrValue, Attribute};
 pub use micros::{Micros, micros_text, parse_micros};
 pub use number::parse_number;
 pub use parts::{behind, cut};

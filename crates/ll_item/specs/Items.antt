@@ -1,19 +1,34 @@
 -- What a publisher announces, and the lines that spell it.
 use Rattle.std.specs.Prelude.{ℕ, List, [], ◌∷◌, Bool, true, false, Option, Some, None, Result, Ok, Err, if◌then◌else◌, position, bytes_eq, codes}
 use Rattle.ll_attr.specs.Numbers.{number_in}
-use Rattle.ll_attr.specs.Words.{words}
+use Rattle.ll_attr.specs.Words.{words, joined}
+use Rattle.ll_attr.specs.Attributes.{attributes_in}
+use Rattle.ll_attr.specs.declared.attributes.Attribute.{Attribute}
+use Rattle.ll_attr.specs.declared.attributes.AttrFault.{AttrFault}
+use Rattle.ll_attr.specs.declared.attributes.AttrValue.{AttrValue}
+use Rattle.ll_attr.specs.declared.attributes.AttrValue.TheVariants.{Quoted, Bare}
 use Rattle.ll_item.specs.Names.{is_name}
 use Rattle.ll_item.specs.Settings.{Configuration}
 use Rattle.ll_item.specs.declared.item.Item.{Item}
-use Rattle.ll_item.specs.declared.item.Item.TheVariants.{Part, Break, End}
+use Rattle.ll_item.specs.declared.item.Item.TheVariants.{Part, Break, End, Range, Unrange}
 use Rattle.ll_item.specs.declared.item.ItemFault.{ItemFault}
-use Rattle.ll_item.specs.declared.item.ItemFault.TheVariants.{BadLine, NoRendition}
+use Rattle.ll_item.specs.declared.item.ItemFault.TheVariants.{BadLine, NoRendition, BadAttribute}
 
 -- the index of the rendition that an item belongs to
 abbrev pub rendition_of : Item → ℕ
 rendition_of (Part rendition duration independent finish) = rendition
 rendition_of (Break rendition) = rendition
 rendition_of (End rendition) = rendition
+rendition_of (Range rendition id attributes) = rendition
+rendition_of (Unrange rendition id) = rendition
+
+-- whether an item adds a date range or takes one away
+abbrev pub is_about_ranges : Item → Bool
+is_about_ranges (Part rendition duration independent finish) = false
+is_about_ranges (Break rendition) = false
+is_about_ranges (End rendition) = false
+is_about_ranges (Range rendition id attributes) = true
+is_about_ranges (Unrange rendition id) = true
 
 -- the index of the rendition of this name
 abbrev pub rendition_named : Configuration → List ℕ → Option ℕ
@@ -63,12 +78,43 @@ abbrev pub end_at : Result ℕ ItemFault → Result Item ItemFault
 end_at (Err fault) = Err fault
 end_at (Ok rendition) = Ok (End rendition)
 
--- `part RENDITION MICROSECONDS FLAGS`, `break RENDITION` or `end RENDITION`
+-- a date range whose list has this first attribute
+abbrev pub range_with : ℕ → List ℕ → AttrValue → List Attribute → Result Item ItemFault
+range_with rendition name (Quoted id) attributes = if bytes_eq name (codes "ID") then Ok (Range rendition id attributes) else Err BadAttribute
+range_with rendition name (Bare text) attributes = Err BadAttribute
+
+-- the date range that an attribute list tells of: its first attribute is ID, quoted (section 4.4.5.1)
+abbrev pub range_of : ℕ → Result (List Attribute) AttrFault → Result Item ItemFault
+range_of rendition (Err fault) = Err BadAttribute
+range_of rendition (Ok []) = Err BadAttribute
+range_of rendition (Ok (first ∷ more)) = range_with rendition first.name first.value more
+
+abbrev pub range_at : Result ℕ ItemFault → List ℕ → Result Item ItemFault
+range_at (Err fault) list = Err fault
+range_at (Ok rendition) list = range_of rendition (attributes_in list)
+
+-- `RENDITION LIST`, where the list is the rest of the line
+abbrev pub range_in : Configuration → List (List ℕ) → Result Item ItemFault
+range_in c (name ∷ first ∷ more) = range_at (named c name) (joined (first ∷ more))
+range_in c other = Err BadLine
+
+abbrev pub unrange_at : Result ℕ ItemFault → List ℕ → Result Item ItemFault
+unrange_at (Err fault) id = Err fault
+unrange_at (Ok rendition) id = Ok (Unrange rendition id)
+
+-- `RENDITION ID`, where the id is the rest of the line
+abbrev pub unrange_in : Configuration → List (List ℕ) → Result Item ItemFault
+unrange_in c (name ∷ first ∷ more) = unrange_at (named c name) (joined (first ∷ more))
+unrange_in c other = Err BadLine
+
+-- `part RENDITION MICROSECONDS FLAGS`, `break RENDITION`, `range RENDITION LIST`, `unrange RENDITION ID` or `end RENDITION`
 abbrev pub item_of : Configuration → List (List ℕ) → Result Item ItemFault
 item_of c [] = Err BadLine
 item_of c (kind ∷ rest) =
     if bytes_eq kind (codes "part") then part_in c rest
     else if bytes_eq kind (codes "break") then break_at (alone_in c rest)
+    else if bytes_eq kind (codes "range") then range_in c rest
+    else if bytes_eq kind (codes "unrange") then unrange_in c rest
     else if bytes_eq kind (codes "end") then end_at (alone_in c rest)
     else Err BadLine
 

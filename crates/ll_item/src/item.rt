@@ -1,12 +1,13 @@
 //! What a publisher announces.
 ghost use Rattle.std.specs.Prelude.{◌≡◌, IfOk};
-ghost use Rattle.ll_item.specs.Items.{rendition_of};
+ghost use Rattle.ll_item.specs.Items.{is_about_ranges, rendition_of};
 
+use ll_attr::{AttrList, Text};
 use std::alloc::AllocError;
 use thiserror::Error;
 
 /// What a publisher announces.
-#[derive(Debug, PartialEq, Eq, Drop)]
+#[derive(Debug, Drop)]
 pub enum Item {
     /// The next part of a rendition (EXT-X-PART, section 4.4.4.9).
     Part {
@@ -30,6 +31,22 @@ pub enum Item {
         /// The rendition's index in the order of the settings.
         rendition: usize,
     },
+    /// A date range, which playlists list from here on (EXT-X-DATERANGE, section 4.4.5.1).
+    Range {
+        /// The rendition's index in the order of the settings.
+        rendition: usize,
+        /// What names the date range among those of its rendition (ID).
+        id: Text,
+        /// Its other attributes, in the order in which they are listed.
+        attributes: AttrList,
+    },
+    /// Playlists list a date range no longer.
+    Unrange {
+        /// The rendition's index in the order of the settings.
+        rendition: usize,
+        /// What names the date range (ID).
+        id: Text,
+    },
 }
 
 /// Why a line is no item.
@@ -41,6 +58,12 @@ pub enum ItemFault {
     /// The name is none of the channel's renditions.
     #[error("NoRendition")]
     NoRendition,
+    /// A date range's list can't be read as one, or doesn't begin with a quoted ID.
+    #[error("BadAttribute")]
+    BadAttribute,
+    /// No memory was found.
+    #[error("Memory")]
+    Memory,
 }
 
 impl Item {
@@ -49,10 +72,19 @@ impl Item {
         ensures { result ≡ rendition_of self.now }
     {
         match self {
-            Item::Part { rendition, .. } | Item::Break { rendition } | Item::End { rendition } => {
-                *rendition
-            }
+            Item::Part { rendition, .. }
+            | Item::Break { rendition }
+            | Item::End { rendition }
+            | Item::Range { rendition, .. }
+            | Item::Unrange { rendition, .. } => *rendition,
         }
+    }
+
+    /// Whether it adds a date range or takes one away.
+    pub fn is_about_ranges(&self) -> bool
+        ensures { result ≡ is_about_ranges self.now }
+    {
+        matches!(self, Item::Range { .. } | Item::Unrange { .. })
     }
 
     /// An item equal to this one, or an error where no memory was found.
@@ -76,6 +108,19 @@ impl Item {
             },
             Item::End { rendition } => Item::End {
                 rendition: *rendition,
+            },
+            Item::Range {
+                rendition,
+                id,
+                attributes,
+            } => Item::Range {
+                rendition: *rendition,
+                id: id.copy()?,
+                attributes: attributes.copy()?,
+            },
+            Item::Unrange { rendition, id } => Item::Unrange {
+                rendition: *rendition,
+                id: id.copy()?,
             },
         })
     }

@@ -1,22 +1,28 @@
 //! The lines that spell items.
-ghost use Rattle.std.specs.Prelude.{◌≡◌, ◌∷◌, [], MatchOption, Err};
+ghost use Rattle.std.specs.Prelude.{◌≡◌, ◌≢◌, ◌∷◌, [], MatchOption, IfOk, IfErr, IsOk, IsErrOf, Ok, Err};
+ghost use Rattle.ll_attr.specs.Attributes.{attributes_in};
 ghost use Rattle.ll_attr.specs.Words.{words};
 ghost use Rattle.ll_item.specs.Settings.{Configuration};
-ghost use Rattle.ll_item.specs.Items.{item_in, part_in, alone_in, flags_in};
+ghost use Rattle.ll_item.specs.Items.{item_in, part_in, alone_in, flags_in, range_in, unrange_in};
 ghost use Rattle.ll_item.specs.Items as spec;
 
 use crate::item::{Item, ItemFault};
 use crate::name::is_name;
 use crate::settings::Settings;
 use crate::words::one_word;
-use ll_attr::{cut, parse_number};
+use ll_attr::{AttrFault, AttrList, AttrValue, Attribute, Text, behind, cut, parse_number};
+use std::alloc::{AllocError, Global};
 
 impl Item {
     /// The item that a line spells: `part RENDITION MICROSECONDS FLAGS`, where the flags are `-` for none, `i` for independent,
-    /// `f` for finishing its segment, or `if` for both; `break RENDITION`; or `end RENDITION`. Or why there is none: the
-    /// line is of none of these forms, or the channel has no such rendition.
-    pub fn read(settings: &Settings, line: &str) -> Result<Item, ItemFault>
-        ensures { result ≡ item_in settings.now line.now }
+    /// `f` for finishing its segment, or `if` for both; `break RENDITION`; `range RENDITION LIST`, where the list is the rest
+    /// of the line, an attribute list that begins with a quoted ID (section 4.4.5.1); `unrange RENDITION ID`, where the ID is
+    /// the rest of the line; or `end RENDITION`. Or why there is none: the line is of none of these forms, the channel has no
+    /// such rendition, or the list is no such list. Memory that isn't found comes after all other faults.
+    pub fn read(alloc: Global, settings: &Settings, line: &str) -> Result<Item, ItemFault>
+        ensures value { IfOk result (λ item. item_in settings.now line.now ≡ Ok item) }
+        ensures refused { IfErr result (λ fault. fault ≢ ItemFault.Memory → item_in settings.now line.now ≡ Err fault) }
+        ensures memory { IsErrOf result ItemFault.Memory → IsOk (item_in settings.now line.now) }
     {
         let Some((kind, rest)) = cut(line, ' ') else {
             return Err(ItemFault::BadLine);
@@ -26,6 +32,10 @@ impl Item {
         } else if kind == "break" {
             let rendition = read_alone(settings, rest)?;
             Ok(Item::Break { rendition })
+        } else if kind == "range" {
+            read_range(alloc, settings, rest)
+        } else if kind == "unrange" {
+            read_unrange(alloc, settings, rest)
         } else if kind == "end" {
             let rendition = read_alone(settings, rest)?;
             Ok(Item::End { rendition })
@@ -37,7 +47,8 @@ impl Item {
 
 /// The part whose rendition, duration and flags are the words of this text.
 fn read_part(settings: &Settings, text: &str) -> Result<Item, ItemFault>
-    ensures { result ≡ part_in settings.now (words text.now) }
+    ensures value { result ≡ part_in settings.now (words text.now) }
+    ensures not_memory { IfErr result (λ fault. fault ≢ ItemFault.Memory) }
 {
     let Some((name, duration, flags)) = part_words(text) else {
         return Err(ItemFault::BadLine);
@@ -83,9 +94,80 @@ fn part_flags(text: &str) -> Option<(bool, bool)>
     }
 }
 
+/// The date range of the rendition whose name is the first word of this text, with the list that is the rest of it.
+#[tactic(auto, using(crate::proofs::RangeLines::range_words))]
+fn read_range(alloc: Global, settings: &Settings, text: &str) -> Result<Item, ItemFault>
+    ensures value { IfOk result (λ item. range_in settings.now (words text.now) ≡ Ok item) }
+    ensures refused { IfErr result (λ fault. fault ≢ ItemFault.Memory → range_in settings.now (words text.now) ≡ Err fault) }
+    ensures memory { IsErrOf result ItemFault.Memory → IsOk (range_in settings.now (words text.now)) }
+{
+    let Some((name, list)) = cut(text, ' ') else {
+        return Err(ItemFault::BadLine);
+    };
+    let rendition = named(settings, name)?;
+    range_from(alloc, rendition, list)
+}
+
+/// The date range that a text tells of, as an attribute list.
+#[tactic(auto, using(crate::proofs::RangeLines::begins_otherwise))]
+fn range_from(alloc: Global, rendition: usize, text: &str) -> Result<Item, ItemFault>
+    ensures value { IfOk result (λ item. spec.range_of rendition (attributes_in text.now) ≡ Ok item) }
+    ensures refused { IfErr result (λ fault. fault ≢ ItemFault.Memory → spec.range_of rendition (attributes_in text.now) ≡ Err fault) }
+    ensures memory { IsErrOf result ItemFault.Memory → IsOk (spec.range_of rendition (attributes_in text.now)) }
+{
+    match AttrList::parse(alloc, text) {
+        Ok(list) => range_of(rendition, list),
+        // The text is a list, and its first bytes tell whether it begins with a quoted ID.
+        Err(AttrFault::Memory) => match behind(text, "ID=\"") {
+            Some(_) => Err(ItemFault::Memory),
+            None => Err(ItemFault::BadAttribute),
+        },
+        Err(_) => Err(ItemFault::BadAttribute),
+    }
+}
+
+/// The date range that a list tells of.
+fn range_of(rendition: usize, list: AttrList) -> Result<Item, ItemFault>
+    ensures { result ≡ spec.range_of rendition (Ok list) }
+{
+    let Some((first, attributes)) = list.split_first() else {
+        return Err(ItemFault::BadAttribute);
+    };
+    let Attribute { name, value } = first;
+    if name.as_str() != "ID" {
+        return Err(ItemFault::BadAttribute);
+    }
+    match value {
+        AttrValue::Quoted(id) => Ok(Item::Range {
+            rendition,
+            id,
+            attributes,
+        }),
+        AttrValue::Bare(_text) => Err(ItemFault::BadAttribute),
+    }
+}
+
+/// What takes away a date range of the rendition whose name is the first word of this text; the rest of it is the ID.
+#[tactic(auto, using(crate::proofs::RangeLines::unrange_words))]
+fn read_unrange(alloc: Global, settings: &Settings, text: &str) -> Result<Item, ItemFault>
+    ensures value { IfOk result (λ item. unrange_in settings.now (words text.now) ≡ Ok item) }
+    ensures refused { IfErr result (λ fault. fault ≢ ItemFault.Memory → unrange_in settings.now (words text.now) ≡ Err fault) }
+    ensures memory { IsErrOf result ItemFault.Memory → IsOk (unrange_in settings.now (words text.now)) }
+{
+    let Some((name, id)) = cut(text, ' ') else {
+        return Err(ItemFault::BadLine);
+    };
+    let rendition = named(settings, name)?;
+    match Text::from_str(alloc, id) {
+        Ok(id) => Ok(Item::Unrange { rendition, id }),
+        Err(AllocError) => Err(ItemFault::Memory),
+    }
+}
+
 /// The index of the rendition whose name this text is, or what is wrong with it.
 fn read_alone(settings: &Settings, text: &str) -> Result<usize, ItemFault>
-    ensures { result ≡ alone_in settings.now (words text.now) }
+    ensures value { result ≡ alone_in settings.now (words text.now) }
+    ensures not_memory { IfErr result (λ fault. fault ≢ ItemFault.Memory) }
 {
     match one_word(text) {
         Some(name) => named(settings, name),
@@ -95,7 +177,8 @@ fn read_alone(settings: &Settings, text: &str) -> Result<usize, ItemFault>
 
 /// The index of the rendition of this name, or what is wrong with the name.
 fn named(settings: &Settings, name: &str) -> Result<usize, ItemFault>
-    ensures { result ≡ spec.named settings.now name.now }
+    ensures value { result ≡ spec.named settings.now name.now }
+    ensures not_memory { IfErr result (λ fault. fault ≢ ItemFault.Memory) }
 {
     if !is_name(name) {
         return Err(ItemFault::BadLine);

@@ -221,40 +221,71 @@ fn settings_are_made(rt: HostRuntime) -> Result<(), Fail> {
     Ok(())
 }
 
-#[test]
-fn items_are_read(rt: HostRuntime) -> Result<(), Fail> {
-    let settings = Settings::read(rt.alloc(), LINE)?;
-    for (line, duration, independent, finish) in [
-        ("part hi 1000000 -", 1_000_000, false, false),
-        ("part hi 1000000 i", 1_000_000, true, false),
-        ("part hi 18446744073709551615 f", u64::MAX, false, true),
-        ("part hi 007 if", 7, true, true),
-    ] {
-        let item = Item::Part {
-            rendition: 1,
+/// What an item tells, as a text: its kind, its rendition's index, then the rest of it.
+fn told(alloc: Global, item: &Item) -> Result<String, Fail> {
+    Ok(match item {
+        Item::Part {
+            rendition,
             duration,
             independent,
             finish,
-        };
-        assert_eq!(rt; item.rendition(), 1, "at {line}");
-        assert_eq!(rt; item.copy()?, item, "at {line}");
-        assert_eq!(rt; Item::read(&settings, line), Ok(item), "at {line}");
-    }
-    Ok(())
+        } => format!(in alloc; "part {rendition} {duration} {independent} {finish}")?,
+        Item::Break { rendition } => format!(in alloc; "break {rendition}")?,
+        Item::End { rendition } => format!(in alloc; "end {rendition}")?,
+        Item::Range {
+            rendition,
+            id,
+            attributes,
+        } => {
+            let list = attributes.write()?;
+            format!(in alloc; "range {rendition} [{}] [{}]", id.as_str(), list.as_str())?
+        }
+        Item::Unrange { rendition, id } => {
+            format!(in alloc; "unrange {rendition} [{}]", id.as_str())?
+        }
+    })
 }
 
 #[test]
-fn breaks_and_ends_are_read(rt: HostRuntime) -> Result<(), Fail> {
+fn items_are_read_and_copied(rt: HostRuntime) -> Result<(), Fail> {
     let settings = Settings::read(rt.alloc(), LINE)?;
-    for (line, rendition, item) in [
-        ("break lo", 0, Item::Break { rendition: 0 }),
-        ("break hi", 1, Item::Break { rendition: 1 }),
-        ("end lo", 0, Item::End { rendition: 0 }),
-        ("end hi", 1, Item::End { rendition: 1 }),
+    for (line, rendition, text) in [
+        ("part hi 1000000 -", 1, "part 1 1000000 false false"),
+        ("part hi 1000000 i", 1, "part 1 1000000 true false"),
+        (
+            "part hi 18446744073709551615 f",
+            1,
+            "part 1 18446744073709551615 false true",
+        ),
+        ("part hi 007 if", 1, "part 1 7 true true"),
+        ("break lo", 0, "break 0"),
+        ("break hi", 1, "break 1"),
+        ("end lo", 0, "end 0"),
+        ("end hi", 1, "end 1"),
+        (
+            "range hi ID=\"a\",START-DATE=\"x\"",
+            1,
+            "range 1 [a] [START-DATE=\"x\"]",
+        ),
+        (
+            "range lo ID=\"a b, c\",X-A=\" d,  e \",X-B=1",
+            0,
+            "range 0 [a b, c] [X-A=\" d,  e \",X-B=1]",
+        ),
+        ("range hi ID=\"a\"", 1, "range 1 [a] []"),
+        ("range hi ID=\"\"", 1, "range 1 [] []"),
+        ("unrange hi a b", 1, "unrange 1 [a b]"),
+        ("unrange lo  a ", 0, "unrange 0 [ a ]"),
+        ("unrange hi ", 1, "unrange 1 []"),
     ] {
+        let item = Item::read(rt.alloc(), &settings, line)?;
         assert_eq!(rt; item.rendition(), rendition, "at {line}");
-        assert_eq!(rt; item.copy()?, item, "at {line}");
-        assert_eq!(rt; Item::read(&settings, line), Ok(item), "at {line}");
+        assert_eq!(rt; told(rt.alloc(), &item)?.as_str(), text, "at {line}");
+        assert_eq!(rt;
+            told(rt.alloc(), &item.copy()?)?.as_str(),
+            text,
+            "at {line}"
+        );
     }
     Ok(())
 }
@@ -291,9 +322,30 @@ fn lines_that_are_no_item_are_refused(rt: HostRuntime) -> Result<(), Fail> {
         ("Break hi", ItemFault::BadLine),
         ("part hi", ItemFault::BadLine),
         ("part", ItemFault::BadLine),
+        ("range hi ", ItemFault::BadAttribute),
+        ("range hi ID=a", ItemFault::BadAttribute),
+        ("range hi X=\"a\"", ItemFault::BadAttribute),
+        ("range hi ID=\"a\",", ItemFault::BadAttribute),
+        ("range hi ID=\"a\",ID=\"b\"", ItemFault::BadAttribute),
+        ("range hi X-A=1,ID=\"a\"", ItemFault::BadAttribute),
+        ("range hi  ID=\"a\"", ItemFault::BadAttribute),
+        ("range zz ID=\"a\"", ItemFault::NoRendition),
+        ("range zz x", ItemFault::NoRendition),
+        ("range hi", ItemFault::BadLine),
+        ("range zz", ItemFault::BadLine),
+        ("range", ItemFault::BadLine),
+        ("range Hi ID=\"a\"", ItemFault::BadLine),
+        ("ranges hi ID=\"a\"", ItemFault::BadLine),
+        ("unrange zz a", ItemFault::NoRendition),
+        ("unrange hi", ItemFault::BadLine),
+        ("unrange Hi a", ItemFault::BadLine),
         ("", ItemFault::BadLine),
     ] {
-        assert_eq!(rt; Item::read(&settings, line), Err(fault), "at {line}");
+        assert_eq!(rt;
+            Item::read(rt.alloc(), &settings, line).err(),
+            Some(fault),
+            "at {line}"
+        );
     }
     Ok(())
 }

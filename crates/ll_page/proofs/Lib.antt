@@ -1,4 +1,4 @@
 pub mod PlaceLemmas
-pub mod ReportLemmas
+pub mod RangeLemmas
 pub mod SegmentLemmas
 pub mod WorkedExamples

@@ -1,5 +1,6 @@
 -- The full playlist of a rendition (sections 4.4 and 6.2.1).
-use Rattle.std.specs.Prelude.{ℕ, ◌+◌, ◌*◌, ◌/◌, ◌||◌, ◌==◌, List, [], ◌∷◌, ◌++◌, Bool, true, false, Option, Some, None, length, slice_get}
+use Rattle.std.specs.Prelude.{ℕ, ◌+◌, ◌*◌, ◌/◌, ◌||◌, ◌==◌, List, [], ◌∷◌, ◌++◌, Bool, true, false, Option, Some, None, length, map}
+use Rattle.ll_attr.specs.Attributes as attributes
 use Rattle.ll_time.specs.Times.{time_text}
 use Rattle.ll_item.specs.Settings.{Configuration}
 use Rattle.ll_item.specs.declared.item.Item.{Item}
@@ -7,7 +8,9 @@ use Rattle.ll_window.specs.declared.part.Part.{Part}
 use Rattle.ll_window.specs.declared.place.Place.{Place}
 use Rattle.ll_window.specs.Compact.{Compact, unfinished}
 use Rattle.ll_window.specs.Rows.{Row}
-use Rattle.ll_page.specs.Playlist.{PartLine, Block, Finished, Report, Header, Playlist}
+use Rattle.ll_range.specs.Announced.{Listed, Announced}
+use Rattle.ll_page.specs.declared.rendition.Rendition.{Rendition}
+use Rattle.ll_page.specs.Playlist.{PartLine, Block, Finished, DateRangeLine, Report, Header, Playlist}
 use Rattle.ll_page.specs.Spelling.{spelling}
 use Rattle.ll_page.specs.Uris.{segment_uri, part_uri, map_uri, report_uri}
 use Rattle.ll_page.specs.View.{Seen, seen, asked}
@@ -60,20 +63,21 @@ sequence_of k [] = k.next_number
 sequence_of k (row ∷ more) = row.segment.number
 
 -- the report of a rendition, where it has a part and the playlist is not its own
-abbrev pub report_by : Bool → Option (List ℕ) → Option Place → List Report
+abbrev pub report_by : Bool → List ℕ → Option Place → List Report
 report_by true name last = []
-report_by false None last = []
-report_by false (Some name) None = []
-report_by false (Some name) (Some place) = (record { uri = report_uri name; number = place.number; index = place.index }) ∷ []
+report_by false name None = []
+report_by false name (Some place) = (record { uri = report_uri name; number = place.number; index = place.index }) ∷ []
 
--- the reports of these renditions, of which the first has this index, in the playlist of the one that is asked for
-abbrev pub reports_from : List (List ℕ) → ℕ → ℕ → List Compact → List Report
-reports_from names asked rendition [] = []
-reports_from names asked rendition (k ∷ ks) =
-    report_by (rendition == asked) (slice_get names rendition) k.last ++ reports_from names asked (rendition + 1) ks
+-- the reports of the renditions of these names, in the settings' order, where the first of them has this index, in the
+-- playlist of the one that is asked for
+abbrev pub reports_from : ℕ → ℕ → List (List ℕ) → List Rendition → List Report
+reports_from asked rendition names [] = []
+reports_from asked rendition [] (k ∷ ks) = []
+reports_from asked rendition (name ∷ names) (k ∷ ks) =
+    report_by (rendition == asked) name k.window.last ++ reports_from asked (rendition + 1) names ks
 
 abbrev pub reports_of : Seen → List Report
-reports_of v = reports_from v.settings.renditions v.rendition 0 v.windows
+reports_of v = reports_from v.rendition 0 v.settings.renditions v.renditions
 
 abbrev pub hint_by : Bool → List ℕ → Option (List ℕ)
 hint_by true uri = None
@@ -83,15 +87,23 @@ hint_by false uri = Some uri
 abbrev pub hint_of : Compact → Option (List ℕ)
 hint_of k = hint_by k.ended (part_uri k.next_number (length k.open_parts))
 
-abbrev pub playlist_of : Configuration → List Report → Compact → Playlist
+abbrev pub range_line : Listed → DateRangeLine
+range_line range = record { id = range.id; attributes = attributes.spelling range.attributes }
+
+-- the date ranges that are listed, in order of adding
+abbrev pub range_lines : Announced → List DateRangeLine
+range_lines a = map range_line a.listed
+
+abbrev pub playlist_of : Configuration → List Report → Rendition → Playlist
 playlist_of c reports k = record {
   header = header_of c;
-  sequence = sequence_of k k.window;
-  discontinuity = k.discontinuity;
-  segments = printed true k.window;
-  open_block = open_of (length k.window == 0) (unfinished k);
+  sequence = sequence_of k.window k.window.window;
+  discontinuity = k.window.discontinuity;
+  ranges = range_lines k.ranges;
+  segments = printed true k.window.window;
+  open_block = open_of (length k.window.window == 0) (unfinished k.window);
   reports = reports;
-  hint = hint_of k;
+  hint = hint_of k.window;
 }
 
 -- the playlist of the rendition that is asked for

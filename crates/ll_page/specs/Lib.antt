@@ -6,5 +6,6 @@ pub mod View
 pub mod Worked
 pub use Rattle.ll_window.specs.Compact
 pub use Rattle.ll_window.specs.Rows
+pub use Rattle.ll_range.specs.Announced
 pub use Rattle.ll_item.specs.Settings
 pub use Rattle.ll_time.specs.Times

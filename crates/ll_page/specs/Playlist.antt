@@ -25,6 +25,12 @@ pub record Finished : Type 0 where
   pub duration : ℕ
   pub uri : List ℕ
 
+-- an EXT-X-DATERANGE line
+pub record DateRangeLine : Type 0 where
+  pub id : List ℕ
+  -- its other attributes, as a list of attributes is spelled
+  pub attributes : List ℕ
+
 -- how far another rendition has come
 pub record Report : Type 0 where
   pub uri : List ℕ
@@ -51,6 +57,7 @@ pub record Playlist : Type 0 where
   pub sequence : ℕ
   -- the discontinuity sequence number
   pub discontinuity : ℕ
+  pub ranges : List DateRangeLine
   pub segments : List Finished
   -- the lines of the open segment, where it has a part
   pub open_block : Option Block

@@ -1,7 +1,7 @@
 -- The text of a playlist, line by line. Each line ends in LF.
 use Rattle.std.specs.Prelude.{ℕ, List, [], ◌++◌, Bool, Option, Some, None, if◌then◌else◌, codes, decimal, flat_map}
 use Rattle.ll_attr.specs.Durations.{seconds}
-use Rattle.ll_page.specs.Playlist.{PartLine, Block, Finished, Report, Header, Playlist}
+use Rattle.ll_page.specs.Playlist.{PartLine, Block, Finished, DateRangeLine, Report, Header, Playlist}
 
 -- sections 4.4.1.1 and 4.4.1.2
 unfoldable pub first_lines : ℕ → List ℕ
@@ -28,6 +28,10 @@ sequence_line number = codes "#EXT-X-MEDIA-SEQUENCE:" ++ (decimal number ++ code
 -- section 4.4.3.3
 unfoldable pub discontinuity_line : ℕ → List ℕ
 discontinuity_line number = codes "#EXT-X-DISCONTINUITY-SEQUENCE:" ++ (decimal number ++ codes "\n")
+
+-- section 4.4.5.1
+unfoldable pub date_range_line : DateRangeLine → List ℕ
+date_range_line r = codes "#EXT-X-DATERANGE:ID=\"" ++ (r.id ++ (codes "\"," ++ (r.attributes ++ codes "\n")))
 
 -- section 4.4.4.3
 unfoldable pub broken_line : Bool → List ℕ
@@ -92,4 +96,5 @@ last_line (Some uri) = hint_line uri
 abbrev pub spelling : Playlist → List ℕ
 spelling p =
     header_lines p.header ++ (sequence_line p.sequence ++ (discontinuity_line p.discontinuity
-    ++ (flat_map segment_lines p.segments ++ (open_lines p.open_block ++ (flat_map report_line p.reports ++ last_line p.hint)))))
+    ++ (flat_map date_range_line p.ranges ++ (flat_map segment_lines p.segments ++ (open_lines p.open_block
+    ++ (flat_map report_line p.reports ++ last_line p.hint))))))

@@ -1,27 +1,43 @@
 -- What a playlist is made of.
-use Rattle.std.specs.Prelude.{ℕ, zero, suc, List, [], ◌∷◌, length}
+use Rattle.std.specs.Prelude.{ℕ, ◌+◌, zero, suc, List, [], ◌∷◌, length}
 use Rattle.ll_item.specs.Settings.{Configuration}
 use Rattle.ll_item.specs.declared.item.Item.{Item}
-use Rattle.ll_window.specs.Compact.{Compact, compact, compacts}
+use Rattle.ll_window.specs.Compact.{compact}
+use Rattle.ll_window.specs.Segments.{own}
+use Rattle.ll_range.specs.Announced.{announced}
+use Rattle.ll_page.specs.declared.rendition.Rendition.{Rendition}
+
+-- what of all items of a rendition is kept
+abbrev pub kept : Configuration → List Item → Rendition
+kept c items = record { window = compact c items; ranges = announced c items }
+
+-- of all items of a channel, one for each of these renditions, the first of which has this index
+abbrev pub renditions_from : Configuration → List Item → ℕ → List (List ℕ) → List Rendition
+renditions_from c items rendition [] = []
+renditions_from c items rendition (name ∷ more) = kept c (own rendition items) ∷ renditions_from c items (rendition + 1) more
+
+-- of all items of a channel, one for each of its renditions
+abbrev pub renditions : Configuration → List Item → List Rendition
+renditions c items = renditions_from c items 0 c.renditions
 
 -- what is kept of all renditions of a channel, and which of them is asked for
 pub record Seen : Type 0 where
   pub settings : Configuration
-  pub windows : List Compact
+  pub renditions : List Rendition
   pub rendition : ℕ
   -- how many items the channel has accepted
   pub count : ℕ
 
 -- what is seen of a rendition after these items of its channel
 abbrev pub seen : Configuration → List Item → ℕ → Seen
-seen c items rendition = record { settings = c; windows = compacts c items; rendition = rendition; count = length items }
+seen c items rendition = record { settings = c; renditions = renditions c items; rendition = rendition; count = length items }
 
 -- what is kept of the rendition at this place, where there is one
-abbrev pub at_place : Compact → List Compact → ℕ → Compact
+abbrev pub at_place : Rendition → List Rendition → ℕ → Rendition
 at_place none [] place = none
 at_place none (k ∷ ks) zero = k
 at_place none (k ∷ ks) (suc place) = at_place none ks place
 
 -- what is kept of the rendition that is asked for
-abbrev pub asked : Seen → Compact
-asked v = at_place (compact v.settings []) v.windows v.rendition
+abbrev pub asked : Seen → Rendition
+asked v = at_place (kept v.settings []) v.renditions v.rendition

@@ -1,5 +1,7 @@
--- The definitions at worked examples: three streams, and the whole text of a playlist of each, byte for byte.
+-- The definitions at worked examples: four streams, and the whole text of a playlist of each, byte for byte.
 use Rattle.std.specs.Prelude.{◌≡◌, ℕ, List, [], ◌∷◌, ◌++◌, true, false, Ok, codes}
+use Rattle.ll_attr.specs.declared.attributes.Attribute.{Attribute}
+use Rattle.ll_attr.specs.declared.attributes.AttrValue.TheVariants.{Quoted, Bare}
 use Rattle.ll_item.specs.Settings.{Configuration, settings_in}
 use Rattle.ll_item.specs.declared.item.Item.{Item}
 use Rattle.ll_item.specs.declared.item.Item.TheVariants as item
@@ -35,6 +37,18 @@ two_renditions = record {
 abbrev pub one_part : List Item
 one_part = item.Part 0 1000000 true true ∷ []
 
+abbrev pub start_date : Attribute
+start_date = record { name = codes "START-DATE"; value = Quoted (codes "1970-01-01T00:00:00Z") }
+
+abbrev pub one_second : Attribute
+one_second = record { name = codes "DURATION"; value = Bare (codes "1.0") }
+
+-- three date ranges, of which the first leaves, around a part
+abbrev pub ranges_and_part : List Item
+ranges_and_part =
+    item.Range 0 (codes "x") (start_date ∷ []) ∷ item.Range 0 (codes "b c") (start_date ∷ one_second ∷ []) ∷ item.Part 0 1000000 true true
+    ∷ item.Unrange 0 (codes "x") ∷ item.Range 0 (codes "a") (one_second ∷ start_date ∷ []) ∷ []
+
 -- parts of both renditions, three of them of the second, which go on with a break behind a finished segment
 abbrev pub mixed_parts : List Item
 mixed_parts =
@@ -54,15 +68,25 @@ header_text =
 abbrev pub empty_text : List ℕ
 empty_text = header_text ++ codes "#EXT-X-PRELOAD-HINT:TYPE=PART,URI=\"s0.0.m4s\"\n"
 
-abbrev pub one_segment_text : List ℕ
-one_segment_text =
-    header_text
-    ++ codes "#EXT-X-MAP:URI=\"init0.mp4\"\n"
+abbrev pub segment_text : List ℕ
+segment_text =
+    codes "#EXT-X-MAP:URI=\"init0.mp4\"\n"
     ++ codes "#EXT-X-PROGRAM-DATE-TIME:1970-01-01T00:00:00.000Z\n"
     ++ codes "#EXT-X-PART:DURATION=1.000000,URI=\"s0.0.m4s\",INDEPENDENT=YES\n"
     ++ codes "#EXTINF:1.000000,\n"
     ++ codes "s0.m4s\n"
     ++ codes "#EXT-X-PRELOAD-HINT:TYPE=PART,URI=\"s1.0.m4s\"\n"
+
+abbrev pub one_segment_text : List ℕ
+one_segment_text = header_text ++ segment_text
+
+-- date ranges stand in order of adding
+abbrev pub date_ranges_text : List ℕ
+date_ranges_text =
+    header_text
+    ++ codes "#EXT-X-DATERANGE:ID=\"b c\",START-DATE=\"1970-01-01T00:00:00Z\",DURATION=1.0\n"
+    ++ codes "#EXT-X-DATERANGE:ID=\"a\",DURATION=1.0,START-DATE=\"1970-01-01T00:00:00Z\"\n"
+    ++ segment_text
 
 abbrev pub open_segment_text : List ℕ
 open_segment_text =
@@ -105,10 +129,11 @@ ended_text =
     ++ codes "#EXT-X-ENDLIST\n"
 
 pub record WorkedPlaylists : Type 0 where
-  -- the settings of the first two examples are those that a line spells
+  -- the settings of the first three examples are those that a line spells
   pub settings :
       settings_in (codes "channel cam target=4 part=1000000 skip=24 window=36 renditions=hi first=0 start=0") ≡ Ok whole_seconds
   pub empty : text_after whole_seconds [] 0 ≡ empty_text
   pub one_segment : text_after whole_seconds one_part 0 ≡ one_segment_text
+  pub date_ranges : text_after whole_seconds ranges_and_part 0 ≡ date_ranges_text
   pub open_segment : text_after two_renditions mixed_parts 1 ≡ open_segment_text
   pub has_ended : text_after two_renditions mixed_parts 0 ≡ ended_text

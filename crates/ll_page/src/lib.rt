@@ -5,10 +5,12 @@
 mod laws;
 mod lines;
 mod playlist;
+mod rendition;
 mod view;
 
 pub use laws::worked_playlists;
 pub use playlist::full;
+pub use rendition::Rendition;
 pub use view::View;
 
 #[cfg(test)]

@@ -1,11 +1,11 @@
 //! One function for each kind of line of a playlist, which adds it to a text.
 ghost use Rattle.std.specs.Prelude.{◌≡◌, ◌++◌, ◌*◌, OnOk, string_bytes};
 ghost use Rattle.ll_window.specs.declared.part.Part.{Part};
-ghost use Rattle.ll_page.specs.Spelling.{first_lines, target_line, control_line, part_target_line, sequence_line, discontinuity_line, broken_line, map_line, time_line, independent_flag, part_line, report_line, hint_line, end_line, finished_lines};
+ghost use Rattle.ll_page.specs.Spelling.{first_lines, target_line, control_line, part_target_line, sequence_line, discontinuity_line, date_range_line, broken_line, map_line, time_line, independent_flag, part_line, report_line, hint_line, end_line, finished_lines};
 ghost use Rattle.ll_page.specs.Uris.{segment_uri, part_uri, map_uri, report_uri};
 ghost use Rattle.ll_time.specs.Times.{time_text};
 
-use ll_attr::Micros;
+use ll_attr::{Micros, Text};
 use ll_time::UtcTime;
 use ll_window::{Part, Place};
 use std::alloc::AllocError;
@@ -66,6 +66,20 @@ pub(crate) fn push_discontinuity_line(text: &mut String, number: u64) -> Result<
     ensures { OnOk result (string_bytes text.new ≡ string_bytes text.old ++ discontinuity_line number) }
 {
     write!(text, "#EXT-X-DISCONTINUITY-SEQUENCE:{number}\n")
+}
+
+/// EXT-X-DATERANGE (section 4.4.5.1): the date range of this id, with these other attributes.
+#[tactic(auto, unfolding(crate::specs::Spelling::date_range_line))]
+pub(crate) fn push_date_range_line(
+    text: &mut String,
+    id: &str,
+    attributes: &Text,
+) -> Result<(), AllocError>
+    ensures { OnOk result (string_bytes text.new ≡ string_bytes text.old
+        ++ date_range_line (record { id = id.now; attributes = attributes.now })) }
+{
+    let attributes = attributes.as_str();
+    write!(text, "#EXT-X-DATERANGE:ID=\"{id}\",{attributes}\n")
 }
 
 /// EXT-X-DISCONTINUITY (section 4.4.4.3), where the segment is broken from the one before it.

@@ -1,21 +1,22 @@
 ghost use Rattle.std.specs.Prelude.{◌≡◌, ◌≤◌, ◌/◌, ◌==◌, ◌++◌, IfOk, OnOk, string_bytes, flat_map, length, true};
 ghost use Rattle.ll_item.specs.Settings.{last_micro};
 ghost use Rattle.ll_window.specs.Compact.{unfinished};
-ghost use Rattle.ll_page.specs.Full.{full_text, header_of, part_lines, block_of, finished_of, printed, open_of, report_by, reports_of, hint_of, sequence_of};
-ghost use Rattle.ll_page.specs.Spelling.{header_lines, part_line, block_lines, segment_lines, open_lines, report_line, last_line};
-ghost use Rattle.std.specs.Option.{option_copied};
+ghost use Rattle.ll_page.specs.Full.{full_text, header_of, part_lines, block_of, finished_of, printed, open_of, report_by, reports_of, hint_of, sequence_of, range_line, range_lines};
+ghost use Rattle.ll_page.specs.Spelling.{header_lines, date_range_line, part_line, block_lines, segment_lines, open_lines, report_line, last_line};
 
 use crate::lines::*;
 use crate::view::View;
 use ll_attr::{Micros, Text};
 use ll_item::Settings;
+use ll_range::{DateRange, Ranges};
 use ll_time::UtcTime;
 use ll_window::{Part, Place, Segment, Window};
 use std::alloc::{AllocError, Global};
 
-/// The text of the full Media Playlist of a view (section 4.4): the lines that tell of the channel, then of each segment of
-/// the window its discontinuity, map, time and parts, its EXTINF and URI, then the same lines of the open segment, a report of each
-/// other rendition, and a hint of the next part or the end. LF ends each line. It fails only where no memory is found.
+/// The text of the full Media Playlist of a view (section 4.4): the lines that tell of the channel, the date ranges in
+/// order of adding, then of each segment of the window its discontinuity, map, time and parts, its EXTINF and URI, then the
+/// same lines of the open segment, a report of each other rendition, and a hint of the next part or the end. LF ends each
+/// line. It fails only where no memory is found.
 pub fn full(alloc: Global, view: &View<'_>) -> Result<Text, AllocError>
     ensures { IfOk result (λ text. text ≡ full_text view.now) }
 {
@@ -24,6 +25,7 @@ pub fn full(alloc: Global, view: &View<'_>) -> Result<Text, AllocError>
     push_header(&mut text, settings)?;
     push_sequence_line(&mut text, sequence(window))?;
     push_discontinuity_line(&mut text, window.discontinuity())?;
+    push_ranges(&mut text, view.ranges())?;
     push_segments(&mut text, window)?;
     push_open(&mut text, window)?;
     push_reports(&mut text, view)?;
@@ -54,6 +56,27 @@ fn sequence(window: &Window) -> u64
         Some(segment) => segment.number,
         None => window.next_number(),
     }
+}
+
+/// Adds a line for each date range.
+fn push_ranges(text: &mut String, ranges: &Ranges) -> Result<(), AllocError>
+    ensures { OnOk result (string_bytes text.new ≡ string_bytes text.old ++ flat_map date_range_line (range_lines ranges.now)) }
+{
+    for place in 0..ranges.count() {
+        if let Some(range) = ranges.listed(place) {
+            push_range(text, range)?;
+        }
+    }
+    Ok(())
+}
+
+/// Adds the line of a date range.
+fn push_range(text: &mut String, range: DateRange<'_>) -> Result<(), AllocError>
+    ensures { OnOk result (string_bytes text.new ≡ string_bytes text.old
+        ++ date_range_line (range_line (record { id = range.entry.id.now; attributes = range.entry.attributes.now; added = range.entry.added }))) }
+{
+    let attributes = range.attributes.write()?;
+    push_date_range_line(text, range.id, &attributes)
 }
 
 /// Adds the lines of all finished segments.
@@ -102,13 +125,11 @@ fn push_reports(text: &mut String, view: &View<'_>) -> Result<(), AllocError>
     ensures { OnOk result (string_bytes text.new ≡ string_bytes text.old ++ flat_map report_line (reports_of view.now)) }
 {
     let (names, asked) = (view.settings().renditions(), view.rendition());
-    for (rendition, window) in view.windows().iter().enumerate() {
-        push_report(
-            text,
-            rendition == asked,
-            names.get(rendition),
-            window.last(),
-        )?;
+    for (rendition, kept) in view.renditions().iter().enumerate() {
+        let Some(name) = names.get(rendition) else {
+            return Ok(());
+        };
+        push_report(text, rendition == asked, name, kept.window.last())?;
     }
     Ok(())
 }
@@ -117,16 +138,16 @@ fn push_reports(text: &mut String, view: &View<'_>) -> Result<(), AllocError>
 fn push_report(
     text: &mut String,
     is_asked: bool,
-    name: Option<&Text>,
+    name: &Text,
     last: Option<Place>,
 ) -> Result<(), AllocError>
     ensures { OnOk result (string_bytes text.new ≡ string_bytes text.old
-        ++ flat_map report_line (report_by is_asked (option_copied name.entry) last)) }
+        ++ flat_map report_line (report_by is_asked name.now last)) }
 {
     if is_asked {
         return Ok(());
     }
-    if let (Some(name), Some(last)) = (name, last) {
+    if let Some(last) = last {
         push_report_line(text, name.as_str(), last)?;
     }
     Ok(())

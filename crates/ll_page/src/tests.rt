@@ -1,5 +1,6 @@
 use super::*;
 use ll_item::{Item, Settings};
+use ll_range::Ranges;
 use ll_window::Window;
 use std::alloc::Global;
 use std::test::Fail;
@@ -34,8 +35,8 @@ const BROKEN: &str = "#EXTM3U\n\
     #EXT-X-PART:DURATION=1.000000,URI=\"s1.0.m4s\"\n\
     #EXT-X-PRELOAD-HINT:TYPE=PART,URI=\"s1.1.m4s\"\n";
 
-/// The settings, an ended window of no parts, and that of the items of `BROKEN`.
-fn windows(alloc: Global) -> Result<(Settings, Vec<Window>), Fail> {
+/// The settings, an ended rendition of no parts, and that of the items of `BROKEN`.
+fn renditions(alloc: Global) -> Result<(Settings, Vec<Rendition>), Fail> {
     let line =
         "channel cam target=4 part=1000000 skip=24 window=36 renditions=hi,lo first=0 start=0";
     let settings = Settings::read(alloc, line)?;
@@ -55,21 +56,30 @@ fn windows(alloc: Global) -> Result<(Settings, Vec<Window>), Fail> {
     })?;
     let mut ended = Window::new(alloc, &settings)?;
     ended.push(Item::End { rendition: 0 })?;
-    let windows = vec![in alloc; ended, broken]?;
-    Ok((settings, windows))
+    let ended = Rendition {
+        window: ended,
+        ranges: Ranges::new(alloc, &settings),
+    };
+    let broken = Rendition {
+        window: broken,
+        ranges: Ranges::new(alloc, &settings),
+    };
+    let renditions = vec![in alloc; ended, broken]?;
+    Ok((settings, renditions))
 }
 
 #[test]
 fn playlists_of_views_are_written(rt: HostRuntime) -> Result<(), Fail> {
-    let (settings, windows) = windows(rt.alloc())?;
-    assert_eq!(rt; View::new(&settings, &windows, 2, 9).is_none(), true);
+    let (settings, renditions) = renditions(rt.alloc())?;
+    assert_eq!(rt; View::new(&settings, &renditions, 2, 9).is_none(), true);
     for (rendition, segments, text) in [(0, 0, ENDED), (1, 1, BROKEN)] {
-        let view = View::new(&settings, &windows, rendition, 9).ok_or("the rendition")?;
+        let view = View::new(&settings, &renditions, rendition, 9).ok_or("the rendition")?;
         assert_eq!(rt; view.rendition(), rendition);
         assert_eq!(rt; view.count(), 9);
         assert_eq!(rt; view.settings().channel(), "cam");
         assert_eq!(rt; view.window().segment_count(), segments);
-        assert_eq!(rt; view.windows().len(), 2);
+        assert_eq!(rt; view.ranges().count(), 0);
+        assert_eq!(rt; view.renditions().len(), 2);
         assert_eq!(rt; full(rt.alloc(), &view)?.as_str(), text);
     }
     Ok(())

@@ -1,16 +1,18 @@
 ghost use Rattle.std.specs.Prelude.{◌≡◌, ◌<◌, ◌≤◌, MatchOption, length};
 ghost use Rattle.ll_page.specs.View.{asked};
 
+use crate::rendition::Rendition;
 use ll_item::Settings;
+use ll_range::Ranges;
 use ll_window::Window;
 use std::marker::Model;
 
-/// What a playlist is made of: a channel's settings, the windows of all its renditions, the rendition that is asked for,
-/// and how many items the channel has accepted.
+/// What a playlist is made of: a channel's settings, what is kept of each of its renditions, the rendition that is asked
+/// for, and how many items the channel has accepted.
 #[derive(Drop)]
 pub struct View<'a> {
     settings: &'a Settings,
-    windows: &'a [Window],
+    renditions: &'a [Rendition],
     rendition: usize,
     count: u64,
 }
@@ -21,29 +23,29 @@ impl<'a> Model for View<'a> {
 
     ghost Value = { Seen };
 
-    ghost view = { λ v. record { settings = v.settings.now; windows = v.windows.now; rendition = v.rendition; count = v.count } };
+    ghost view = { λ v. record { settings = v.settings.now; renditions = v.renditions.now; rendition = v.rendition; count = v.count } };
 
-    ghost invariant = { λ v. v.rendition < length v.windows.now };
+    ghost invariant = { λ v. v.rendition < length v.renditions.now };
 }
 
 impl<'a> View<'a> {
-    /// The view of the rendition with this index, where the windows have one.
+    /// The view of the rendition with this index, where there is one.
     pub fn new(
         settings: &'a Settings,
-        windows: &'a [Window],
+        renditions: &'a [Rendition],
         rendition: usize,
         count: u64,
     ) -> Option<View<'a>>
-        ensures { MatchOption result (length windows.now ≤ rendition)
-            (λ v. (rendition < length windows.now)
-            × (v ≡ record { settings = settings.now; windows = windows.now; rendition = rendition; count = count })) }
+        ensures { MatchOption result (length renditions.now ≤ rendition)
+            (λ v. (rendition < length renditions.now)
+            × (v ≡ record { settings = settings.now; renditions = renditions.now; rendition = rendition; count = count })) }
     {
-        if windows.len() <= rendition {
+        if renditions.len() <= rendition {
             return None;
         }
         Some(View {
             settings,
-            windows,
+            renditions,
             rendition,
             count,
         })
@@ -57,18 +59,24 @@ impl<'a> View<'a> {
     }
 
     /// The window of the rendition that is asked for.
-    #[tactic(auto, using(crate::proofs::PlaceLemmas::at_place_is))]
     pub fn window(&self) -> &'a Window
-        ensures { result.now ≡ asked self.now }
+        ensures { result.now ≡ (asked self.now).window }
     {
-        &self.windows[self.rendition]
+        &self.asked().window
     }
 
-    /// The windows of all renditions, in the order of the settings.
-    pub fn windows(&self) -> &'a [Window]
-        ensures { result.now ≡ self.now.windows }
+    /// The date ranges of the rendition that is asked for.
+    pub fn ranges(&self) -> &'a Ranges
+        ensures { result.now ≡ (asked self.now).ranges }
     {
-        self.windows
+        &self.asked().ranges
+    }
+
+    /// What is kept of each rendition, in the order of the settings.
+    pub fn renditions(&self) -> &'a [Rendition]
+        ensures { result.now ≡ self.now.renditions }
+    {
+        self.renditions
     }
 
     /// The index of the rendition that is asked for.
@@ -83,5 +91,13 @@ impl<'a> View<'a> {
         ensures { result ≡ self.now.count }
     {
         self.count
+    }
+
+    /// What is kept of the rendition that is asked for.
+    #[tactic(auto, using(crate::proofs::PlaceLemmas::at_place_is))]
+    fn asked(&self) -> &'a Rendition
+        ensures { result.now ≡ asked self.now }
+    {
+        &self.renditions[self.rendition]
     }
 }

@@ -65,6 +65,23 @@ kept-happens w place c e ks lines last events replies at h =
     ap₂ (λ xs n. made xs lines last n replies) channels counted
     ∙ ap (λ (k : Kept). made (map kept_channel (slice_set w.channels place (with_event e c))) k.lines k.last_id (min (sum_by event_count (slice_set w.channels place (with_event e c))) count_end) k.replies) h
 
+none_past : (cs : List Channel) (place : ℕ) (o : Option Channel) → slice_get cs place ≡ o → length cs ≤ place → o ≡ None
+none_past cs place None e h = refl
+none_past cs place (Some c) e h = absurd (omega (arith, h, slice_get_within cs place c e))
+
+past_by : (w : World) (place : ℕ) (i : Item) (o : Option Channel) → o ≡ None → (kept w ≡ kept (offer_at w place i o)) × ((offer_at w place i o).text ≡ w.text ++ [])
+past_by w place i None e = (refl, sym (append-nil w.text))
+past_by w place i (Some c) e = cc
+
+-- an item for a place where no channel stands
+pub offer-past : (w : World) (place : ℕ) (i : Item) (ks : List KeptChannel) (lines : ℕ) (last : Option ℕ) (events replies : ℕ)
+    → made ks lines last events replies ≡ kept w → length ks ≤ place
+    → (kept w ≡ kept (act w (Offer place i))) × ((act w (Offer place i)).text ≡ w.text ++ [])
+offer-past w place i ks lines last events replies h past =
+    let long = length-map w.channels kept_channel in
+    let same : length ks ≡ length (map kept_channel w.channels) = ap (λ (k : Kept). length k.channels) h in
+    past_by w place i (slice_get w.channels place) (none_past w.channels place (slice_get w.channels place) refl (omega (arith, past, long, same)))
+
 -- an item that its channel accepts
 pub offer-accepted : (w : World) (place : ℕ) (i : Item) (ks ds new : List KeptChannel) (lines : ℕ) (last : Option ℕ) (events replies n : ℕ) (line : List ℕ)
     → made ks lines last events replies ≡ kept w → ds ≡ ks → place < length ds

@@ -4,6 +4,7 @@ pub mod DriverLemmas
 pub mod LineLemmas
 pub mod MemoryLemmas
 pub mod PlaceLemmas
+pub mod PublishLemmas
 pub mod ReadingLemmas
 pub mod RenditionLemmas
 pub mod RunLemmas

@@ -1,8 +1,10 @@
 -- What one line makes of a driver that stands for a world, by what the line means.
-use Rattle.std.proofs.Common.{◌≡◌, ℕ, ◌+◌, ◌<◌, ◌≤◌, List, [], ◌∷◌, ◌++◌, false, Option, Some, None, option_map, refl, ap, ap₂, sym, ◌∙◌, subst, length, map, nat_lt, arith, Result, Ok, Err, OnOk, IfErr}
+use Rattle.std.proofs.Common.{◌≡◌, ℕ, ◌+◌, ◌<◌, ◌≤◌, List, [], ◌∷◌, ◌++◌, ◌||◌, Bool, true, false, Option, Some, None, option_map, refl, ap, ap₂, sym, ◌∙◌, subst, length, map, nat_lt, arith, Result, Ok, Err, OnOk, IfErr, IsOk}
 use Rattle.std.proofs.lemmas.Bool.Decides.{nat_tests}
+use Rattle.std.specs.Result.{is_ok}
+use Rattle.ll_item.specs.Settings.{settings_in}
 use Rattle.ll_replay.specs.Kept.{Kept, KeptChannel, Stands, kept, kept_channel, settings_kept}
-use Rattle.ll_replay.specs.Lines.{acts}
+use Rattle.ll_replay.specs.Lines.{acts, offers, WantsMemory}
 use Rattle.ll_replay.specs.Stream.{Wrote, WroteFront, IsBroken}
 use Rattle.ll_replay.specs.World.{World, Channel, BadLine, LineTooLong, act, acted, counted, line, settings_of}
 use Rattle.ll_replay.specs.declared.act.Act.{Act}
@@ -101,3 +103,15 @@ take-too_long k base written w text n s long e =
 -- a line for which no memory was found
 pub take-nowhere : (k : Kept) (base written : Option (List ℕ)) (w : World) (text : List ℕ) → Stands k base written w → WroteFront base written (line w text).text
 take-nowhere k base written w text s = let more = line-text w text in (w.text, more.0, more.1, s.wrote)
+
+nowhere_by : (b : Bool) (o : Option (List Act)) → (b || offers o) ≡ true → o ≡ None → b ≡ true
+nowhere_by true o wants e = refl
+nowhere_by false None wants e = wants
+nowhere_by false (Some list) wants e = cc
+
+-- a line that wants memory and has no place in a script spells settings
+pub take-wants : (k now : Kept) (ds : List KeptChannel) (text : List ℕ) → k ≡ now → ds ≡ k.channels → WantsMemory (settings_kept ds) k.last_id text
+    → acts (settings_kept now.channels) now.last_id text ≡ None → IsOk (settings_in text)
+take-wants k now ds text same d wants e =
+    let means = ap₂ (λ cs i. acts cs i text) (ap settings_kept (d ∙ ap (λ (q : Kept). q.channels) same)) (ap (λ (q : Kept). q.last_id) same) in
+    nowhere_by (is_ok (settings_in text)) (acts (settings_kept ds) k.last_id text) wants (means ∙ e)

@@ -2,7 +2,7 @@
 use Rattle.std.specs.Prelude.{ℕ, List, [], ◌++◌, codes, decimal, length, Option, Some, None, String, string_bytes}
 use Rattle.std.specs.declared.alloc.Global.{Global}
 use Rattle.ll_replay.specs.declared.refusal.Refusal.{Refusal}
-use Rattle.ll_replay.specs.declared.refusal.Refusal.TheVariants.{NoRendition, Ended, BadDuration, TooLong, OpenSegment, CountEnd, TimeEnd, RecordFull, Memory, BadLine, UnknownChannel}
+use Rattle.ll_replay.specs.declared.refusal.Refusal.TheVariants.{NoRendition, Ended, BadDuration, TooLong, OpenSegment, CountEnd, TimeEnd, IdTaken, BadAttribute, IdUnknown, RecordFull, Memory, BadLine, UnknownChannel}
 
 abbrev pub code_of : Refusal → ℕ
 code_of NoRendition = 1
@@ -12,6 +12,9 @@ code_of TooLong = 4
 code_of OpenSegment = 5
 code_of CountEnd = 6
 code_of TimeEnd = 7
+code_of IdTaken = 8
+code_of BadAttribute = 9
+code_of IdUnknown = 10
 code_of RecordFull = 11
 code_of Memory = 12
 code_of BadLine = 13
@@ -25,6 +28,9 @@ name_of TooLong = codes "TooLong"
 name_of OpenSegment = codes "OpenSegment"
 name_of CountEnd = codes "CountEnd"
 name_of TimeEnd = codes "TimeEnd"
+name_of IdTaken = codes "IdTaken"
+name_of BadAttribute = codes "BadAttribute"
+name_of IdUnknown = codes "IdUnknown"
 name_of RecordFull = codes "RecordFull"
 name_of Memory = codes "Memory"
 name_of BadLine = codes "BadLine"

@@ -5,8 +5,11 @@ use Rattle.ll_item.specs.Settings.{Configuration}
 use Rattle.ll_item.specs.declared.item.Item.{Item}
 use Rattle.ll_window.specs.declared.window.PushFault.{PushFault}
 use Rattle.ll_window.specs.declared.window.PushFault.TheVariants as push
-use Rattle.ll_window.specs.Refusal
+use Rattle.ll_window.specs.Refusal as window
 use Rattle.ll_window.specs.Segments.{own}
+use Rattle.ll_range.specs.Announced as range
+use Rattle.ll_range.specs.declared.ranges.RangeFault.{RangeFault}
+use Rattle.ll_range.specs.declared.ranges.RangeFault.TheVariants as range_fault
 use Rattle.ll_replay.specs.declared.refusal.Refusal.{Refusal}
 use Rattle.ll_replay.specs.declared.refusal.Refusal.TheVariants as refused
 
@@ -38,11 +41,27 @@ refusal_of push.CountEnd = refused.CountEnd
 refusal_of push.TimeEnd = refused.TimeEnd
 refusal_of push.Memory = refused.Memory
 
+abbrev pub range_refusal_of : RangeFault → Refusal
+range_refusal_of range_fault.IdTaken = refused.IdTaken
+range_refusal_of range_fault.BadAttribute = refused.BadAttribute
+range_refusal_of range_fault.IdUnknown = refused.IdUnknown
+range_refusal_of range_fault.Memory = refused.Memory
+
+abbrev pub first_of : Option Refusal → Option Refusal → Option Refusal
+first_of (Some reason) later = Some reason
+first_of None later = later
+
+-- why an item may not follow these items of its rendition, or none: what its window refuses comes first, then what its date
+-- ranges refuse
+unfoldable pub rendition_refusal : Configuration → List Item → Item → Option Refusal
+rendition_refusal c before item =
+    first_of (option_map refusal_of (window.refusal c before item)) (option_map range_refusal_of (range.refusal c before item))
+
 -- why an item may not follow these items of its channel, or none
 abbrev pub refusal_at : Configuration → List Item → Item → Option Refusal
 refusal_at c before item =
     if nat_lt (rendition_of item) (length c.renditions)
-    then option_map refusal_of (Refusal.refusal c (own (rendition_of item) before) item)
+    then rendition_refusal c (own (rendition_of item) before) item
     else Some refused.NoRendition
 
 -- a channel that has taken all its events is full

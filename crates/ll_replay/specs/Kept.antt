@@ -1,13 +1,14 @@
 -- What a driver keeps in place of all events.
 use Rattle.std.specs.Prelude.{◌≡◌, ℕ, List, ◌++◌, Option, None, length, map, min, option_map, sum_by}
 use Rattle.ll_item.specs.Settings.{Configuration}
-use Rattle.ll_window.specs.Compact.{Compact, compacts}
+use Rattle.ll_page.specs.View.{renditions}
+use Rattle.ll_page.specs.declared.rendition.Rendition.{Rendition}
 use Rattle.ll_replay.specs.Events.{items}
 use Rattle.ll_replay.specs.World.{Channel, World, count_end}
 
 pub record KeptChannel : Type 0 where
   pub settings : Configuration
-  pub windows : List Compact
+  pub renditions : List Rendition
   -- how many items were accepted
   pub count : ℕ
   -- how many events there were
@@ -23,7 +24,7 @@ pub record Kept : Type 0 where
 abbrev pub kept_channel : Channel → KeptChannel
 kept_channel c = record {
   settings = c.settings;
-  windows = compacts c.settings (items c.events);
+  renditions = renditions c.settings (items c.events);
   count = length (items c.events);
   events = length c.events;
 }

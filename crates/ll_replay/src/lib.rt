@@ -11,6 +11,7 @@ mod laws;
 mod outcome;
 mod reading;
 mod refusal;
+mod rendition;
 mod stream;
 #[cfg(test)]
 mod tests;

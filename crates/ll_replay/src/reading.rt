@@ -1,10 +1,12 @@
 //! What the lines of a script mean.
-ghost use Rattle.std.specs.Prelude.{◌≡◌, ◌∷◌, [], IfOk, IsErrOf, IsOk, MatchOption, MatchResult, None, Some, false, ℕ, List, Option};
+ghost use Rattle.std.specs.Prelude.{◌≡◌, ◌∷◌, [], IfOk, IsErrOf, IsOk, MatchOption, MatchResult, None, Some, true, false, ℕ, List, Option};
 ghost use Rattle.std.specs.Str.{is_utf8};
 ghost use Rattle.std.specs.Option.{option_to_list};
 ghost use Rattle.ll_attr.specs.Words.{words, parts_at};
+ghost use Rattle.ll_item.specs.Items.{item_in};
 ghost use Rattle.ll_item.specs.Settings.{Configuration, settings_in};
 ghost use Rattle.ll_replay.specs.Kept.{settings_kept};
+ghost use Rattle.ll_replay.specs.Lines.{WantsMemory, is_offer};
 ghost use Rattle.ll_replay.specs.Lines as spec;
 
 use crate::act::Act;
@@ -33,7 +35,7 @@ pub(crate) fn read_line(
 ) -> Result<Option<Act>, Unread>
     ensures act { IfOk result (λ a. spec.acts (settings_kept channels.now) last line.now ≡ Some (option_to_list a)) }
     ensures bad { IsErrOf result Unread.BadLine → spec.acts (settings_kept channels.now) last line.now ≡ None }
-    ensures memory { IsErrOf result Unread.Memory → IsOk (settings_in line.now) }
+    ensures memory { IsErrOf result Unread.Memory → WantsMemory (settings_kept channels.now) last line.now }
 {
     match str::from_utf8(line) {
         Ok(text) => read_text(alloc, channels, last, text),
@@ -66,13 +68,13 @@ fn read_text(
 ) -> Result<Option<Act>, Unread>
     ensures act { IfOk result (λ a. spec.acts (settings_kept channels.now) last line.now ≡ Some (option_to_list a)) }
     ensures bad { IsErrOf result Unread.BadLine → spec.acts (settings_kept channels.now) last line.now ≡ None }
-    ensures memory { IsErrOf result Unread.Memory → IsOk (settings_in line.now) }
+    ensures memory { IsErrOf result Unread.Memory → WantsMemory (settings_kept channels.now) last line.now }
 {
     if line.is_empty() || line.starts_with('#') {
         return Ok(None);
     }
     if let Some(text) = behind(line, "pub ") {
-        return Ok(Some(read_offer(channels, text)));
+        return Ok(Some(read_offer(alloc, channels, text)?));
     }
     let act = match behind(line, "get ") {
         Some(text) => read_get(channels, last, text),
@@ -99,19 +101,32 @@ fn find<'a>(channels: &'a [Channel], name: &str) -> Option<(usize, &'a Settings)
 }
 
 /// A publisher's line.
-fn read_offer(channels: &[Channel], text: &str) -> Act
-    ensures { result ≡ spec.offer (settings_kept channels.now) text.now }
+fn read_offer(alloc: Global, channels: &[Channel], text: &str) -> Result<Act, Unread>
+    ensures act { IfOk result (λ a. a ≡ spec.offer (settings_kept channels.now) text.now) }
+    ensures never_bad { IsErrOf result Unread.BadLine → ⊥ }
+    ensures memory { IsErrOf result Unread.Memory → is_offer (spec.offer (settings_kept channels.now) text.now) ≡ true }
 {
     let Some((name, line)) = text.split_once(' ') else {
-        return Act::Refuse(Refusal::BadLine);
+        return Ok(Act::Refuse(Refusal::BadLine));
     };
     let Some((place, settings)) = find(channels, name) else {
-        return Act::Refuse(Refusal::UnknownChannel);
+        return Ok(Act::Refuse(Refusal::UnknownChannel));
     };
-    match Item::read(settings, line) {
-        Ok(item) => Act::Offer { place, item },
-        Err(ItemFault::BadLine) => Act::Refuse(Refusal::BadLine),
-        Err(ItemFault::NoRendition) => Act::Refuse(Refusal::NoRendition),
+    read_item(alloc, place, settings, line)
+}
+
+/// What an item's line makes happen in the channel at this place.
+fn read_item(alloc: Global, place: usize, settings: &Settings, line: &str) -> Result<Act, Unread>
+    ensures act { IfOk result (λ a. a ≡ spec.item_act place (item_in settings.now line.now)) }
+    ensures never_bad { IsErrOf result Unread.BadLine → ⊥ }
+    ensures memory { IsErrOf result Unread.Memory → is_offer (spec.item_act place (item_in settings.now line.now)) ≡ true }
+{
+    match Item::read(alloc, settings, line) {
+        Ok(item) => Ok(Act::Offer { place, item }),
+        Err(ItemFault::BadLine) => Ok(Act::Refuse(Refusal::BadLine)),
+        Err(ItemFault::NoRendition) => Ok(Act::Refuse(Refusal::NoRendition)),
+        Err(ItemFault::BadAttribute) => Ok(Act::Refuse(Refusal::BadAttribute)),
+        Err(ItemFault::Memory) => Err(Unread::Memory),
     }
 }
 

@@ -18,6 +18,13 @@ pub enum Refusal {
     CountEnd,
     /// A part that ends past the year 9999.
     TimeEnd,
+    /// A date range whose ID is listed, or was taken away lately (section 4.4.5.2).
+    IdTaken,
+    /// A date range whose list can't be read as one or doesn't begin with a quoted ID, or an attribute that no date range
+    /// may have.
+    BadAttribute,
+    /// A date range to take away that isn't listed.
+    IdUnknown,
     /// The channel has taken 2^60 events.
     RecordFull,
     /// No memory was found.
@@ -41,6 +48,9 @@ impl Refusal {
             Refusal::OpenSegment => 5,
             Refusal::CountEnd => 6,
             Refusal::TimeEnd => 7,
+            Refusal::IdTaken => 8,
+            Refusal::BadAttribute => 9,
+            Refusal::IdUnknown => 10,
             Refusal::RecordFull => 11,
             Refusal::Memory => 12,
             Refusal::BadLine => 13,
@@ -60,6 +70,9 @@ impl Refusal {
             Refusal::OpenSegment => "OpenSegment",
             Refusal::CountEnd => "CountEnd",
             Refusal::TimeEnd => "TimeEnd",
+            Refusal::IdTaken => "IdTaken",
+            Refusal::BadAttribute => "BadAttribute",
+            Refusal::IdUnknown => "IdUnknown",
             Refusal::RecordFull => "RecordFull",
             Refusal::Memory => "Memory",
             Refusal::BadLine => "BadLine",

@@ -26,9 +26,12 @@ const ONE_SEGMENT_TEXT: &[u8] =
 
 /// Items, of which three are accepted.
 const ITEMS: &[u8] = b"pub cam break hi\npub cam part hi 1 i\npub cam break hi\npub cam break lo\n\
+pub cam range hi ID=a\npub cam range lo ID=a\npub cam range hi\n\
 pub cam end hi\npub cam end hi\n";
 
-const ITEMS_TEXT: &[u8] = b"ok 1\nok 2\nno 5 OpenSegment\nno 1 NoRendition\nok 3\nno 2 Ended\n";
+const ITEMS_TEXT: &[u8] =
+    b"ok 1\nok 2\nno 5 OpenSegment\nno 1 NoRendition\nno 9 BadAttribute\nno 1 NoRendition\n\
+no 13 BadLine\nok 3\nno 2 Ended\n";
 
 /// All bytes at once.
 const WHOLE: Device = Device {
@@ -234,6 +237,9 @@ fn refusals_have_codes_and_names(rt: HostRuntime) {
         (Refusal::OpenSegment, 5, "OpenSegment"),
         (Refusal::CountEnd, 6, "CountEnd"),
         (Refusal::TimeEnd, 7, "TimeEnd"),
+        (Refusal::IdTaken, 8, "IdTaken"),
+        (Refusal::BadAttribute, 9, "BadAttribute"),
+        (Refusal::IdUnknown, 10, "IdUnknown"),
         (Refusal::RecordFull, 11, "RecordFull"),
         (Refusal::Memory, 12, "Memory"),
         (Refusal::BadLine, 13, "BadLine"),

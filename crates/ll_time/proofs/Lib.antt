@@ -1,1 +1,3 @@
 pub mod NthDate
+pub mod Separators
+pub mod Boundaries

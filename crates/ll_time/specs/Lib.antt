@@ -1,2 +1,3 @@
 pub mod Calendar
+pub mod Dates
 pub mod Times

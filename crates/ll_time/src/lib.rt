@@ -2,10 +2,12 @@
 #![tactic(auto)]
 
 mod calendar;
+mod date_time;
 mod digits;
 mod time;
 
 pub use calendar::calendar_law;
+pub use date_time::is_date_time;
 pub use time::UtcTime;
 
 #[cfg(test)]

@@ -1,6 +1,7 @@
 -- What is kept of a list of items with one more is a step from what is kept of the list.
 use Rattle.std.proofs.Common.{◌≡◌, ℕ, ◌+◌, ◌*◌, ◌≤◌, List, [], ◌∷◌, ◌++◌, Bool, true, false, refl, ap, ap₂, ◌∙◌, sym, length, arith, length-append, append-nil, Option, Some, None}
 use Rattle.std.proofs.lemmas.List.Sums.{sum_by-append}
+use Rattle.ll_item.specs.Items.{is_about_ranges}
 use Rattle.ll_item.specs.Settings.{Configuration}
 use Rattle.ll_item.specs.declared.item.Item.{Item}
 use Rattle.ll_item.specs.declared.item.Item.TheVariants as item
@@ -46,54 +47,108 @@ parts-part b [] r d i f = refl
 parts-part b (item.Part r' d' i' f' ∷ items) r d i f = ap (λ ps. marked b d' i' f' ∷ ps) (parts-part false items r d i f)
 parts-part b (item.Break r' ∷ items) r d i f = parts-part true items r d i f
 parts-part b (item.End r' ∷ items) r d i f = parts-part b items r d i f
+parts-part b (item.Range r' id attributes ∷ items) r d i f = parts-part b items r d i f
+parts-part b (item.Unrange r' id ∷ items) r d i f = parts-part b items r d i f
 
 parts-end : (b : Bool) (items : List Item) (r : ℕ) → parts_from b (items ++ item.End r ∷ []) ≡ parts_from b items
 parts-end b [] r = refl
 parts-end b (item.Part r' d' i' f' ∷ items) r = ap (λ ps. marked b d' i' f' ∷ ps) (parts-end false items r)
 parts-end b (item.Break r' ∷ items) r = parts-end true items r
 parts-end b (item.End r' ∷ items) r = parts-end b items r
+parts-end b (item.Range r' id attributes ∷ items) r = parts-end b items r
+parts-end b (item.Unrange r' id ∷ items) r = parts-end b items r
 
 pending-end : (b : Bool) (items : List Item) (r : ℕ) → pending_after b (items ++ item.End r ∷ []) ≡ pending_after b items
 pending-end b [] r = refl
 pending-end b (item.Part r' d' i' f' ∷ items) r = pending-end false items r
 pending-end b (item.Break r' ∷ items) r = pending-end true items r
 pending-end b (item.End r' ∷ items) r = pending-end b items r
+pending-end b (item.Range r' id attributes ∷ items) r = pending-end b items r
+pending-end b (item.Unrange r' id ∷ items) r = pending-end b items r
 
 ended-part : (items : List Item) (r d : ℕ) (i f : Bool) → ended (items ++ item.Part r d i f ∷ []) ≡ ended items
 ended-part [] r d i f = refl
 ended-part (item.Part r' d' i' f' ∷ items) r d i f = ended-part items r d i f
 ended-part (item.Break r' ∷ items) r d i f = ended-part items r d i f
 ended-part (item.End r' ∷ items) r d i f = refl
+ended-part (item.Range r' id attributes ∷ items) r d i f = ended-part items r d i f
+ended-part (item.Unrange r' id ∷ items) r d i f = ended-part items r d i f
 
 ended-break : (items : List Item) (r : ℕ) → ended (items ++ item.Break r ∷ []) ≡ ended items
 ended-break [] r = refl
 ended-break (item.Part r' d' i' f' ∷ items) r = ended-break items r
 ended-break (item.Break r' ∷ items) r = ended-break items r
 ended-break (item.End r' ∷ items) r = refl
+ended-break (item.Range r' id attributes ∷ items) r = ended-break items r
+ended-break (item.Unrange r' id ∷ items) r = ended-break items r
 
 ended-end : (items : List Item) (r : ℕ) → ended (items ++ item.End r ∷ []) ≡ true
 ended-end [] r = refl
 ended-end (item.Part r' d' i' f' ∷ items) r = ended-end items r
 ended-end (item.Break r' ∷ items) r = ended-end items r
 ended-end (item.End r' ∷ items) r = refl
+ended-end (item.Range r' id attributes ∷ items) r = ended-end items r
+ended-end (item.Unrange r' id ∷ items) r = ended-end items r
 
 parts-break : (b : Bool) (items : List Item) (r : ℕ) → parts_from b (items ++ item.Break r ∷ []) ≡ parts_from b items
 parts-break b [] r = refl
 parts-break b (item.Part r' d' i' f' ∷ items) r = ap (λ ps. marked b d' i' f' ∷ ps) (parts-break false items r)
 parts-break b (item.Break r' ∷ items) r = parts-break true items r
 parts-break b (item.End r' ∷ items) r = parts-break b items r
+parts-break b (item.Range r' id attributes ∷ items) r = parts-break b items r
+parts-break b (item.Unrange r' id ∷ items) r = parts-break b items r
 
 pending-part : (b : Bool) (items : List Item) (r d : ℕ) (i f : Bool) → pending_after b (items ++ item.Part r d i f ∷ []) ≡ false
 pending-part b [] r d i f = refl
 pending-part b (item.Part r' d' i' f' ∷ items) r d i f = pending-part false items r d i f
 pending-part b (item.Break r' ∷ items) r d i f = pending-part true items r d i f
 pending-part b (item.End r' ∷ items) r d i f = pending-part b items r d i f
+pending-part b (item.Range r' id attributes ∷ items) r d i f = pending-part b items r d i f
+pending-part b (item.Unrange r' id ∷ items) r d i f = pending-part b items r d i f
 
 pending-break : (b : Bool) (items : List Item) (r : ℕ) → pending_after b (items ++ item.Break r ∷ []) ≡ true
 pending-break b [] r = refl
 pending-break b (item.Part r' d' i' f' ∷ items) r = pending-break false items r
 pending-break b (item.Break r' ∷ items) r = pending-break true items r
 pending-break b (item.End r' ∷ items) r = pending-break b items r
+pending-break b (item.Range r' id attributes ∷ items) r = pending-break b items r
+pending-break b (item.Unrange r' id ∷ items) r = pending-break b items r
+
+parts-silent : (b : Bool) (items : List Item) (i : Item) → is_about_ranges i ≡ true → parts_from b (items ++ i ∷ []) ≡ parts_from b items
+parts-silent b [] (item.Part r d i f) h = absurd (grind (arith, h))
+parts-silent b [] (item.Break r) h = absurd (grind (arith, h))
+parts-silent b [] (item.End r) h = absurd (grind (arith, h))
+parts-silent b [] (item.Range r id attributes) h = refl
+parts-silent b [] (item.Unrange r id) h = refl
+parts-silent b (item.Part r' d' i' f' ∷ items) i h = ap (λ ps. marked b d' i' f' ∷ ps) (parts-silent false items i h)
+parts-silent b (item.Break r' ∷ items) i h = parts-silent true items i h
+parts-silent b (item.End r' ∷ items) i h = parts-silent b items i h
+parts-silent b (item.Range r' id attributes ∷ items) i h = parts-silent b items i h
+parts-silent b (item.Unrange r' id ∷ items) i h = parts-silent b items i h
+
+pending-silent : (b : Bool) (items : List Item) (i : Item) → is_about_ranges i ≡ true → pending_after b (items ++ i ∷ []) ≡ pending_after b items
+pending-silent b [] (item.Part r d i f) h = absurd (grind (arith, h))
+pending-silent b [] (item.Break r) h = absurd (grind (arith, h))
+pending-silent b [] (item.End r) h = absurd (grind (arith, h))
+pending-silent b [] (item.Range r id attributes) h = refl
+pending-silent b [] (item.Unrange r id) h = refl
+pending-silent b (item.Part r' d' i' f' ∷ items) i h = pending-silent false items i h
+pending-silent b (item.Break r' ∷ items) i h = pending-silent true items i h
+pending-silent b (item.End r' ∷ items) i h = pending-silent b items i h
+pending-silent b (item.Range r' id attributes ∷ items) i h = pending-silent b items i h
+pending-silent b (item.Unrange r' id ∷ items) i h = pending-silent b items i h
+
+ended-silent : (items : List Item) (i : Item) → is_about_ranges i ≡ true → ended (items ++ i ∷ []) ≡ ended items
+ended-silent [] (item.Part r d i f) h = absurd (grind (arith, h))
+ended-silent [] (item.Break r) h = absurd (grind (arith, h))
+ended-silent [] (item.End r) h = absurd (grind (arith, h))
+ended-silent [] (item.Range r id attributes) h = refl
+ended-silent [] (item.Unrange r id) h = refl
+ended-silent (item.Part r' d' i' f' ∷ items) i h = ended-silent items i h
+ended-silent (item.Break r' ∷ items) i h = ended-silent items i h
+ended-silent (item.End r' ∷ items) i h = refl
+ended-silent (item.Range r' id attributes ∷ items) i h = ended-silent items i h
+ended-silent (item.Unrange r' id ∷ items) i h = ended-silent items i h
 
 -- what is kept of these rows of segments
 abbrev told : Configuration → List Row → List Part → ℕ → ℕ → Bool → Option Place → Bool → Compact
@@ -213,6 +268,12 @@ going : (c : Configuration) (items : List Item) → ended items ≡ false
     → compact c items ≡ kept c false (split (parts items)) (duration (parts items)) (pending_after false items) (last_of c (parts items))
 going c items h = ap (λ b. kept c b (split (parts items)) (duration (parts items)) (pending_after false items) (last_of c (parts items))) h
 
+-- a date range changes nothing of a window
+pub silent : (c : Configuration) (items : List Item) (i : Item) → is_about_ranges i ≡ true → compact c (items ++ i ∷ []) ≡ compact c items
+silent c items i h =
+    ap (λ ps. kept c (ended (items ++ i ∷ [])) (split ps) (duration ps) (pending_after false (items ++ i ∷ [])) (last_of c ps)) (parts-silent false items i h)
+    ∙ ap₂ (λ e b. kept c e (split (parts items)) (duration (parts items)) b (last_of c (parts items))) (ended-silent items i h) (pending-silent false items i h)
+
 pub compact-snoc : (c : Configuration) (items : List Item) (i : Item) → ended items ≡ false → compact c (items ++ i ∷ []) ≡ with_item (compact c items) i
 compact-snoc c items (item.Part r d i f) h =
     let p : Part = marked (pending_after false items) d i f in
@@ -231,12 +292,16 @@ compact-snoc c items (item.End r) h =
     ∙ ap₂ (λ ps b. kept c true (split ps) (duration ps) b (last_of c ps)) (parts-end false items r) (pending-end false items r)
     ∙ kept-ended c (split (parts items)).finished (split (parts items)).unfinished (duration (parts items)) (pending_after false items) (last_of c (parts items))
     ∙ ap (λ k. with_item k (item.End r)) (sym (going c items h))
+compact-snoc c items (item.Range r id attributes) h = silent c items (item.Range r id attributes) refl
+compact-snoc c items (item.Unrange r id) h = silent c items (item.Unrange r id) refl
 
 -- why an item may not follow is told by what is kept
 refusal-going : (c : Configuration) (items : List Item) (i : Item) → refusal_before_end c items i ≡ refusal_going_on (compact c items) i
 refusal-going c items (item.Part r d i f) = refl
 refusal-going c items (item.Break r) = refl
 refusal-going c items (item.End r) = refl
+refusal-going c items (item.Range r id attributes) = refl
+refusal-going c items (item.Unrange r id) = refl
 
 pub refusal_told : (k : Compact) (items : List Item) (i : Item) (f : Option PushFault) → f ≡ refusal_after k i → k ≡ compact k.settings items
     → refusal k.settings items i ≡ f

@@ -1,12 +1,13 @@
 -- What of all items of a rendition is still needed.
-use Rattle.std.specs.Prelude.{ℕ, ◌+◌, ◌*◌, List, [], ◌∷◌, Bool, false, Option, Some, None, length}
+use Rattle.std.specs.Prelude.{◌≡◌, ℕ, ◌+◌, ◌*◌, List, [], ◌∷◌, ◌++◌, Bool, true, false, Option, Some, None, length}
+use Rattle.ll_item.specs.Items.{is_about_ranges}
 use Rattle.ll_item.specs.Settings.{Configuration}
 use Rattle.ll_item.specs.declared.item.Item.{Item}
 use Rattle.ll_window.specs.declared.part.Part.{Part}
 use Rattle.ll_window.specs.declared.place.Place.{Place}
 use Rattle.ll_window.specs.Numbers.{numbered_parts, last_place}
 use Rattle.ll_window.specs.Rows.{Row, row, rows, lasting, broken_in}
-use Rattle.ll_window.specs.Segments.{own, parts, segments, open_segment, duration, end_time, pending_after, ended}
+use Rattle.ll_window.specs.Segments.{parts, segments, open_segment, duration, end_time, pending_after, ended}
 use Rattle.ll_window.specs.Window.{window_limit, near_limit, gone, window, listed}
 
 pub record Compact : Type 0 where
@@ -59,10 +60,6 @@ open_row number maps time (p ∷ ps) = Some (row number maps time (p ∷ ps))
 abbrev pub unfinished : Compact → Option Row
 unfinished k = open_row k.next_number k.maps k.open_time k.open_parts
 
-abbrev pub compacts_from : Configuration → List Item → ℕ → List (List ℕ) → List Compact
-compacts_from c items rendition [] = []
-compacts_from c items rendition (name ∷ more) = compact c (own rendition items) ∷ compacts_from c items (rendition + 1) more
-
--- of all items of a channel, one for each of its renditions
-abbrev pub compacts : Configuration → List Item → List Compact
-compacts c items = compacts_from c items 0 c.renditions
+-- a date range changes nothing of what is kept of segments and parts
+abbrev pub RangesLaw : Type 0
+RangesLaw = (c : Configuration) (items : List Item) (i : Item) → is_about_ranges i ≡ true → compact c (items ++ i ∷ []) ≡ compact c items

@@ -33,6 +33,8 @@ refusal_before_end c before (item.Part rendition micros independent finish) =
     part_refusal c (c.first + length (segments before)) (duration (open_segment before)) (end_time before) micros
 refusal_before_end c before (item.Break rendition) = break_refusal (open_segment before)
 refusal_before_end c before (item.End rendition) = None
+refusal_before_end c before (item.Range rendition id attributes) = None
+refusal_before_end c before (item.Unrange rendition id) = None
 
 abbrev pub refusal_by : Bool → Option PushFault → Option PushFault
 refusal_by true other = Some Ended

@@ -16,6 +16,8 @@ parts_from pending (item.Part rendition duration independent finish ∷ items) =
     (record { duration = duration; independent = independent; finish = finish; after_break = pending }) ∷ parts_from false items
 parts_from pending (item.Break rendition ∷ items) = parts_from true items
 parts_from pending (item.End rendition ∷ items) = parts_from pending items
+parts_from pending (item.Range rendition id attributes ∷ items) = parts_from pending items
+parts_from pending (item.Unrange rendition id ∷ items) = parts_from pending items
 
 -- whether a break stands behind the last part, where one stands before these items or doesn't
 abbrev pub pending_after : Bool → List Item → Bool
@@ -23,6 +25,8 @@ pending_after pending [] = pending
 pending_after pending (item.Part rendition duration independent finish ∷ items) = pending_after false items
 pending_after pending (item.Break rendition ∷ items) = pending_after true items
 pending_after pending (item.End rendition ∷ items) = pending_after pending items
+pending_after pending (item.Range rendition id attributes ∷ items) = pending_after pending items
+pending_after pending (item.Unrange rendition id ∷ items) = pending_after pending items
 
 -- whether the rendition has ended (section 4.4.3.4)
 abbrev pub ended : List Item → Bool
@@ -30,6 +34,8 @@ ended [] = false
 ended (item.Part rendition duration independent finish ∷ items) = ended items
 ended (item.Break rendition ∷ items) = ended items
 ended (item.End rendition ∷ items) = true
+ended (item.Range rendition id attributes ∷ items) = ended items
+ended (item.Unrange rendition id ∷ items) = ended items
 
 -- the parts among the items of one rendition
 abbrev pub parts : List Item → List Part

@@ -1,4 +1,5 @@
 //! Facts of the definitions, proved; none of these does anything.
+ghost use Rattle.ll_window.specs.Compact.{RangesLaw};
 ghost use Rattle.ll_window.specs.Numbers.{NumbersLaw};
 ghost use Rattle.ll_window.specs.Window.{WindowLaw};
 
@@ -12,4 +13,9 @@ pub fn numbers_law()
 /// so long (section 6.2.2).
 pub fn window_law()
     ensures { WindowLaw }
+{}
+
+/// What is kept of segments and parts stays the same when a date range is added or taken away.
+pub fn ranges_law()
+    ensures { RangesLaw }
 {}

@@ -10,7 +10,7 @@ mod progress;
 mod segment;
 mod window;
 
-pub use laws::{numbers_law, window_law};
+pub use laws::{numbers_law, ranges_law, window_law};
 pub use part::Part;
 pub use place::Place;
 pub use segment::Segment;

@@ -114,7 +114,8 @@ impl Window {
     }
 
     /// Adds the next item, or answers the first reason for which it may not follow, or that no memory was found; nothing
-    /// changes then. The caller brings the items of one rendition alone: which one an item names isn't looked at.
+    /// changes then. A date range changes nothing here, and the end alone refuses it. The caller brings the items of one
+    /// rendition alone: which one an item names isn't looked at.
     pub fn push(&mut self, item: Item) -> Result<(), PushFault>
         ensures accepted { (items : List Item) → self.old ≡ compact self.old.settings items
             → OnOk result ((refusal self.old.settings items item ≡ None)
@@ -239,7 +240,7 @@ impl Window {
             return Some(PushFault::Ended);
         }
         match item {
-            Item::End { .. } => None,
+            Item::End { .. } | Item::Range { .. } | Item::Unrange { .. } => None,
             Item::Part { duration, .. } => self.part_fault(*duration),
             Item::Break { .. } if self.open_parts.is_empty() => None,
             Item::Break { .. } => Some(PushFault::OpenSegment),
@@ -286,6 +287,7 @@ impl Window {
             })?,
             Item::Break { .. } => self.progress.pending = true,
             Item::End { .. } => self.end()?,
+            Item::Range { .. } | Item::Unrange { .. } => {}
         }
         Ok(())
     }

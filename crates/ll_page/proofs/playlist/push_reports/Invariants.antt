@@ -7,5 +7,5 @@ use Rattle.ll_page.proofs.playlist.push_reports.Given as goal
 
 abbrev pub invariant-loop-rendition : goal.invariant-loop-rendition
 invariant-loop-rendition l =
-    string_bytes l.text ++ flat_map report_line (reports_from l.view.settings.renditions l.view.rendition l.rendition (drop l.rendition l.view.windows))
+    string_bytes l.text ++ flat_map report_line (reports_from l.view.rendition l.rendition (drop l.rendition l.view.settings.renditions) (drop l.rendition l.view.renditions))
     ≡ string_bytes l.fn.text ++ flat_map report_line (reports_of l.view)

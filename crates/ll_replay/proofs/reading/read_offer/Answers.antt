@@ -1,30 +1,30 @@
 -- The line is cut at its first space, and the channel of that name reads the rest.
-use Rattle.std.proofs.Common.{sym, ◌∙◌, ap}
+use Rattle.std.proofs.Common.{◌≡◌, true, sym, subst, ◌∙◌, ap, IfOk, IsErrOf}
 use Rattle.std.proofs.lemmas.Option.{MatchOption-at_none, MatchOption-at_some}
 use Rattle.ll_replay.specs.Kept.{settings_kept}
 use Rattle.ll_replay.specs.Lines as spec
+use Rattle.ll_replay.specs.declared.reading.Unread.TheVariants as unread
 use Rattle.ll_replay.proofs.ReadingLemmas.{offer-cut}
 use Rattle.ll_replay.proofs.reading.read_offer.Goals as goal
 
-pub returns-in_default : goal.returns-in_default
-returns-in_default c =
+pub returns-in_default-clause-act : goal.returns-in_default-clause-act
+returns-in_default-clause-act c =
     let cut = offer-cut (settings_kept c.args.channels.now) c.args.text.now c.split_once.result c.utf8.text c.split_once.ensures.cases in
     sym (MatchOption-at_none _ _ c.in_default.is cut)
 
-pub returns-in_default-find : goal.returns-in_default-find
-returns-in_default-find c =
+pub returns-in_default-find-clause-act : goal.returns-in_default-find-clause-act
+returns-in_default-find-clause-act c =
     let cut = offer-cut (settings_kept c.args.channels.now) c.args.text.now c.split_once.result c.utf8.text c.split_once.ensures.cases in
     sym (MatchOption-at_some _ _ _ c.in-Some.is cut ∙ ap (λ d. spec.offer_to d c.in-Some.line.now) c.in_default-find.ensures)
 
-pub returns-in-Ok : goal.returns-in-Ok
-returns-in-Ok c =
+pub returns-clause-act : goal.returns-clause-act
+returns-clause-act c =
     let cut = offer-cut (settings_kept c.args.channels.now) c.args.text.now c.split_once.result c.utf8.text c.split_once.ensures.cases in
-    ap (spec.item_act c.in-Some-find.place) c.in-Ok.ensures
-    ∙ sym (MatchOption-at_some _ _ _ c.in-Some.is cut ∙ ap (λ d. spec.offer_to d c.in-Some.line.now) c.in-Some-find.ensures)
+    let is = MatchOption-at_some _ _ _ c.in-Some.is cut ∙ ap (λ d. spec.offer_to d c.in-Some.line.now) c.in-Some-find.ensures in
+    subst (λ x. IfOk c.read_item.result (λ a. a ≡ x)) (sym is) c.read_item.ensures.act
 
-pub returns-in-Err-NoRendition : goal.returns-in-Err-NoRendition
-returns-in-Err-NoRendition c =
+pub returns-clause-memory : goal.returns-clause-memory
+returns-clause-memory c =
     let cut = offer-cut (settings_kept c.args.channels.now) c.args.text.now c.split_once.result c.utf8.text c.split_once.ensures.cases in
-    let read = rw c.in-Err-NoRendition.field-0-is at c.in-Err-NoRendition.ensures in
-    ap (spec.item_act c.in-Some-find.place) read
-    ∙ sym (MatchOption-at_some _ _ _ c.in-Some.is cut ∙ ap (λ d. spec.offer_to d c.in-Some.line.now) c.in-Some-find.ensures)
+    let is = MatchOption-at_some _ _ _ c.in-Some.is cut ∙ ap (λ d. spec.offer_to d c.in-Some.line.now) c.in-Some-find.ensures in
+    subst (λ x. IsErrOf c.read_item.result unread.Memory → spec.is_offer x ≡ true) (sym is) c.read_item.ensures.memory

@@ -1,8 +1,15 @@
 -- What the channel at its place answers is what the world says.
-use Rattle.std.proofs.Common.{◌<◌, ◌∙◌, length, arith, string_bytes, ap}
+use Rattle.std.proofs.Common.{◌<◌, ◌≤◌, ◌∙◌, length, arith, string_bytes, ap}
 use Rattle.std.proofs.lemmas.List.{with_items_is}
-use Rattle.ll_replay.proofs.DriverLemmas.{made, offer-accepted, offer-refused}
+use Rattle.ll_replay.proofs.DriverLemmas.{made, offer-past, offer-accepted, offer-refused}
 use Rattle.ll_replay.proofs.driver.Driver.offer.Goals as goal
+
+pub returns-then-place-len-clause-ok : goal.returns-then-place-len-clause-ok
+returns-then-place-len-clause-ok c w h =
+    let s = c.self.inside in
+    let past : length s.channels.items ≤ c.args.place = omega (arith, c.len.ensures, c.if-place-len.true) in
+    let r = offer-past w c.args.place c.args.item s.channels.items s.lines s.last_id s.events s.replies (c.self.view_is ∙ h) past in
+    (h ∙ r.0, r.1)
 
 pub returns-in_ok-ok_line-in-Ok-clause-ok : goal.returns-in_ok-ok_line-in-Ok-clause-ok
 returns-in_ok-ok_line-in-Ok-clause-ok c w h =

@@ -4,7 +4,7 @@ use Rattle.ll_replay.specs.Kept.{Kept, Stands}
 use Rattle.ll_replay.specs.World.{World}
 use Rattle.ll_replay.specs.declared.outcome.RunFault.TheVariants as fault
 use Rattle.ll_replay.proofs.DriverLemmas.{made}
-use Rattle.ll_replay.proofs.TakeLemmas.{take-nothing, take-act, take-cut, take-bad, take-too_long, take-nowhere}
+use Rattle.ll_replay.proofs.TakeLemmas.{take-nothing, take-act, take-cut, take-bad, take-too_long, take-nowhere, take-wants}
 use Rattle.ll_replay.proofs.driver.Driver.take_line.Goals as goal
 
 -- what a driver stands for, as its fields
@@ -49,3 +49,11 @@ returns-in-Err-BadLine-clause-bad_line g c n e w base s =
 
 pub returns-in-Err-Memory-clause-memory : goal.returns-in-Err-Memory-clause-memory
 returns-in-Err-Memory-clause-memory g c e w base s = take-nowhere c.args.self.now base _ w c.args.text.now s
+
+pub returns-in-Err-Memory-clause-memory_line : goal.returns-in-Err-Memory-clause-memory_line
+returns-in-Err-Memory-clause-memory_line g c e =
+    let i = c.self.inside in (
+      c.if-text-gt-LINE_END.false,
+      take-wants (made i.channels.items i.lines i.last_id i.events i.replies) c.args.self.now c.deref.result.now c.args.text.now c.self.view_is c.deref.ensures.value
+          ((rw c.in-Err-Memory.field-0-is at c.in-Err-Memory.ensures.memory) refl),
+    )

@@ -1,0 +1,3 @@
+pub mod Announced
+pub mod Attributes
+pub mod Kept

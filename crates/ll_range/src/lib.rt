@@ -1,0 +1,12 @@
+//! The date ranges of one rendition: which playlists list, and which were taken away lately. Sections are those of
+//! draft-pantos-hls-rfc8216bis.
+#![tactic(auto)]
+
+mod attributes;
+mod changes;
+mod ranges;
+
+pub use ranges::{DateRange, RangeFault, Ranges};
+
+#[cfg(test)]
+mod tests;

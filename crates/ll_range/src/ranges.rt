@@ -1,0 +1,160 @@
+ghost use Rattle.std.specs.Prelude.{◌≡◌, ◌≤◌, [], Some, IfOk, MatchOption, length, map, slice_get};
+ghost use Rattle.ll_range.specs.Announced.{announced};
+
+use indexmap::IndexMap;
+use ll_attr::{AttrList, Text};
+use ll_item::Settings;
+use std::alloc::{AllocError, Global};
+use std::collections::VecDeque;
+use std::marker::Model;
+use thiserror::Error;
+
+/// Why a date range is not added or not taken away: the first reason, in this order. Memory that isn't found is answered
+/// only where there is no other reason.
+#[derive(Clone, Copy, Debug, PartialEq, Eq, Error)]
+pub enum RangeFault {
+    /// A date range of this id is listed, or was taken away lately (section 4.4.5.2).
+    #[error("IdTaken")]
+    IdTaken,
+    /// The id is empty or holds a quotation mark, a tab, CR or LF; or START-DATE is missing; or an attribute isn't one that
+    /// a date range may have, or has a value of another form.
+    #[error("BadAttribute")]
+    BadAttribute,
+    /// No date range of this id is listed.
+    #[error("IdUnknown")]
+    IdUnknown,
+    /// No memory was found.
+    #[error("Memory")]
+    Memory,
+}
+
+/// A date range that a playlist lists (EXT-X-DATERANGE, section 4.4.5.1).
+#[derive(Clone, Copy, Debug)]
+pub struct DateRange<'a> {
+    /// The value of its ID attribute.
+    pub id: &'a str,
+    /// Its other attributes, in the order in which the publisher wrote them.
+    pub attributes: &'a AttrList,
+    /// How long all parts before it last, in microseconds.
+    pub added: u64,
+}
+
+/// What is kept of a date range beside its id.
+#[derive(Debug, Drop)]
+pub(crate) struct Stored {
+    pub(crate) attributes: AttrList,
+    pub(crate) added: u64,
+}
+
+impl Clone for Stored {
+    ghost is_clone = { λ s t. t ≡ s };
+
+    fn clone(&self) -> Result<Stored, AllocError> {
+        Ok(Stored {
+            attributes: self.attributes.copy()?,
+            added: self.added,
+        })
+    }
+}
+
+/// A date range that was taken away, and how long all parts before its removal last, in microseconds.
+#[derive(Debug, Drop)]
+pub(crate) struct Removal {
+    pub(crate) id: Text,
+    pub(crate) removed: u64,
+}
+
+impl Model for Removal {
+    ghost use Rattle.ll_range.specs.Announced.{Removal};
+
+    ghost Value = { Removal };
+
+    ghost view = { λ r. record { id = r.id; removed = r.removed } };
+}
+
+impl Clone for Removal {
+    ghost is_clone = { λ r s. s ≡ r };
+
+    fn clone(&self) -> Result<Removal, AllocError> {
+        Ok(Removal {
+            id: self.id.copy()?,
+            removed: self.removed,
+        })
+    }
+}
+
+/// The date ranges of one rendition: those that are listed, in order of adding, and those that were taken away lately, in
+/// order of removal. A removal is recent while the parts behind it last no longer than the skip limit (section 4.4.5.2).
+#[derive(Debug, Drop)]
+pub struct Ranges {
+    pub(crate) limit: u64,
+    pub(crate) listed: IndexMap<String, Stored>,
+    pub(crate) recent: VecDeque<Removal>,
+}
+
+impl Model for Ranges {
+    ghost use Rattle.std.specs.Prelude.{map};
+    ghost use Rattle.ll_range.specs.Announced.{Announced};
+    ghost use Rattle.ll_range.specs.Kept.{listed_at, IsInOrder};
+
+    ghost Value = { Announced };
+
+    ghost view = { λ r. record { limit = r.limit; listed = map listed_at r.listed.entries; recent = r.recent.items } };
+
+    ghost invariant = { λ r. IsInOrder 0 r.recent.items };
+}
+
+impl Ranges {
+    /// The date ranges of no items, under these settings. It takes no memory.
+    pub fn new(alloc: Global, settings: &Settings) -> Ranges
+        ensures { result ≡ announced settings.now [] }
+    {
+        Ranges {
+            limit: settings.skip() * 1_000_000,
+            listed: IndexMap::new(alloc),
+            recent: VecDeque::new(alloc),
+        }
+    }
+
+    /// How many date ranges are listed.
+    pub fn count(&self) -> usize
+        ensures { result ≡ length self.now.listed }
+    {
+        self.listed.len()
+    }
+
+    /// The date range at this place, 0 being the first that was added of those that are listed; none behind the last.
+    pub fn listed(&self, place: usize) -> Option<DateRange<'_>>
+        ensures { MatchOption result (length self.now.listed ≤ place)
+            (λ r. slice_get self.now.listed place ≡ Some (record { id = r.id.now; attributes = r.attributes.now; added = r.added })) }
+    {
+        let (id, stored) = self.listed.get_index(place)?;
+        Some(DateRange {
+            id: id.as_str(),
+            attributes: &stored.attributes,
+            added: stored.added,
+        })
+    }
+
+    /// The ids of the date ranges that were taken away lately, in order of removal (section 4.4.5.2).
+    pub fn recent(&self, alloc: Global) -> Result<Vec<Text>, AllocError>
+        ensures { IfOk result (λ ids. ids.items ≡ map (λ r. r.id) self.now.recent) }
+    {
+        let mut ids = Vec::with_capacity(alloc, self.recent.len())?;
+        for removal in self.recent.iter() {
+            ids.push(removal.id.copy()?)?;
+        }
+        Ok(ids)
+    }
+
+    /// Date ranges equal to these, or an error where no memory was found.
+    pub fn copy(&self) -> Result<Ranges, AllocError>
+        ensures { IfOk result (λ r. r ≡ self.now) }
+    {
+        Ok(Ranges {
+            limit: self.limit,
+            listed: self.listed.clone()?,
+            recent: self.recent.clone()?,
+        })
+    }
+}
