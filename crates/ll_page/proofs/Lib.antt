@@ -1,3 +1,4 @@
+pub mod DeltaLemmas
 pub mod PlaceLemmas
 pub mod RangeLemmas
 pub mod SegmentLemmas

@@ -8,6 +8,7 @@ use Rattle.ll_window.specs.declared.part.Part.{Part}
 use Rattle.ll_window.specs.declared.place.Place.{Place}
 use Rattle.ll_window.specs.Compact.{Compact, unfinished}
 use Rattle.ll_window.specs.Rows.{Row}
+use Rattle.ll_window.specs.Window.{skip_limit}
 use Rattle.ll_range.specs.Announced.{Listed, Announced}
 use Rattle.ll_page.specs.declared.rendition.Rendition.{Rendition}
 use Rattle.ll_page.specs.Playlist.{PartLine, Block, Finished, DateRangeLine, Report, Header, Playlist}
@@ -20,7 +21,8 @@ header_of c = record {
   version = 9;
   target = c.target;
   hold_back = 3 * c.part_target;
-  skip_until = c.skip * 1000000;
+  skip_until = skip_limit c;
+  skips_date_ranges = false;
   part_target = c.part_target;
 }
 
@@ -100,6 +102,7 @@ playlist_of c reports k = record {
   sequence = sequence_of k.window k.window.window;
   discontinuity = k.window.discontinuity;
   ranges = range_lines k.ranges;
+  skipped = None;
   segments = printed true k.window.window;
   open_block = open_of (length k.window.window == 0) (unfinished k.window);
   reports = reports;

@@ -1,3 +1,4 @@
+pub mod Delta
 pub mod Full
 pub mod Playlist
 pub mod Spelling

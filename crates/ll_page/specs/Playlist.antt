@@ -31,6 +31,13 @@ pub record DateRangeLine : Type 0 where
   -- its other attributes, as a list of attributes is spelled
   pub attributes : List ℕ
 
+-- an EXT-X-SKIP line
+pub record Skip : Type 0 where
+  -- how many segments it stands for
+  pub count : ℕ
+  -- the ids of date ranges that were taken away lately, where it lists them
+  pub removed : Option (List (List ℕ))
+
 -- how far another rendition has come
 pub record Report : Type 0 where
   pub uri : List ℕ
@@ -48,6 +55,8 @@ pub record Header : Type 0 where
   pub hold_back : ℕ
   -- microseconds
   pub skip_until : ℕ
+  -- whether a delta update may leave out date ranges
+  pub skips_date_ranges : Bool
   -- microseconds
   pub part_target : ℕ
 
@@ -58,6 +67,8 @@ pub record Playlist : Type 0 where
   -- the discontinuity sequence number
   pub discontinuity : ℕ
   pub ranges : List DateRangeLine
+  -- what stands for the segments before these, in a delta update
+  pub skipped : Option Skip
   pub segments : List Finished
   -- the lines of the open segment, where it has a part
   pub open_block : Option Block

@@ -1,7 +1,8 @@
 -- The text of a playlist, line by line. Each line ends in LF.
-use Rattle.std.specs.Prelude.{ℕ, List, [], ◌++◌, Bool, Option, Some, None, if◌then◌else◌, codes, decimal, flat_map}
+use Rattle.std.specs.Prelude.{ℕ, List, [], ◌∷◌, ◌++◌, Bool, Option, Some, None, if◌then◌else◌, codes, decimal, flat_map}
+use Rattle.std.specs.List.{join_with_byte}
 use Rattle.ll_attr.specs.Durations.{seconds}
-use Rattle.ll_page.specs.Playlist.{PartLine, Block, Finished, DateRangeLine, Report, Header, Playlist}
+use Rattle.ll_page.specs.Playlist.{PartLine, Block, Finished, DateRangeLine, Skip, Report, Header, Playlist}
 
 -- sections 4.4.1.1 and 4.4.1.2
 unfoldable pub first_lines : ℕ → List ℕ
@@ -11,11 +12,17 @@ first_lines version = codes "#EXTM3U\n#EXT-X-VERSION:" ++ (decimal version ++ co
 unfoldable pub target_line : ℕ → List ℕ
 target_line target = codes "#EXT-X-TARGETDURATION:" ++ (decimal target ++ codes "\n")
 
--- section 4.4.3.8
-unfoldable pub control_line : ℕ → ℕ → List ℕ
-control_line hold_back skip_until =
+unfoldable pub control_end : Bool → List ℕ
+control_end skips_date_ranges = if skips_date_ranges then codes ",CAN-SKIP-DATERANGES=YES\n" else codes "\n"
+
+unfoldable pub control_front : ℕ → ℕ → List ℕ
+control_front hold_back skip_until =
     codes "#EXT-X-SERVER-CONTROL:CAN-BLOCK-RELOAD=YES,PART-HOLD-BACK="
-    ++ (seconds hold_back ++ (codes ",CAN-SKIP-UNTIL=" ++ (seconds skip_until ++ codes "\n")))
+    ++ (seconds hold_back ++ (codes ",CAN-SKIP-UNTIL=" ++ seconds skip_until))
+
+-- section 4.4.3.8
+abbrev pub control_line : ℕ → ℕ → Bool → List ℕ
+control_line hold_back skip_until skips_date_ranges = control_front hold_back skip_until ++ control_end skips_date_ranges
 
 -- section 4.4.3.7
 unfoldable pub part_target_line : ℕ → List ℕ
@@ -29,9 +36,26 @@ sequence_line number = codes "#EXT-X-MEDIA-SEQUENCE:" ++ (decimal number ++ code
 unfoldable pub discontinuity_line : ℕ → List ℕ
 discontinuity_line number = codes "#EXT-X-DISCONTINUITY-SEQUENCE:" ++ (decimal number ++ codes "\n")
 
+-- a comma stands before attributes, where there are any
+abbrev pub behind_comma : List ℕ → List ℕ
+behind_comma [] = []
+behind_comma (b ∷ bs) = codes "," ++ (b ∷ bs)
+
 -- section 4.4.5.1
 unfoldable pub date_range_line : DateRangeLine → List ℕ
-date_range_line r = codes "#EXT-X-DATERANGE:ID=\"" ++ (r.id ++ (codes "\"," ++ (r.attributes ++ codes "\n")))
+date_range_line r = codes "#EXT-X-DATERANGE:ID=\"" ++ (r.id ++ (codes "\"" ++ (behind_comma r.attributes ++ codes "\n")))
+
+abbrev pub removed_text : Option (List (List ℕ)) → List ℕ
+removed_text None = []
+removed_text (Some ids) = codes ",RECENTLY-REMOVED-DATERANGES=\"" ++ (join_with_byte 9 ids ++ codes "\"")
+
+-- section 4.4.5.2; ids are joined by tabs
+unfoldable pub skip_line : Skip → List ℕ
+skip_line s = codes "#EXT-X-SKIP:SKIPPED-SEGMENTS=" ++ (decimal s.count ++ (removed_text s.removed ++ codes "\n"))
+
+abbrev pub skip_lines : Option Skip → List ℕ
+skip_lines None = []
+skip_lines (Some s) = skip_line s
 
 -- section 4.4.4.3
 unfoldable pub broken_line : Bool → List ℕ
@@ -63,7 +87,7 @@ finished_lines duration uri = codes "#EXTINF:" ++ (seconds duration ++ (codes ",
 
 abbrev pub header_lines : Header → List ℕ
 header_lines h =
-    first_lines h.version ++ (target_line h.target ++ (control_line h.hold_back h.skip_until ++ part_target_line h.part_target))
+    first_lines h.version ++ (target_line h.target ++ (control_line h.hold_back h.skip_until h.skips_date_ranges ++ part_target_line h.part_target))
 
 abbrev pub block_lines : Block → List ℕ
 block_lines b = broken_line b.broken ++ (map_lines b.map ++ (time_line b.time ++ flat_map part_line b.parts))
@@ -92,9 +116,13 @@ abbrev pub last_line : Option (List ℕ) → List ℕ
 last_line None = end_line
 last_line (Some uri) = hint_line uri
 
+-- the lines before all segments
+abbrev pub front_lines : Playlist → List ℕ
+front_lines p =
+    header_lines p.header ++ (sequence_line p.sequence ++ (discontinuity_line p.discontinuity ++ flat_map date_range_line p.ranges))
+
 -- the text of a playlist
 abbrev pub spelling : Playlist → List ℕ
 spelling p =
-    header_lines p.header ++ (sequence_line p.sequence ++ (discontinuity_line p.discontinuity
-    ++ (flat_map date_range_line p.ranges ++ (flat_map segment_lines p.segments ++ (open_lines p.open_block
-    ++ (flat_map report_line p.reports ++ last_line p.hint))))))
+    front_lines p ++ (skip_lines p.skipped ++ (flat_map segment_lines p.segments
+    ++ (open_lines p.open_block ++ (flat_map report_line p.reports ++ last_line p.hint))))

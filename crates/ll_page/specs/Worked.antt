@@ -1,11 +1,14 @@
--- The definitions at worked examples: four streams, and the whole text of a playlist of each, byte for byte.
+-- The definitions at worked examples: five streams, and the whole text of a playlist of each, byte for byte.
 use Rattle.std.specs.Prelude.{◌≡◌, ℕ, List, [], ◌∷◌, ◌++◌, true, false, Ok, codes}
 use Rattle.ll_attr.specs.declared.attributes.Attribute.{Attribute}
 use Rattle.ll_attr.specs.declared.attributes.AttrValue.TheVariants.{Quoted, Bare}
 use Rattle.ll_item.specs.Settings.{Configuration, settings_in}
 use Rattle.ll_item.specs.declared.item.Item.{Item}
 use Rattle.ll_item.specs.declared.item.Item.TheVariants as item
+use Rattle.ll_page.specs.Delta.{delta_text}
 use Rattle.ll_page.specs.Full.{text_after}
+use Rattle.ll_page.specs.View.{seen}
+use Rattle.ll_page.specs.declared.skip_kind.SkipKind.TheVariants.{Yes}
 
 -- one rendition, a target duration of 4 s and a part target of 1 s
 abbrev pub whole_seconds : Configuration
@@ -32,6 +35,27 @@ two_renditions = record {
   first = 7;
   start = 0;
 }
+
+-- one rendition, a target duration of 1 s and a skip limit of 6 s
+abbrev pub short_segments : Configuration
+short_segments = record {
+  channel = codes "cam";
+  target = 1;
+  part_target = 1000000;
+  skip = 6;
+  window = 9;
+  renditions = codes "hi" ∷ [];
+  first = 0;
+  start = 0;
+}
+
+abbrev pub whole_part : Item
+whole_part = item.Part 0 1000000 true true
+
+-- eight segments of a second, of which the fourth is broken from the third
+abbrev pub eight_seconds : List Item
+eight_seconds =
+    whole_part ∷ whole_part ∷ whole_part ∷ item.Break 0 ∷ whole_part ∷ whole_part ∷ whole_part ∷ whole_part ∷ whole_part ∷ []
 
 -- one part, which is a whole segment
 abbrev pub one_part : List Item
@@ -128,6 +152,45 @@ ended_text =
     ++ codes "#EXT-X-RENDITION-REPORT:URI=\"../hi/live.m3u8\",LAST-MSN=8,LAST-PART=0\n"
     ++ codes "#EXT-X-ENDLIST\n"
 
+-- behind the first segment seven seconds stand, behind the second one six, which is the limit
+abbrev pub delta_update_text : List ℕ
+delta_update_text =
+    codes "#EXTM3U\n"
+    ++ codes "#EXT-X-VERSION:9\n"
+    ++ codes "#EXT-X-TARGETDURATION:1\n"
+    ++ codes "#EXT-X-SERVER-CONTROL:CAN-BLOCK-RELOAD=YES,PART-HOLD-BACK=3.000000,CAN-SKIP-UNTIL=6.000000\n"
+    ++ codes "#EXT-X-PART-INF:PART-TARGET=1.000000\n"
+    ++ codes "#EXT-X-MEDIA-SEQUENCE:0\n"
+    ++ codes "#EXT-X-DISCONTINUITY-SEQUENCE:0\n"
+    ++ codes "#EXT-X-SKIP:SKIPPED-SEGMENTS=1\n"
+    ++ codes "#EXT-X-PROGRAM-DATE-TIME:1970-01-01T00:00:01.000Z\n"
+    ++ codes "#EXTINF:1.000000,\n"
+    ++ codes "s1.m4s\n"
+    ++ codes "#EXT-X-PROGRAM-DATE-TIME:1970-01-01T00:00:02.000Z\n"
+    ++ codes "#EXTINF:1.000000,\n"
+    ++ codes "s2.m4s\n"
+    ++ codes "#EXT-X-DISCONTINUITY\n"
+    ++ codes "#EXT-X-MAP:URI=\"init1.mp4\"\n"
+    ++ codes "#EXT-X-PROGRAM-DATE-TIME:1970-01-01T00:00:03.000Z\n"
+    ++ codes "#EXTINF:1.000000,\n"
+    ++ codes "s3.m4s\n"
+    ++ codes "#EXT-X-PROGRAM-DATE-TIME:1970-01-01T00:00:04.000Z\n"
+    ++ codes "#EXTINF:1.000000,\n"
+    ++ codes "s4.m4s\n"
+    ++ codes "#EXT-X-PROGRAM-DATE-TIME:1970-01-01T00:00:05.000Z\n"
+    ++ codes "#EXT-X-PART:DURATION=1.000000,URI=\"s5.0.m4s\",INDEPENDENT=YES\n"
+    ++ codes "#EXTINF:1.000000,\n"
+    ++ codes "s5.m4s\n"
+    ++ codes "#EXT-X-PROGRAM-DATE-TIME:1970-01-01T00:00:06.000Z\n"
+    ++ codes "#EXT-X-PART:DURATION=1.000000,URI=\"s6.0.m4s\",INDEPENDENT=YES\n"
+    ++ codes "#EXTINF:1.000000,\n"
+    ++ codes "s6.m4s\n"
+    ++ codes "#EXT-X-PROGRAM-DATE-TIME:1970-01-01T00:00:07.000Z\n"
+    ++ codes "#EXT-X-PART:DURATION=1.000000,URI=\"s7.0.m4s\",INDEPENDENT=YES\n"
+    ++ codes "#EXTINF:1.000000,\n"
+    ++ codes "s7.m4s\n"
+    ++ codes "#EXT-X-PRELOAD-HINT:TYPE=PART,URI=\"s8.0.m4s\"\n"
+
 pub record WorkedPlaylists : Type 0 where
   -- the settings of the first three examples are those that a line spells
   pub settings :
@@ -135,5 +198,6 @@ pub record WorkedPlaylists : Type 0 where
   pub empty : text_after whole_seconds [] 0 ≡ empty_text
   pub one_segment : text_after whole_seconds one_part 0 ≡ one_segment_text
   pub date_ranges : text_after whole_seconds ranges_and_part 0 ≡ date_ranges_text
+  pub delta_update : delta_text Yes (seen short_segments eight_seconds 0) ≡ delta_update_text
   pub open_segment : text_after two_renditions mixed_parts 1 ≡ open_segment_text
   pub has_ended : text_after two_renditions mixed_parts 0 ≡ ended_text

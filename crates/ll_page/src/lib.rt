@@ -6,11 +6,13 @@ mod laws;
 mod lines;
 mod playlist;
 mod rendition;
+mod skip_kind;
 mod view;
 
 pub use laws::worked_playlists;
-pub use playlist::full;
+pub use playlist::{delta, full};
 pub use rendition::Rendition;
+pub use skip_kind::SkipKind;
 pub use view::View;
 
 #[cfg(test)]

@@ -1,7 +1,8 @@
 //! One function for each kind of line of a playlist, which adds it to a text.
-ghost use Rattle.std.specs.Prelude.{◌≡◌, ◌++◌, ◌*◌, OnOk, string_bytes};
+ghost use Rattle.std.specs.Prelude.{◌≡◌, ◌++◌, ◌*◌, None, OnOk, string_bytes};
 ghost use Rattle.ll_window.specs.declared.part.Part.{Part};
-ghost use Rattle.ll_page.specs.Spelling.{first_lines, target_line, control_line, part_target_line, sequence_line, discontinuity_line, date_range_line, broken_line, map_line, time_line, independent_flag, part_line, report_line, hint_line, end_line, finished_lines};
+ghost use Rattle.ll_page.specs.Spelling.{first_lines, target_line, control_line, part_target_line, sequence_line, discontinuity_line, date_range_line, skip_line, broken_line, map_line, time_line, independent_flag, behind_comma, part_line, report_line, hint_line, end_line, finished_lines};
+ghost use Rattle.ll_page.specs.Spelling as spec;
 ghost use Rattle.ll_page.specs.Uris.{segment_uri, part_uri, map_uri, report_uri};
 ghost use Rattle.ll_time.specs.Times.{time_text};
 
@@ -26,19 +27,44 @@ pub(crate) fn push_target_line(text: &mut String, target: u64) -> Result<(), All
     write!(text, "#EXT-X-TARGETDURATION:{target}\n")
 }
 
-/// EXT-X-SERVER-CONTROL (section 4.4.3.8): the server keeps a request until what it asks for is there.
-#[tactic(auto, unfolding(crate::specs::Spelling::control_line))]
-pub(crate) fn push_control_line(
+/// What ends the line of a server whose delta updates may leave out date ranges, or may not (section 4.4.3.8).
+#[tactic(auto, unfolding(crate::specs::Spelling::control_end))]
+fn control_end(skips_date_ranges: bool) -> &'static str
+    ensures { result.now ≡ spec.control_end skips_date_ranges }
+{
+    if skips_date_ranges {
+        ",CAN-SKIP-DATERANGES=YES\n"
+    } else {
+        "\n"
+    }
+}
+
+/// The line of EXT-X-SERVER-CONTROL (section 4.4.3.8) but for its end: the server keeps a request until what it asks for is there.
+#[tactic(auto, unfolding(crate::specs::Spelling::control_front))]
+fn push_control_front(
     text: &mut String,
     hold_back: Micros,
     skip_until: Micros,
 ) -> Result<(), AllocError>
-    ensures { OnOk result (string_bytes text.new ≡ string_bytes text.old ++ control_line hold_back.0 skip_until.0) }
+    ensures { OnOk result (string_bytes text.new ≡ string_bytes text.old ++ spec.control_front hold_back.0 skip_until.0) }
 {
     write!(
         text,
-        "#EXT-X-SERVER-CONTROL:CAN-BLOCK-RELOAD=YES,PART-HOLD-BACK={hold_back},CAN-SKIP-UNTIL={skip_until}\n"
+        "#EXT-X-SERVER-CONTROL:CAN-BLOCK-RELOAD=YES,PART-HOLD-BACK={hold_back},CAN-SKIP-UNTIL={skip_until}"
     )
+}
+
+/// EXT-X-SERVER-CONTROL (section 4.4.3.8).
+pub(crate) fn push_control_line(
+    text: &mut String,
+    hold_back: Micros,
+    skip_until: Micros,
+    skips_date_ranges: bool,
+) -> Result<(), AllocError>
+    ensures { OnOk result (string_bytes text.new ≡ string_bytes text.old ++ control_line hold_back.0 skip_until.0 skips_date_ranges) }
+{
+    push_control_front(text, hold_back, skip_until)?;
+    text.push_str(control_end(skips_date_ranges))
 }
 
 /// EXT-X-PART-INF (section 4.4.3.7).
@@ -68,6 +94,13 @@ pub(crate) fn push_discontinuity_line(text: &mut String, number: u64) -> Result<
     write!(text, "#EXT-X-DISCONTINUITY-SEQUENCE:{number}\n")
 }
 
+/// The comma that stands before attributes, where there are any.
+fn comma_before(attributes: &str) -> &'static str
+    ensures { result.now ++ attributes.now ≡ behind_comma attributes.now }
+{
+    if attributes.is_empty() { "" } else { "," }
+}
+
 /// EXT-X-DATERANGE (section 4.4.5.1): the date range of this id, with these other attributes.
 #[tactic(auto, unfolding(crate::specs::Spelling::date_range_line))]
 pub(crate) fn push_date_range_line(
@@ -79,7 +112,16 @@ pub(crate) fn push_date_range_line(
         ++ date_range_line (record { id = id.now; attributes = attributes.now })) }
 {
     let attributes = attributes.as_str();
-    write!(text, "#EXT-X-DATERANGE:ID=\"{id}\",{attributes}\n")
+    let comma = comma_before(attributes);
+    write!(text, "#EXT-X-DATERANGE:ID=\"{id}\"{comma}{attributes}\n")
+}
+
+/// EXT-X-SKIP (section 4.4.5.2): so many segments are skipped.
+#[tactic(auto, unfolding(crate::specs::Spelling::skip_line))]
+pub(crate) fn push_skip_line(text: &mut String, count: u64) -> Result<(), AllocError>
+    ensures { OnOk result (string_bytes text.new ≡ string_bytes text.old ++ skip_line (record { count = count; removed = None })) }
+{
+    write!(text, "#EXT-X-SKIP:SKIPPED-SEGMENTS={count}\n")
 }
 
 /// EXT-X-DISCONTINUITY (section 4.4.4.3), where the segment is broken from the one before it.

@@ -1,10 +1,12 @@
-ghost use Rattle.std.specs.Prelude.{◌≡◌, ◌≤◌, ◌/◌, ◌==◌, ◌++◌, IfOk, OnOk, string_bytes, flat_map, length, true};
+ghost use Rattle.std.specs.Prelude.{◌≡◌, ◌≤◌, ◌/◌, ◌==◌, ◌++◌, IfOk, OnOk, string_bytes, flat_map, length, drop};
 ghost use Rattle.ll_item.specs.Settings.{last_micro};
 ghost use Rattle.ll_window.specs.Compact.{unfinished};
-ghost use Rattle.ll_page.specs.Full.{full_text, header_of, part_lines, block_of, finished_of, printed, open_of, report_by, reports_of, hint_of, sequence_of, range_line, range_lines};
-ghost use Rattle.ll_page.specs.Spelling.{header_lines, date_range_line, part_line, block_lines, segment_lines, open_lines, report_line, last_line};
+ghost use Rattle.ll_page.specs.Full.{full_text, full_playlist, header_of, part_lines, block_of, finished_of, printed, open_of, report_by, reports_of, hint_of, sequence_of, range_line, range_lines};
+ghost use Rattle.ll_page.specs.Delta.{delta_text, delta_by, skip_of};
+ghost use Rattle.ll_page.specs.Spelling.{spelling, front_lines, header_lines, date_range_line, skip_lines, part_line, block_lines, segment_lines, open_lines, report_line, last_line};
 
 use crate::lines::*;
+use crate::skip_kind::SkipKind;
 use crate::view::View;
 use ll_attr::{Micros, Text};
 use ll_item::Settings;
@@ -20,17 +22,44 @@ use std::alloc::{AllocError, Global};
 pub fn full(alloc: Global, view: &View<'_>) -> Result<Text, AllocError>
     ensures { IfOk result (λ text. text ≡ full_text view.now) }
 {
-    let (settings, window) = (view.settings(), view.window());
+    playlist(alloc, view, 0)
+}
+
+/// The text of the delta update of a view (section 6.2.5.1): the lines of the full playlist, but that one line stands for
+/// those of the segments that are skipped (section 4.4.5.2), and none of the others leads; the full playlist where no segment
+/// is skipped. Both kinds list all date ranges. It fails only where no memory is found.
+pub fn delta(alloc: Global, view: &View<'_>, kind: SkipKind) -> Result<Text, AllocError>
+    ensures { IfOk result (λ text. text ≡ delta_text kind view.now) }
+{
+    match kind {
+        SkipKind::Yes | SkipKind::V2 => playlist(alloc, view, view.window().skip_count()),
+    }
+}
+
+/// The text of the playlist that skips so many segments.
+fn playlist(alloc: Global, view: &View<'_>, skipped: usize) -> Result<Text, AllocError>
+    ensures { IfOk result (λ text. text ≡ spelling (delta_by skipped view.now)) }
+{
+    let window = view.window();
     let mut text = String::new(alloc);
-    push_header(&mut text, settings)?;
-    push_sequence_line(&mut text, sequence(window))?;
-    push_discontinuity_line(&mut text, window.discontinuity())?;
-    push_ranges(&mut text, view.ranges())?;
-    push_segments(&mut text, window)?;
+    push_front(&mut text, view)?;
+    push_skip(&mut text, skipped)?;
+    push_segments(&mut text, window, skipped)?;
     push_open(&mut text, window)?;
     push_reports(&mut text, view)?;
     push_last_line(&mut text, window)?;
     Ok(Text::from_string(text))
+}
+
+/// Adds the lines that stand before all segments.
+fn push_front(text: &mut String, view: &View<'_>) -> Result<(), AllocError>
+    ensures { OnOk result (string_bytes text.new ≡ string_bytes text.old ++ front_lines (full_playlist view.now)) }
+{
+    let window = view.window();
+    push_header(text, view.settings())?;
+    push_sequence_line(text, sequence(window))?;
+    push_discontinuity_line(text, window.discontinuity())?;
+    push_ranges(text, view.ranges())
 }
 
 /// Adds the lines that stay the same while the channel goes on.
@@ -44,6 +73,7 @@ fn push_header(text: &mut String, settings: &Settings) -> Result<(), AllocError>
         text,
         Micros(3 * part_target),
         Micros(settings.skip() * 1_000_000),
+        false,
     )?;
     push_part_target_line(text, Micros(part_target))
 }
@@ -79,11 +109,22 @@ fn push_range(text: &mut String, range: DateRange<'_>) -> Result<(), AllocError>
     push_date_range_line(text, range.id, &attributes)
 }
 
-/// Adds the lines of all finished segments.
-fn push_segments(text: &mut String, window: &Window) -> Result<(), AllocError>
-    ensures { OnOk result (string_bytes text.new ≡ string_bytes text.old ++ flat_map segment_lines (printed true window.now.window)) }
+/// Adds the line that stands for so many segments, where there are any.
+fn push_skip(text: &mut String, skipped: usize) -> Result<(), AllocError>
+    ensures { OnOk result (string_bytes text.new ≡ string_bytes text.old ++ skip_lines (skip_of skipped)) }
 {
-    for place in 0..window.segment_count() {
+    if skipped == 0 {
+        return Ok(());
+    }
+    push_skip_line(text, skipped as u64)
+}
+
+/// Adds the lines of all finished segments but so many.
+fn push_segments(text: &mut String, window: &Window, skipped: usize) -> Result<(), AllocError>
+    ensures { OnOk result (string_bytes text.new ≡ string_bytes text.old
+        ++ flat_map segment_lines (printed (skipped == 0) (drop skipped window.now.window))) }
+{
+    for place in skipped..window.segment_count() {
         if let Some(segment) = window.segment(place) {
             push_segment(text, place == 0, segment, window.shown_parts(place))?;
         }

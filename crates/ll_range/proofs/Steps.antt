@@ -8,7 +8,8 @@ use Rattle.ll_item.specs.Settings.{Configuration}
 use Rattle.ll_item.specs.declared.item.Item.{Item}
 use Rattle.ll_item.specs.declared.item.Item.TheVariants as item
 use Rattle.ll_window.specs.Segments.{end_time}
-use Rattle.ll_range.specs.Announced.{Listed, Removal, Announced, listed_from, removals_from, is_recent, skip_limit, announced, add_refusal, remove_refusal}
+use Rattle.ll_window.specs.Window.{skip_limit}
+use Rattle.ll_range.specs.Announced.{Listed, Removal, Announced, listed_from, removals_from, is_recent, announced, add_refusal, remove_refusal}
 use Rattle.ll_range.specs.Kept.{last_time, with_range, without_range, at_time}
 use Rattle.ll_range.proofs.Copies.{same_told}
 use Rattle.ll_range.proofs.OneMore.{end_from, end_from-start, end_from-more, listed-silent, listed-range, listed-unrange, removals-more, removals-silent, last_removal}

@@ -7,6 +7,7 @@ use Rattle.ll_item.specs.Settings.{Configuration}
 use Rattle.ll_item.specs.declared.item.Item.{Item}
 use Rattle.ll_item.specs.declared.item.Item.TheVariants as item
 use Rattle.ll_window.specs.Segments.{end_time}
+use Rattle.ll_window.specs.Window.{skip_limit}
 use Rattle.ll_range.specs.Attributes.{is_id, are_allowed}
 use Rattle.ll_range.specs.declared.ranges.RangeFault.{RangeFault}
 use Rattle.ll_range.specs.declared.ranges.RangeFault.TheVariants.{IdTaken, BadAttribute, IdUnknown}
@@ -57,10 +58,6 @@ removals_from time (item.Break rendition ∷ items) = removals_from time items
 removals_from time (item.End rendition ∷ items) = removals_from time items
 removals_from time (item.Range rendition id attributes ∷ items) = removals_from time items
 removals_from time (item.Unrange rendition id ∷ items) = (record { id = id; removed = time }) ∷ removals_from time items
-
--- how long a removal is recent, in microseconds of parts behind it
-abbrev pub skip_limit : Configuration → ℕ
-skip_limit c = c.skip * 1000000
 
 -- a removal is recent while the parts behind it last no longer than the limit, where all parts last until now
 abbrev pub is_recent : ℕ → ℕ → Removal → Bool

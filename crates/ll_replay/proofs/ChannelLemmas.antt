@@ -8,6 +8,7 @@ use Rattle.ll_item.specs.declared.item.Item.{Item}
 use Rattle.ll_window.specs.Segments.{own}
 use Rattle.ll_page.specs.View.{kept, renditions, seen}
 use Rattle.ll_page.specs.declared.rendition.Rendition.{Rendition}
+use Rattle.ll_replay.specs.declared.act.Want.{Want}
 use Rattle.ll_replay.specs.Events.{Event, Publish, Ask, event_end, full_by, items, taken, refusal_at, rendition_refusal}
 use Rattle.ll_replay.specs.Kept.{KeptChannel, kept_channel}
 use Rattle.ll_replay.specs.World.{Channel, with_event}
@@ -44,7 +45,7 @@ abbrev made : Configuration → List Rendition → ℕ → ℕ → KeptChannel
 made s ws n m = record { settings = s; renditions = ws; count = n; events = m }
 
 -- a request leaves the renditions and the count
-pub kept-ask : (c : Channel) (r : ℕ) (k : KeptChannel) → k ≡ kept_channel c → made k.settings k.renditions k.count (k.events + 1) ≡ kept_channel (with_event (Ask r) c)
+pub kept-ask : (c : Channel) (r : Want) (k : KeptChannel) → k ≡ kept_channel c → made k.settings k.renditions k.count (k.events + 1) ≡ kept_channel (with_event (Ask r) c)
 kept-ask c r k e =
     ap (λ (q : KeptChannel). made q.settings q.renditions q.count (q.events + 1)) e
     ∙ ap (λ xs. made c.settings (renditions c.settings xs) (length xs) (length c.events + 1)) (sym (items-snoc c.events (Ask r)))

@@ -7,12 +7,12 @@ use Rattle.std.proofs.lemmas.List.{map-set, length-map}
 use Rattle.std.proofs.lemmas.List.Sums.{sum_by-set}
 use Rattle.std.proofs.lemmas.Option.{slice_get-map, slice_get-get_or, slice_get_within, get_or_from_slice_get}
 use Rattle.ll_item.specs.declared.item.Item.{Item}
-use Rattle.ll_page.specs.Full.{text_after}
+use Rattle.ll_replay.specs.declared.act.Want.{Want}
 use Rattle.ll_replay.specs.Answers.{no_line, ok_line, text_reply, unavailable_reply, told}
 use Rattle.ll_replay.specs.Events.{Event, Publish, Ask, items, refusal, full_by}
 use Rattle.ll_replay.specs.Kept.{Kept, KeptChannel, Stands, kept, kept_channel}
 use Rattle.ll_replay.specs.Stream.{IsBroken, WroteFront}
-use Rattle.ll_replay.specs.World.{World, Channel, act, count_end, get_at, got, happens, offer_at, offered, with_event}
+use Rattle.ll_replay.specs.World.{World, Channel, act, count_end, get_at, got, happens, offer_at, offered, wanted_text, with_event}
 use Rattle.ll_replay.specs.declared.act.Act.{Act}
 use Rattle.ll_replay.specs.declared.act.Act.TheVariants.{Offer, Get}
 use Rattle.ll_replay.specs.declared.outcome.RunFault.{RunFault}
@@ -119,58 +119,58 @@ chosen_past : {A : Type 0} (r n : ℕ) (x y : A) → n ≤ r → cond (nat_lt r 
 chosen_past r n x y h = let not : nat_lt r n ≡ false = grind (arith, nat_tests) in ap (λ b. cond b x y) not
 
 -- a request for a rendition that is not there
-pub get-nowhere : (w : World) (id place rendition : ℕ) (ks ds new : List KeptChannel) (lines : ℕ) (last : Option ℕ) (events replies : ℕ)
+pub get-nowhere : (w : World) (id place : ℕ) (want : Want) (ks ds new : List KeptChannel) (lines : ℕ) (last : Option ℕ) (events replies : ℕ)
     → made ks lines last events replies ≡ kept w → ds ≡ ks → place < length ds
-    → ((c : Channel) → slice_get ds place ≡ Some (kept_channel c) → (length c.settings.renditions ≤ rendition) × (new ≡ ds))
-    → (made new lines last events replies ≡ kept (act w (Get id place rendition))) × ((act w (Get id place rendition)).text ≡ w.text ++ [])
-get-nowhere w id place rendition ks ds new lines last events replies h same within says =
+    → ((c : Channel) → slice_get ds place ≡ Some (kept_channel c) → (length c.settings.renditions ≤ want.rendition) × (new ≡ ds))
+    → (made new lines last events replies ≡ kept (act w (Get id place want))) × ((act w (Get id place want)).text ≡ w.text ++ [])
+get-nowhere w id place want ks ds new lines last events replies h same within says =
     let c = channel-at w ds place (same ∙ ap (λ (k : Kept). k.channels) h) within in
     let s = says c.0 c.2 in
-    let is : act w (Get id place rendition) ≡ w =
-    ap (get_at w id place rendition) c.1
-    ∙ chosen_past rendition (length c.0.settings.renditions) (got w id place c.0 rendition (full_by c.0.events)) w s.0 in (
+    let is : act w (Get id place want) ≡ w =
+    ap (get_at w id place want) c.1
+    ∙ chosen_past want.rendition (length c.0.settings.renditions) (got w id place c.0 want (full_by c.0.events)) w s.0 in (
       ap (λ xs. made xs lines last events replies) (s.1 ∙ same) ∙ h ∙ sym (ap kept is),
       ap (λ (v : World). v.text) is ∙ sym (append-nil w.text),
     )
 
 -- a request that gets the text of its playlist
-pub get-text : (w : World) (id place rendition : ℕ) (ks ds new : List KeptChannel) (lines : ℕ) (last : Option ℕ) (events replies : ℕ) (text line : List ℕ)
+pub get-text : (w : World) (id place : ℕ) (want : Want) (ks ds new : List KeptChannel) (lines : ℕ) (last : Option ℕ) (events replies : ℕ) (text line : List ℕ)
     → made ks lines last events replies ≡ kept w → ds ≡ ks → place < length ds
-    → ((c : Channel) → slice_get ds place ≡ Some (kept_channel c) → (rendition < length c.settings.renditions) × (full_by c.events ≡ None)
-    × (text ≡ text_after c.settings (items c.events) rendition) × (new ≡ slice_set ds place (kept_channel (with_event (Ask rendition) c))))
+    → ((c : Channel) → slice_get ds place ≡ Some (kept_channel c) → (want.rendition < length c.settings.renditions) × (full_by c.events ≡ None)
+    × (text ≡ wanted_text c.settings (items c.events) want) × (new ≡ slice_set ds place (kept_channel (with_event (Ask want) c))))
     → line ≡ text_reply id text
-    → (made new lines (Some id) (min (events + 1) count_end) (min (replies + 1) count_end) ≡ kept (act w (Get id place rendition)))
-    × ((act w (Get id place rendition)).text ≡ w.text ++ line)
-get-text w id place rendition ks ds new lines last events replies text line h same within says told =
+    → (made new lines (Some id) (min (events + 1) count_end) (min (replies + 1) count_end) ≡ kept (act w (Get id place want)))
+    × ((act w (Get id place want)).text ≡ w.text ++ line)
+get-text w id place want ks ds new lines last events replies text line h same within says told =
     let c = channel-at w ds place (same ∙ ap (λ (k : Kept). k.channels) h) within in
     let s = says c.0 c.2 in
-    let is : act w (Get id place rendition) ≡ got w id place c.0 rendition None =
-    ap (get_at w id place rendition) c.1
-    ∙ chosen_within rendition (length c.0.settings.renditions) (got w id place c.0 rendition (full_by c.0.events)) w s.0
-    ∙ ap (got w id place c.0 rendition) s.1 in
+    let is : act w (Get id place want) ≡ got w id place c.0 want None =
+    ap (get_at w id place want) c.1
+    ∙ chosen_within want.rendition (length c.0.settings.renditions) (got w id place c.0 want (full_by c.0.events)) w s.0
+    ∙ ap (got w id place c.0 want) s.1 in
     let more = up_to_end replies w.replies (w.replies + 1) count_end (ap (λ (k : Kept). k.replies) h) refl in (
-      ap₂ (λ xs n. made xs lines (Some id) (min (events + 1) count_end) n) (s.3 ∙ ap (λ xs. slice_set xs place (kept_channel (with_event (Ask rendition) c.0))) same) more
-          ∙ ap (λ (k : Kept). made k.channels k.lines (Some id) k.events (min (w.replies + 1) count_end)) (kept-happens w place c.0 (Ask rendition) ks lines last events replies c.1 h)
+      ap₂ (λ xs n. made xs lines (Some id) (min (events + 1) count_end) n) (s.3 ∙ ap (λ xs. slice_set xs place (kept_channel (with_event (Ask want) c.0))) same) more
+          ∙ ap (λ (k : Kept). made k.channels k.lines (Some id) k.events (min (w.replies + 1) count_end)) (kept-happens w place c.0 (Ask want) ks lines last events replies c.1 h)
           ∙ sym (ap kept is),
       ap (λ (v : World). v.text) is ∙ ap (λ t. w.text ++ t) (ap (text_reply id) (sym s.2) ∙ sym told),
     )
 
 -- a request that a full channel refuses
-pub get-refused : (w : World) (id place rendition : ℕ) (ks ds new : List KeptChannel) (lines : ℕ) (last : Option ℕ) (events replies : ℕ) (r : Refusal) (line : List ℕ)
+pub get-refused : (w : World) (id place : ℕ) (want : Want) (ks ds new : List KeptChannel) (lines : ℕ) (last : Option ℕ) (events replies : ℕ) (r : Refusal) (line : List ℕ)
     → made ks lines last events replies ≡ kept w → ds ≡ ks → place < length ds
     → ((c : Channel) → slice_get ds place ≡ Some (kept_channel c)
-    → (r ≢ refused.Memory → (rendition < length c.settings.renditions) × (full_by c.events ≡ Some r)) × (new ≡ ds))
+    → (r ≢ refused.Memory → (want.rendition < length c.settings.renditions) × (full_by c.events ≡ Some r)) × (new ≡ ds))
     → r ≢ refused.Memory → line ≡ unavailable_reply id r
-    → (made new lines (Some id) events (min (replies + 1) count_end) ≡ kept (act w (Get id place rendition)))
-    × ((act w (Get id place rendition)).text ≡ w.text ++ line)
-get-refused w id place rendition ks ds new lines last events replies r line h same within says other told =
+    → (made new lines (Some id) events (min (replies + 1) count_end) ≡ kept (act w (Get id place want)))
+    × ((act w (Get id place want)).text ≡ w.text ++ line)
+get-refused w id place want ks ds new lines last events replies r line h same within says other told =
     let c = channel-at w ds place (same ∙ ap (λ (k : Kept). k.channels) h) within in
     let s = says c.0 c.2 in
     let why = s.0 other in
-    let is : act w (Get id place rendition) ≡ got w id place c.0 rendition (Some r) =
-    ap (get_at w id place rendition) c.1
-    ∙ chosen_within rendition (length c.0.settings.renditions) (got w id place c.0 rendition (full_by c.0.events)) w why.0
-    ∙ ap (got w id place c.0 rendition) why.1 in
+    let is : act w (Get id place want) ≡ got w id place c.0 want (Some r) =
+    ap (get_at w id place want) c.1
+    ∙ chosen_within want.rendition (length c.0.settings.renditions) (got w id place c.0 want (full_by c.0.events)) w why.0
+    ∙ ap (got w id place c.0 want) why.1 in
     let more = up_to_end replies w.replies (w.replies + 1) count_end (ap (λ (k : Kept). k.replies) h) refl in (
       ap₂ (λ xs n. made xs lines (Some id) events n) (s.1 ∙ same) more
           ∙ ap (λ (k : Kept). made k.channels k.lines (Some id) k.events (min (w.replies + 1) count_end)) h

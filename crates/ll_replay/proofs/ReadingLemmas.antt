@@ -14,7 +14,8 @@ use Rattle.std.specs.Str.{IsUtf8, is_utf8, chars}
 use lib.Utf8.{encode}
 use Rattle.ll_attr.specs.Words.{parts_at, words}
 use Rattle.ll_item.specs.Settings.{Configuration}
-use Rattle.ll_replay.specs.Lines.{acts, channel_named, offer, offer_to, rendition_in, target_of, get_of}
+use Rattle.std.specs.List.{after_first, before_first, list_any}
+use Rattle.ll_replay.specs.Lines.{acts, channel_named, get_of, is_question, offer, offer_to, rendition_in, skip_of, skipping, target_of, want_in, whole}
 use Rattle.ll_replay.specs.declared.act.Act.TheVariants.{Refuse}
 use Rattle.ll_replay.specs.declared.refusal.Refusal.TheVariants as refused
 
@@ -22,18 +23,18 @@ use Rattle.ll_replay.specs.declared.refusal.Refusal.TheVariants as refused
 has-space : (text : List ℕ) → position_or_len (λ b. b == 32) text < length text → list_any (λ b. b == 32) text ≡ true
 has-space text h = list_any_at (λ b. b == 32) text _ 0 h (passes_at_first (λ b. b == 32) text 0 h)
 
-has-none : (text : List ℕ) → position_or_len (λ b. b == 32) text ≡ length text → list_any (λ b. b == 32) text ≡ false
-has-none text e =
-    let none : All (λ b. (b == 32) ≡ false) text =
-    All-from_get_or (λ b. (b == 32) ≡ false) text 0 (λ i h. fails_before_first (λ b. b == 32) text i 0 (omega arith))
-    in list_any_none (λ b. b == 32) text none
+pub has-none : (c : ℕ) (text : List ℕ) → position_or_len (λ b. b == c) text ≡ length text → list_any (λ b. b == c) text ≡ false
+has-none c text e =
+    let none : All (λ b. (b == c) ≡ false) text =
+    All-from_get_or (λ b. (b == c) ≡ false) text 0 (λ i h. fails_before_first (λ b. b == c) text i 0 (omega arith))
+    in list_any_none (λ b. b == c) text none
 
 -- a publisher's line is cut at its first space
 pub offer-cut : (channels : List Configuration) (text : List ℕ) (r : Option (Bor (List ℕ) × Bor (List ℕ))) → IsUtf8 text → IsSplitOnceResult 32 text r
     → MatchOption r (offer channels text ≡ Refuse refused.BadLine) (λ x. offer channels text ≡ offer_to (channel_named channels 0 x.0.now) x.1.now)
 offer-cut channels text None u h =
     let utf8 = is_utf8-from_IsUtf8 text u in
-    let no = has-none text (split_once_first 32 text None h (lit< tt)) in
+    let no = has-none 32 text (split_once_first 32 text None h (lit< tt)) in
     rw (utf8, no) refl
 offer-cut channels text (Some x) u h =
     let utf8 = is_utf8-from_IsUtf8 text u in
@@ -120,3 +121,10 @@ pub acts-raw : (channels : List Configuration) (last : Option ℕ) (line : List 
     → starts_with nat_eq line (codes "#") ≡ false → starts_with nat_eq line (codes "pub ") ≡ false → acts channels last line ≡ None
 acts-raw channels last [] raw comment offers = absurd (let empty = is_utf8-from_IsUtf8 [] IsUtf8-nil in cc)
 acts-raw channels last (b ∷ bs) raw comment offers = let other : (b == 35) ≡ false = grind (arith, nat_tests) in rw (other, offers, raw) refl
+
+-- a target without a query is a path
+pub whole-target : (channels : List Configuration) (target : List ℕ) (place rendition : ℕ) → list_any is_question target ≡ false
+    → Some (place, rendition) ≡ target_of channels (parts_at 47 target) → Some (place, record { rendition = rendition; skip = None }) ≡ want_in channels target
+whole-target channels target place rendition no_query path =
+    ap whole path
+    ∙ sym (ap (λ b. if b then skipping (skip_of (after_first is_question target)) (target_of channels (parts_at 47 (before_first is_question target))) else whole (target_of channels (parts_at 47 target))) no_query)

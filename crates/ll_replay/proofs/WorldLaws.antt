@@ -3,14 +3,14 @@ use Rattle.std.proofs.Common.{◌≡◌, ℕ, ◌+◌, ◌<◌, List, ◌++◌, 
 use Rattle.std.specs.Prelude.{fold, slice_get}
 use Rattle.std.proofs.lemmas.Bool.Decides.{nat_tests}
 use Rattle.ll_item.specs.declared.item.Item.{Item}
+use Rattle.ll_replay.specs.declared.act.Want.{Want}
 use Rattle.ll_replay.specs.Answers.{no_line, ok_line, text_reply, unavailable_reply}
 use Rattle.ll_replay.specs.Events.{items, refusal, full_by}
-use Rattle.ll_page.specs.Full.{text_after}
 use Rattle.ll_replay.specs.Lines.{acts}
 use Rattle.ll_replay.specs.declared.act.Act.{Act}
 use Rattle.ll_replay.specs.declared.act.Act.TheVariants.{Declare, Offer, Refuse, Get}
 use Rattle.ll_replay.specs.declared.refusal.Refusal.{Refusal}
-use Rattle.ll_replay.specs.World.{World, Channel, Ending, LineTooLong, act, acted, counted, get_at, got, line, line_by, offer_at, offered, read_by, rest, settings_of}
+use Rattle.ll_replay.specs.World.{World, Channel, Ending, LineTooLong, act, acted, counted, get_at, got, line, line_by, offer_at, offered, read_by, rest, settings_of, wanted_text}
 
 abbrev Adds : World → World → Type 0
 Adds w v = (more : List ℕ) × (v.text ≡ w.text ++ more)
@@ -29,26 +29,26 @@ offer_at-text : (w : World) (place : ℕ) (i : Item) (o : Option Channel) → Ad
 offer_at-text w place i None = adds_nothing w w refl
 offer_at-text w place i (Some c) = offered-text w place c i (refusal c.settings c.events i)
 
-got-text : (w : World) (id place : ℕ) (c : Channel) (rendition : ℕ) (o : Option Refusal) → Adds w (got w id place c rendition o)
-got-text w id place c rendition None = (text_reply id (text_after c.settings (items c.events) rendition), refl)
-got-text w id place c rendition (Some reason) = (unavailable_reply id reason, refl)
+got-text : (w : World) (id place : ℕ) (c : Channel) (want : Want) (o : Option Refusal) → Adds w (got w id place c want o)
+got-text w id place c want None = (text_reply id (wanted_text c.settings (items c.events) want), refl)
+got-text w id place c want (Some reason) = (unavailable_reply id reason, refl)
 
 chosen : (b : Bool) (w u v : World) → Adds w u → Adds w v → Adds w (cond b u v)
 chosen true w u v a b = a
 chosen false w u v a b = b
 
-get_at-text : (w : World) (id place rendition : ℕ) (o : Option Channel) → Adds w (get_at w id place rendition o)
-get_at-text w id place rendition None = adds_nothing w w refl
-get_at-text w id place rendition (Some c) =
-    chosen (nat_lt rendition (length c.settings.renditions)) w (got w id place c rendition (full_by c.events)) w
-    (got-text w id place c rendition (full_by c.events)) (adds_nothing w w refl)
+get_at-text : (w : World) (id place : ℕ) (want : Want) (o : Option Channel) → Adds w (get_at w id place want o)
+get_at-text w id place want None = adds_nothing w w refl
+get_at-text w id place want (Some c) =
+    chosen (nat_lt want.rendition (length c.settings.renditions)) w (got w id place c want (full_by c.events)) w
+    (got-text w id place c want (full_by c.events)) (adds_nothing w w refl)
 
 -- an act adds to the text
 pub act-text : (w : World) (a : Act) → (more : List ℕ) × ((act w a).text ≡ w.text ++ more)
 act-text w (Declare settings) = adds_nothing w (act w (Declare settings)) refl
 act-text w (Refuse reason) = (no_line reason, refl)
 act-text w (Offer place i) = offer_at-text w place i (slice_get w.channels place)
-act-text w (Get id place rendition) = get_at-text w id place rendition (slice_get w.channels place)
+act-text w (Get id place want) = get_at-text w id place want (slice_get w.channels place)
 
 acts-text : (w : World) (list : List Act) → Adds w (fold (λ v a. rest (act v a)) w list)
 acts-text w [] = adds_nothing w w refl

@@ -10,18 +10,19 @@ use Rattle.ll_window.specs.Segments.{own}
 use Rattle.ll_range.specs.Announced as range
 use Rattle.ll_range.specs.declared.ranges.RangeFault.{RangeFault}
 use Rattle.ll_range.specs.declared.ranges.RangeFault.TheVariants as range_fault
+use Rattle.ll_replay.specs.declared.act.Want.{Want}
 use Rattle.ll_replay.specs.declared.refusal.Refusal.{Refusal}
 use Rattle.ll_replay.specs.declared.refusal.Refusal.TheVariants as refused
 
 pub data Event : Type 0 where
   -- an item that was accepted
   Publish : Item → Event
-  -- a request for the playlist of a rendition
-  Ask : ℕ → Event
+  -- a request for a playlist
+  Ask : Want → Event
 
 abbrev pub taken : List Item → Event → List Item
 taken items (Publish item) = items ++ item ∷ []
-taken items (Ask rendition) = items
+taken items (Ask want) = items
 
 -- all items that a channel has accepted since its start
 abbrev pub items : List Event → List Item

@@ -11,8 +11,11 @@ use Rattle.ll_item.specs.declared.item.Item.{Item}
 use Rattle.ll_item.specs.declared.item.ItemFault.{ItemFault}
 use Rattle.ll_item.specs.declared.item.ItemFault.TheVariants as item
 use Rattle.ll_item.specs.declared.settings.SettingsFault.{SettingsFault}
+use Rattle.ll_page.specs.declared.skip_kind.SkipKind.{SkipKind}
+use Rattle.ll_page.specs.declared.skip_kind.SkipKind.TheVariants.{Yes, V2}
 use Rattle.ll_replay.specs.declared.act.Act.{Act}
 use Rattle.ll_replay.specs.declared.act.Act.TheVariants.{Declare, Offer, Refuse, Get}
+use Rattle.ll_replay.specs.declared.act.Want.{Want}
 use Rattle.ll_replay.specs.declared.refusal.Refusal.TheVariants as refused
 
 -- the place of the channel of this name, and its settings; the first of these channels has this place
@@ -47,7 +50,7 @@ abbrev pub rendition_in : Option (ℕ × Configuration) → List ℕ → Option 
 rendition_in None name = None
 rendition_in (Some channel) name = option_map (λ rendition. (channel.0, rendition)) (rendition_named channel.1 name)
 
--- the places of the channel and the rendition that `/CHANNEL/RENDITION/live.m3u8` names
+-- the places of the channel and the rendition that the path `/CHANNEL/RENDITION/live.m3u8` names
 abbrev pub target_of : List Configuration → List (List ℕ) → Option (ℕ × ℕ)
 target_of channels ([] ∷ channel ∷ rendition ∷ file ∷ []) =
     if bytes_eq file (codes "live.m3u8") then rendition_in (channel_named channels 0 channel) rendition else None
@@ -57,14 +60,43 @@ abbrev pub rises : Option ℕ → ℕ → Bool
 rises None id = true
 rises (Some last) id = nat_lt last id
 
-abbrev pub get_by : Option ℕ → Option ℕ → Option (ℕ × ℕ) → Option Act
+abbrev pub is_question : ℕ → Bool
+is_question b = b == 63
+
+-- the delta update that a query asks for
+abbrev pub skip_of : List ℕ → Option SkipKind
+skip_of query =
+    if bytes_eq query (codes "_HLS_skip=YES") then Some Yes
+    else if bytes_eq query (codes "_HLS_skip=v2") then Some V2
+    else None
+
+-- what a target without a query wants of a channel
+abbrev pub whole : Option (ℕ × ℕ) → Option (ℕ × Want)
+whole None = None
+whole (Some path) = Some (path.0, record { rendition = path.1; skip = None })
+
+-- what a target with a query wants of a channel
+abbrev pub skipping : Option SkipKind → Option (ℕ × ℕ) → Option (ℕ × Want)
+skipping None path = None
+skipping (Some kind) None = None
+skipping (Some kind) (Some path) = Some (path.0, record { rendition = path.1; skip = Some kind })
+
+-- the place of the channel, and what a target wants of it: `/CHANNEL/RENDITION/live.m3u8`, and perhaps `?_HLS_skip=YES` or
+-- `?_HLS_skip=v2` (section 6.2.5)
+abbrev pub want_in : List Configuration → List ℕ → Option (ℕ × Want)
+want_in channels target =
+    if list_any is_question target
+    then skipping (skip_of (after_first is_question target)) (target_of channels (parts_at 47 (before_first is_question target)))
+    else whole (target_of channels (parts_at 47 target))
+
+abbrev pub get_by : Option ℕ → Option ℕ → Option (ℕ × Want) → Option Act
 get_by last None target = None
 get_by last (Some id) None = None
 get_by last (Some id) (Some target) = if rises last id then Some (Get id target.0 target.1) else None
 
 -- `ID TARGET`; numbers have 1 to 9 digits and rise
 abbrev pub get_of : List Configuration → Option ℕ → List (List ℕ) → Option Act
-get_of channels last (id ∷ target ∷ []) = get_by last (number_in 9 id) (target_of channels (parts_at 47 target))
+get_of channels last (id ∷ target ∷ []) = get_by last (number_in 9 id) (want_in channels target)
 get_of channels last other = None
 
 -- a channel whose name no other has

@@ -2,12 +2,16 @@
 use Rattle.std.specs.Prelude.{ℕ, ◌+◌, ◌-◌, ◌^◌, List, [], ◌∷◌, ◌++◌, Bool, true, false, Option, Some, None, length, fold, map, min, nat_lt, if◌then◌else◌, slice_get, slice_set, sum_by}
 use Rattle.ll_item.specs.Settings.{Configuration}
 use Rattle.ll_item.specs.declared.item.Item.{Item}
-use Rattle.ll_page.specs.Full.{text_after}
+use Rattle.ll_page.specs.Delta.{delta_text}
+use Rattle.ll_page.specs.Full.{full_text}
+use Rattle.ll_page.specs.View.{Seen, seen}
+use Rattle.ll_page.specs.declared.skip_kind.SkipKind.{SkipKind}
 use Rattle.ll_replay.specs.Answers.{ok_line, no_line, text_reply, unavailable_reply}
 use Rattle.ll_replay.specs.Events.{Event, Publish, Ask, items, refusal, full_by}
 use Rattle.ll_replay.specs.Lines.{acts}
 use Rattle.ll_replay.specs.declared.act.Act.{Act}
 use Rattle.ll_replay.specs.declared.act.Act.TheVariants.{Declare, Offer, Refuse, Get}
+use Rattle.ll_replay.specs.declared.act.Want.{Want}
 use Rattle.ll_replay.specs.declared.outcome.Summary.{Summary}
 use Rattle.ll_replay.specs.declared.refusal.Refusal.{Refusal}
 
@@ -53,26 +57,35 @@ offered w place channel item None = says (happens w place channel (Publish item)
 abbrev pub replied : World → ℕ → List ℕ → World
 replied w id text = record w { text = w.text ++ text; replies = w.replies + 1; last_id = Some id }
 
--- a request gets the text of the playlist after all items so far
-abbrev pub got : World → ℕ → ℕ → Channel → ℕ → Option Refusal → World
-got w id place channel rendition (Some reason) = replied w id (unavailable_reply id reason)
-got w id place channel rendition None =
-    replied (happens w place channel (Ask rendition)) id (text_reply id (text_after channel.settings (items channel.events) rendition))
+-- the full playlist of what is seen, or a delta update
+abbrev pub seen_text : Seen → Option SkipKind → List ℕ
+seen_text v None = full_text v
+seen_text v (Some kind) = delta_text kind v
+
+-- the text that is wanted, after these items of its channel
+abbrev pub wanted_text : Configuration → List Item → Want → List ℕ
+wanted_text c items want = seen_text (seen c items want.rendition) want.skip
+
+-- a request gets its text, which is that after all items so far
+abbrev pub got : World → ℕ → ℕ → Channel → Want → Option Refusal → World
+got w id place channel want (Some reason) = replied w id (unavailable_reply id reason)
+got w id place channel want None =
+    replied (happens w place channel (Ask want)) id (text_reply id (wanted_text channel.settings (items channel.events) want))
 
 abbrev pub offer_at : World → ℕ → Item → Option Channel → World
 offer_at w place item None = w
 offer_at w place item (Some channel) = offered w place channel item (refusal channel.settings channel.events item)
 
-abbrev pub get_at : World → ℕ → ℕ → ℕ → Option Channel → World
-get_at w id place rendition None = w
-get_at w id place rendition (Some channel) =
-    if nat_lt rendition (length channel.settings.renditions) then got w id place channel rendition (full_by channel.events) else w
+abbrev pub get_at : World → ℕ → ℕ → Want → Option Channel → World
+get_at w id place want None = w
+get_at w id place want (Some channel) =
+    if nat_lt want.rendition (length channel.settings.renditions) then got w id place channel want (full_by channel.events) else w
 
 abbrev pub act : World → Act → World
 act w (Declare settings) = record w { channels = w.channels ++ (record { settings = settings; events = [] }) ∷ [] }
 act w (Refuse reason) = says w (no_line reason)
 act w (Offer place item) = offer_at w place item (slice_get w.channels place)
-act w (Get id place rendition) = get_at w id place rendition (slice_get w.channels place)
+act w (Get id place want) = get_at w id place want (slice_get w.channels place)
 
 -- what happens by itself after an act: nothing, as no request waits
 abbrev pub rest : World → World

@@ -1,17 +1,18 @@
 ghost use Rattle.std.specs.Prelude.{◌≡◌, ◌≢◌, ◌<◌, ◌≤◌, ◌+◌, ◌++◌, ◌∷◌, [], List, true, false, IfOk, IfErr, IsErrOf, OnOk, OnErr, MatchOption, None, Some, length};
 ghost use Rattle.ll_item.specs.Settings.{Configuration};
 ghost use Rattle.ll_item.specs.declared.item.Item.{Item};
-ghost use Rattle.ll_page.specs.Full.{text_after};
+ghost use Rattle.ll_replay.specs.World.{wanted_text, seen_text};
 ghost use Rattle.ll_page.specs.View as view;
 ghost use Rattle.ll_replay.specs.Events.{items, refusal, refusal_at, full_by};
 ghost use Rattle.ll_replay.specs.Events as events;
 ghost use Rattle.ll_replay.specs.World as world;
 
+use crate::act::Want;
 use crate::refusal::Refusal;
 use crate::rendition::push_one;
 use ll_attr::Text;
 use ll_item::{Item, Settings};
-use ll_page::{Rendition, View, full};
+use ll_page::{Rendition, SkipKind, View, delta, full};
 use ll_range::Ranges;
 use ll_window::Window;
 use std::alloc::{AllocError, Global};
@@ -79,31 +80,42 @@ impl Channel {
         Ok(self.count)
     }
 
-    /// The text of a rendition's playlist now, where there is that rendition.
-    pub(crate) fn ask(&mut self, alloc: Global, rendition: usize) -> Result<Option<Text>, Refusal>
+    /// The text that is wanted, as it is now, where there is that rendition.
+    pub(crate) fn ask(&mut self, alloc: Global, want: Want) -> Result<Option<Text>, Refusal>
         ensures text { (c : world.Channel) → self.old ≡ kept_channel c → IfOk result (λ t. MatchOption t
-            ((length c.settings.renditions ≤ rendition) × (self.new ≡ self.old))
-            (λ text. (rendition < length c.settings.renditions) × (full_by c.events ≡ None)
-            × (text ≡ text_after c.settings (items c.events) rendition)
-            × (self.new ≡ kept_channel (world.with_event (events.Ask rendition) c)))) }
+            ((length c.settings.renditions ≤ want.rendition) × (self.new ≡ self.old))
+            (λ text. (want.rendition < length c.settings.renditions) × (full_by c.events ≡ None)
+            × (text ≡ wanted_text c.settings (items c.events) want)
+            × (self.new ≡ kept_channel (world.with_event (events.Ask want) c)))) }
         ensures refused { (c : world.Channel) → self.old ≡ kept_channel c
-            → IfErr result (λ r. r ≢ Refusal.Memory → (rendition < length c.settings.renditions) × (full_by c.events ≡ Some r)) }
-        ensures memory { (c : world.Channel) → self.old ≡ kept_channel c → IsErrOf result Refusal.Memory → (rendition < length c.settings.renditions) × (full_by c.events ≡ None) }
+            → IfErr result (λ r. r ≢ Refusal.Memory → (want.rendition < length c.settings.renditions) × (full_by c.events ≡ Some r)) }
+        ensures memory { (c : world.Channel) → self.old ≡ kept_channel c → IsErrOf result Refusal.Memory → (want.rendition < length c.settings.renditions) × (full_by c.events ≡ None) }
         ensures unchanged { OnErr result (self.new ≡ self.old) }
     {
-        let Some(view) = View::new(&self.settings, &self.renditions, rendition, self.count) else {
+        let Some(view) = View::new(&self.settings, &self.renditions, want.rendition, self.count)
+        else {
             return Ok(None);
         };
         if self.events == EVENT_END {
             return Err(Refusal::RecordFull);
         }
-        match full(alloc, &view) {
+        match wanted(alloc, &view, want.skip) {
             Ok(text) => {
                 self.events += 1;
                 Ok(Some(text))
             }
             Err(AllocError) => Err(Refusal::Memory),
         }
+    }
+}
+
+/// The full playlist of a view, or a delta update.
+fn wanted(alloc: Global, view: &View<'_>, skip: Option<SkipKind>) -> Result<Text, AllocError>
+    ensures { IfOk result (λ text. text ≡ seen_text view.now skip) }
+{
+    match skip {
+        None => full(alloc, view),
+        Some(kind) => delta(alloc, view, kind),
     }
 }
 

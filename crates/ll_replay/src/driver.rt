@@ -1,8 +1,7 @@
 //! Takes the lines of a script, one after another.
 ghost use Rattle.std.specs.Prelude.{◌≡◌, ◌≢◌, ◌<◌, ◌+◌, ◌-◌, ◌^◌, ◌++◌, ◌∷◌, [], ℕ, List, Option, Some, None, Ok, Err, IfOk, MatchOption, IfSome, IfNone, OnOk, OnErr, IfErr, IsErrOf, IsOk, ◌≤◌, length, slice_get, slice_set, string_bytes};
-ghost use Rattle.ll_replay.specs.World.{World, start, line, summary_of, Ending};
+ghost use Rattle.ll_replay.specs.World.{World, start, line, summary_of, wanted_text, Ending};
 ghost use Rattle.ll_replay.specs.World as world;
-ghost use Rattle.ll_page.specs.Full.{text_after};
 ghost use Rattle.ll_replay.specs.Events.{items, refusal, full_by};
 ghost use Rattle.ll_replay.specs.Events as events;
 ghost use Rattle.ll_replay.specs.Answers as answers;
@@ -12,7 +11,7 @@ ghost use Rattle.ll_replay.specs.Lines.{acts};
 ghost use Rattle.ll_item.specs.Settings.{settings_in};
 ghost use Rattle.ll_replay.specs.Stream.{Wrote, WroteFront, IsBroken, IsDevice};
 
-use crate::act::Act;
+use crate::act::{Act, Want};
 use crate::answers::{no_line, ok_line, text_reply, unavailable_reply};
 use crate::channel::Channel;
 use crate::device::{Failed, Writer, write_all};
@@ -149,11 +148,7 @@ impl Driver {
             }
             Act::Offer { place, item } => self.offer(place, item),
             Act::Refuse(reason) => Ok(Some(no_line(self.alloc, reason)?)),
-            Act::Get {
-                id,
-                place,
-                rendition,
-            } => self.get(id, place, rendition),
+            Act::Get { id, place, want } => self.get(id, place, want),
         }
     }
 
@@ -175,16 +170,16 @@ impl Driver {
         }
     }
 
-    /// What a request for a rendition of the channel at this place is answered.
-    fn get(&mut self, id: u64, place: usize, rendition: usize) -> Result<Option<String>, AllocError>
+    /// What a request to the channel at this place is answered.
+    fn get(&mut self, id: u64, place: usize, want: Want) -> Result<Option<String>, AllocError>
         ensures ok { (w : World) → self.old ≡ kept w → IfOk result (λ a.
-            (self.new ≡ kept (world.act w (Act.Get id place rendition))) × ((world.act w (Act.Get id place rendition)).text ≡ w.text ++ told a)) }
+            (self.new ≡ kept (world.act w (Act.Get id place want))) × ((world.act w (Act.Get id place want)).text ≡ w.text ++ told a)) }
         ensures lines { OnOk result (self.new.lines ≡ self.old.lines) }
     {
         if place >= self.channels.len() {
             return Ok(None);
         }
-        match ask_at(self.alloc, &mut self.channels, place, rendition) {
+        match ask_at(self.alloc, &mut self.channels, place, want) {
             Ok(None) => Ok(None),
             Ok(Some(text)) => {
                 self.events = self.events.saturating_add(1);
@@ -233,24 +228,24 @@ fn publish_at(channels: &mut [Channel], place: usize, item: Item) -> Result<u64,
     channels[place].publish(item)
 }
 
-/// The text of a rendition's playlist of the channel at this place, where there is that rendition.
+/// The text that is wanted of the channel at this place, where there is that rendition.
 fn ask_at(
     alloc: Global,
     channels: &mut [Channel],
     place: usize,
-    rendition: usize,
+    want: Want,
 ) -> Result<Option<Text>, Refusal>
     requires { place < length channels.old }
     ensures text { (c : world.Channel) → slice_get channels.old place ≡ Some (kept_channel c) → IfOk result (λ t. MatchOption t
-        ((length c.settings.renditions ≤ rendition) × (channels.new ≡ channels.old))
-        (λ text. (rendition < length c.settings.renditions) × (full_by c.events ≡ None)
-        × (text ≡ text_after c.settings (items c.events) rendition)
-        × (channels.new ≡ slice_set channels.old place (kept_channel (world.with_event (events.Ask rendition) c))))) }
+        ((length c.settings.renditions ≤ want.rendition) × (channels.new ≡ channels.old))
+        (λ text. (want.rendition < length c.settings.renditions) × (full_by c.events ≡ None)
+        × (text ≡ wanted_text c.settings (items c.events) want)
+        × (channels.new ≡ slice_set channels.old place (kept_channel (world.with_event (events.Ask want) c))))) }
     ensures refused { (c : world.Channel) → slice_get channels.old place ≡ Some (kept_channel c) → IfErr result (λ r.
-        (r ≢ Refusal.Memory → (rendition < length c.settings.renditions) × (full_by c.events ≡ Some r))
+        (r ≢ Refusal.Memory → (want.rendition < length c.settings.renditions) × (full_by c.events ≡ Some r))
         × (channels.new ≡ channels.old)) }
 {
-    channels[place].ask(alloc, rendition)
+    channels[place].ask(alloc, want)
 }
 
 /// Writes an answer, where there is one.

@@ -1,19 +1,21 @@
 //! What the lines of a script mean.
 ghost use Rattle.std.specs.Prelude.{◌≡◌, ◌∷◌, [], IfOk, IsErrOf, IsOk, MatchOption, MatchResult, None, Some, true, false, ℕ, List, Option};
+ghost use Rattle.std.specs.List.{after_first, before_first, list_any};
 ghost use Rattle.std.specs.Str.{is_utf8};
 ghost use Rattle.std.specs.Option.{option_to_list};
 ghost use Rattle.ll_attr.specs.Words.{words, parts_at};
 ghost use Rattle.ll_item.specs.Items.{item_in};
 ghost use Rattle.ll_item.specs.Settings.{Configuration, settings_in};
 ghost use Rattle.ll_replay.specs.Kept.{settings_kept};
-ghost use Rattle.ll_replay.specs.Lines.{WantsMemory, is_offer};
+ghost use Rattle.ll_replay.specs.Lines.{WantsMemory, is_offer, is_question};
 ghost use Rattle.ll_replay.specs.Lines as spec;
 
-use crate::act::Act;
+use crate::act::{Act, Want};
 use crate::channel::Channel;
 use crate::refusal::Refusal;
 use ll_attr::{behind, cut, parse_number};
 use ll_item::{Item, ItemFault, Settings, SettingsFault};
+use ll_page::SkipKind;
 use std::alloc::Global;
 use std::str;
 
@@ -139,22 +141,56 @@ fn read_get(channels: &[Channel], last: Option<u64>, text: &str) -> Option<Act>
         return None;
     }
     let id = parse_number(id, 9)?;
-    let (place, rendition) = read_target(channels, target)?;
+    let (place, want) = read_want(channels, target)?;
     if last.is_some_and(|last| id <= last) {
         return None;
     }
-    Some(Act::Get {
-        id,
-        place,
-        rendition,
-    })
+    Some(Act::Get { id, place, want })
+}
+
+/// The place of the channel, and what a target wants of it.
+fn read_want(channels: &[Channel], target: &str) -> Option<(usize, Want)>
+    ensures { result ≡ spec.want_in (settings_kept channels.now) target.now }
+{
+    let Some((path, query)) = split_query(target) else {
+        let (place, rendition) = read_path(channels, target)?;
+        let skip = None;
+        return Some((place, Want { rendition, skip }));
+    };
+    let skip = Some(read_skip(query)?);
+    let (place, rendition) = read_path(channels, path)?;
+    Some((place, Want { rendition, skip }))
+}
+
+/// What stands before the first question mark of a target and what stands behind it, where there is one.
+fn split_query(target: &str) -> Option<(&str, &str)>
+    ensures { MatchOption result (list_any is_question target.now ≡ false)
+        (λ s. (list_any is_question target.now ≡ true) × (s.0.now ≡ before_first is_question target.now) × (s.1.now ≡ after_first is_question target.now)) }
+{
+    match target.split_once('?') {
+        Some((path, query)) => Some((path, query)),
+        None => None,
+    }
+}
+
+/// The delta update that a query asks for.
+fn read_skip(query: &str) -> Option<SkipKind>
+    ensures { result ≡ spec.skip_of query.now }
+{
+    if query == "_HLS_skip=YES" {
+        Some(SkipKind::Yes)
+    } else if query == "_HLS_skip=v2" {
+        Some(SkipKind::V2)
+    } else {
+        None
+    }
 }
 
 /// The places of the channel and the rendition of `/CHANNEL/RENDITION/live.m3u8`.
-fn read_target(channels: &[Channel], target: &str) -> Option<(usize, usize)>
-    ensures { result ≡ spec.target_of (settings_kept channels.now) (parts_at 47 target.now) }
+fn read_path(channels: &[Channel], path: &str) -> Option<(usize, usize)>
+    ensures { result ≡ spec.target_of (settings_kept channels.now) (parts_at 47 path.now) }
 {
-    let (channel, rendition) = target_names(target)?;
+    let (channel, rendition) = target_names(path)?;
     let (place, settings) = find(channels, channel)?;
     Some((place, settings.rendition(rendition)?))
 }

@@ -1,4 +1,4 @@
-//! Moments in UTC as playlists spell them.
+//! Moments in UTC as playlists spell them, and the dates and times that date ranges hold.
 #![tactic(auto)]
 
 mod calendar;

@@ -1,5 +1,5 @@
 -- What stands at a place of the window, by the segments as they are kept.
-use Rattle.std.proofs.Common.{◌≡◌, ℕ, zero, suc, ◌+◌, ◌-◌, ◌≤◌, List, [], ◌∷◌, Bool, true, false, Option, Some, None, Bor, length, nat_lt, refl, ap, sym, ◌∙◌, arith}
+use Rattle.std.proofs.Common.{◌≡◌, ℕ, zero, suc, ◌+◌, ◌-◌, ◌*◌, ◌≤◌, List, [], ◌∷◌, Bool, true, false, Option, Some, None, Bor, length, nat_lt, refl, ap, sym, ◌∙◌, arith}
 use Rattle.std.specs.Prelude.{slice_get}
 use Rattle.std.specs.Option.{option_copied}
 use Rattle.std.specs.Slice.{IsItemAt}
@@ -9,12 +9,13 @@ use Rattle.ll_window.specs.declared.part.Part.{Part}
 use Rattle.ll_item.specs.Settings.{Configuration}
 use Rattle.ll_window.specs.declared.finished.Finished.{Finished}
 use Rattle.ll_window.specs.declared.progress.Progress.{Progress}
-use Rattle.ll_window.specs.Compact.{Compact}
+use Rattle.ll_window.specs.Compact.{Compact, skip_count}
 use Rattle.ll_window.specs.Kept.{AreTimed, IsKept}
 use Rattle.ll_window.specs.Rows.{Row, lasting}
 use Rattle.ll_window.specs.Segments.{duration}
-use Rattle.ll_window.specs.Window.{near_limit, shown_by, listed, segment_at, parts_at}
+use Rattle.ll_window.specs.Window.{near_limit, skip_limit, shown_by, listed, skipped_in, segment_at, parts_at}
 use Rattle.ll_window.proofs.KeptLemmas.{kept}
+use Rattle.ll_window.proofs.SkipLemmas.{skipped-listed}
 
 -- what a deque gives at a place
 pub item_at : (rs : List Row) (i : ℕ) (r : Option (Bor Row)) → IsItemAt rs i r → option_copied r ≡ slice_get rs i
@@ -95,3 +96,12 @@ pub behind_all : (c : Configuration) (f : Finished) (ps : List Part) (p : Progre
     → IsKept c f ps p → (record { segment = s; parts = qs }) ≡ r → slice_get f.rows.items i ≡ Some r → s.time + s.duration ≤ k.open_time
 behind_all c f ps p i s qs r k is h row e =
     omega (arith, ends_before p.open_time f.rows.items i r h.timed e, ap (λ x. x.open_time) is, ap (λ x. x.segment.time) row, ap (λ x. x.segment.duration) row)
+
+-- how many are skipped, by the segments as they are kept
+pub skipped_are : (c : Configuration) (f : Finished) (ps : List Part) (p : Progress) (n limit : ℕ) (k : Compact) → kept c f ps p ≡ k → p.open_duration ≡ duration ps
+    → limit ≡ c.skip → n ≡ skipped_in (limit * 1000000) p.open_duration f.rows.items → n ≡ skip_count k
+skipped_are c f ps p n limit k is lasts from e =
+    e ∙ ap (λ l. skipped_in (l * 1000000) p.open_duration f.rows.items) from
+    ∙ ap (λ t. skipped_in (skip_limit c) t f.rows.items) lasts
+    ∙ sym (skipped-listed (skip_limit c) (duration ps) (near_limit c) p.open_duration f.rows.items)
+    ∙ ap skip_count is

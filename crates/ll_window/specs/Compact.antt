@@ -8,7 +8,7 @@ use Rattle.ll_window.specs.declared.place.Place.{Place}
 use Rattle.ll_window.specs.Numbers.{numbered_parts, last_place}
 use Rattle.ll_window.specs.Rows.{Row, row, rows, lasting, broken_in}
 use Rattle.ll_window.specs.Segments.{parts, segments, open_segment, duration, end_time, pending_after, ended}
-use Rattle.ll_window.specs.Window.{window_limit, near_limit, gone, window, listed}
+use Rattle.ll_window.specs.Window.{window_limit, skip_limit, near_limit, gone, window, listed, skipped_in}
 
 pub record Compact : Type 0 where
   pub settings : Configuration
@@ -59,6 +59,10 @@ open_row number maps time (p ∷ ps) = Some (row number maps time (p ∷ ps))
 
 abbrev pub unfinished : Compact → Option Row
 unfinished k = open_row k.next_number k.maps k.open_time k.open_parts
+
+-- how many of the window's segments a delta update skips
+abbrev pub skip_count : Compact → ℕ
+skip_count k = skipped_in (skip_limit k.settings) (duration k.open_parts) k.window
 
 -- a date range changes nothing of what is kept of segments and parts
 abbrev pub RangesLaw : Type 0

@@ -4,7 +4,7 @@ use Rattle.std.specs.Option.{option_map}
 use Rattle.ll_item.specs.Settings.{Configuration}
 use Rattle.ll_window.specs.declared.part.Part.{Part}
 use Rattle.ll_window.specs.declared.segment.Segment.{Segment}
-use Rattle.ll_window.specs.Rows.{Row, lasting}
+use Rattle.ll_window.specs.Rows.{Row, one_if, lasting}
 
 -- how long the window lasts at least, in microseconds
 abbrev pub window_limit : Configuration → ℕ
@@ -30,6 +30,11 @@ pub record IsShortestSuffix (least : ℕ) (rs : List Row) : Type 0 where
 abbrev pub WindowLaw : Type 0
 WindowLaw = (least : ℕ) (rs : List Row) → IsShortestSuffix least rs
 
+-- how long the segments and parts behind a segment last at most while it stays in delta updates, in microseconds
+-- (section 4.4.3.8)
+abbrev pub skip_limit : Configuration → ℕ
+skip_limit c = c.skip * 1000000
+
 -- three target durations, in microseconds
 abbrev pub near_limit : Configuration → ℕ
 near_limit c = 3 * (c.target * 1000000)
@@ -43,6 +48,12 @@ shown_by false r = record { segment = r.segment; parts = [] }
 abbrev pub listed : ℕ → ℕ → List Row → List Row
 listed near tail [] = []
 listed near tail (r ∷ rs) = shown_by (nat_lt (lasting rs + tail) near) r ∷ listed near tail rs
+
+-- how many of these segments a delta update skips: those behind which the segments, and so many microseconds of open
+-- parts, last longer than this (section 6.2.5.1)
+abbrev pub skipped_in : ℕ → ℕ → List Row → ℕ
+skipped_in limit tail [] = 0
+skipped_in limit tail (r ∷ rs) = one_if (nat_lt limit (lasting rs + tail)) + skipped_in limit tail rs
 
 -- the segment at a place of the window, where there is one
 abbrev pub segment_at : List Row → ℕ → Option Segment

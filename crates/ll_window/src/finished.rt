@@ -4,7 +4,7 @@ ghost use Rattle.std.specs.Option.{option_copied};
 ghost use Rattle.ll_window.specs.Rows.{row, broken_in};
 ghost use Rattle.ll_window.specs.Rows as spec;
 ghost use Rattle.ll_window.specs.Segments.{duration};
-ghost use Rattle.ll_window.specs.Window.{window, gone};
+ghost use Rattle.ll_window.specs.Window.{window, gone, skipped_in};
 
 use crate::part::Part;
 use crate::progress::Progress;
@@ -86,6 +86,22 @@ impl Finished {
         ensures { option_copied result ≡ slice_get self.now.rows.items place }
     {
         self.rows.get(place)
+    }
+
+    /// How many of the segments have more than so many microseconds behind them, those of the open parts included.
+    pub(crate) fn skip_count(&self, limit: u64, open_duration: u64) -> usize
+        requires sum { self.now.lasting ≡ spec.lasting self.now.rows.items }
+        requires lasting { self.now.lasting + open_duration < 2 ^ 64 }
+        ensures { result ≡ skipped_in limit open_duration self.now.rows.items }
+    {
+        let mut behind = self.lasting + open_duration;
+        for (place, kept) in self.rows.iter().enumerate() {
+            behind -= kept.segment.duration;
+            if behind <= limit {
+                return place;
+            }
+        }
+        self.rows.len()
     }
 
     /// Gives up the segments behind which the others alone last so many microseconds at least.

@@ -207,6 +207,26 @@ fn segments_leave_the_window(rt: HostRuntime) -> Result<(), Fail> {
     Ok(())
 }
 
+/// So many segments of a second each, an open part, and how many segments are skipped where the limit is 6 s.
+#[test]
+fn segments_past_the_limit_are_skipped(rt: HostRuntime) -> Result<(), Fail> {
+    for (seconds, open, skipped) in [
+        (6, 1_000_000, 0),
+        (7, 1, 1),
+        (8, 999_999, 2),
+        (9, 1_000_000, 3),
+        (12, 1_000_000, 3),
+    ] {
+        let mut window = window(rt.alloc(), 0, 0)?;
+        for _ in 0..seconds {
+            window.push(item(ENDS))?;
+        }
+        window.push(item((open, false)))?;
+        assert_eq!(rt; window.skip_count(), skipped);
+    }
+    Ok(())
+}
+
 /// Parts behind a finished segment of two parts, and how many parts are listed of it then.
 #[test]
 fn parts_are_listed_near_the_end(rt: HostRuntime) -> Result<(), Fail> {

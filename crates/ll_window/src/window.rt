@@ -3,6 +3,7 @@ ghost use Rattle.std.specs.Option.{option_map};
 ghost use Rattle.ll_item.specs.declared.item.Item.{Item};
 ghost use Rattle.ll_item.specs.Settings.{last_micro};
 ghost use Rattle.ll_window.specs.Compact.{compact, unfinished};
+ghost use Rattle.ll_window.specs.Compact as kept;
 ghost use Rattle.ll_window.specs.Refusal.{refusal, part_refusal};
 ghost use Rattle.ll_window.specs.Segments.{duration};
 ghost use Rattle.ll_window.specs.Step.{with_item, with_part, with_part_by, with_end, refusal_after};
@@ -114,8 +115,7 @@ impl Window {
     }
 
     /// Adds the next item, or answers the first reason for which it may not follow, or that no memory was found; nothing
-    /// changes then. A date range changes nothing here, and the end alone refuses it. The caller brings the items of one
-    /// rendition alone: which one an item names isn't looked at.
+    /// changes then. A date range changes nothing here, and only the end refuses it. The caller brings the items of one rendition alone: which one an item names isn't looked at.
     pub fn push(&mut self, item: Item) -> Result<(), PushFault>
         ensures accepted { (items : List Item) → self.old ≡ compact self.old.settings items
             → OnOk result ((refusal self.old.settings items item ≡ None)
@@ -209,6 +209,15 @@ impl Window {
         ensures { result ≡ self.now.discontinuity }
     {
         self.finished.discontinuity
+    }
+
+    /// How many of the segments that a playlist shows a delta update skips: those behind which the segments and the open parts
+    /// last longer than the skip limit (section 6.2.5.1).
+    pub fn skip_count(&self) -> usize
+        ensures { result ≡ kept.skip_count self.now }
+    {
+        let limit = self.settings.skip() * 1_000_000;
+        self.finished.skip_count(limit, self.progress.open_duration)
     }
 
     /// Where the last part stands, where there is one: its segment is finished or open.

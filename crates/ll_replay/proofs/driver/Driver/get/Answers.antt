@@ -11,7 +11,7 @@ returns-in-Ok-None-clause-ok c w h =
     let within : c.args.place < length c.deref_mut.result.now = omega (arith, c.deref_mut.ensures.len) in
     let written = with_items_is s.channels c.ask_at.new.channels (c.ask_at.auto.channels ∙ c.deref_mut.ensures.len) in
     let says = rw c.in-Ok-None.field-0-is at c.in-Ok-None.ensures.text in
-    let r = get-nowhere w c.args.id c.args.place c.args.rendition s.channels.items c.deref_mut.result.now c.ask_at.new.channels s.lines s.last_id s.events s.replies
+    let r = get-nowhere w c.args.id c.args.place c.args.want s.channels.items c.deref_mut.result.now c.ask_at.new.channels s.lines s.last_id s.events s.replies
     (c.self.view_is ∙ h) c.deref_mut.ensures.value within says in
     (ap (λ xs. made xs s.lines s.last_id s.events s.replies) written ∙ r.0, r.1)
 
@@ -21,7 +21,7 @@ returns-in_ok-text_reply-in-Ok-Some-clause-ok c w h =
     let within : c.args.place < length c.deref_mut.result.now = omega (arith, c.deref_mut.ensures.len) in
     let written = with_items_is s.channels c.ask_at.new.channels (c.ask_at.auto.channels ∙ c.deref_mut.ensures.len) in
     let says = rw c.in-Ok-Some.field-0-is at c.in-Ok-Some.ensures.text in
-    let r = get-text w c.args.id c.args.place c.args.rendition s.channels.items c.deref_mut.result.now c.ask_at.new.channels s.lines s.last_id s.events s.replies
+    let r = get-text w c.args.id c.args.place c.args.want s.channels.items c.deref_mut.result.now c.ask_at.new.channels s.lines s.last_id s.events s.replies
     c.in-Ok-Some.text (string_bytes c.in_ok-text_reply-in-Ok-Some.field-0)
     (c.self.view_is ∙ h) c.deref_mut.ensures.value within says
     (c.in_ok-text_reply-in-Ok-Some.ensures ∙ ap (text_reply c.args.id) c.as_str.ensures) in (
@@ -35,7 +35,7 @@ returns-in_ok-unavailable-in-Err-clause-ok c w h =
     let s = c.self.inside in
     let within : c.args.place < length c.deref_mut.result.now = omega (arith, c.deref_mut.ensures.len) in
     let written = with_items_is s.channels c.ask_at.new.channels (c.ask_at.auto.channels ∙ c.deref_mut.ensures.len) in
-    let r = get-refused w c.args.id c.args.place c.args.rendition s.channels.items c.deref_mut.result.now c.ask_at.new.channels s.lines s.last_id s.events s.replies
+    let r = get-refused w c.args.id c.args.place c.args.want s.channels.items c.deref_mut.result.now c.ask_at.new.channels s.lines s.last_id s.events s.replies
     c.in-Err.reason (string_bytes c.in_ok-unavailable-in-Err.field-0)
     (c.self.view_is ∙ h) c.deref_mut.ensures.value within c.in-Err.ensures.refused c.in_ok-unavailable-in-Err.ensures.0 c.in_ok-unavailable-in-Err.ensures.1 in (
       ap (λ xs. made xs s.lines (Some c.args.id) s.events c.saturating_add-self-inside-in-Err.result) written

@@ -1,0 +1,9 @@
+pub mod CompanionProof
+pub mod ItemLemmas
+pub mod MapLemmas
+pub mod MissingLemmas
+pub mod OwnSegmentProof
+pub mod PlaylistLemmas
+pub mod RowLemmas
+pub mod SegmentLemmas
+pub mod SplitLemmas

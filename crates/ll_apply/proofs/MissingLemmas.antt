@@ -1,0 +1,38 @@
+-- The least of the numbers that a playlist lacks.
+use Rattle.std.proofs.Common.{◌≡◌, ℕ, zero, suc, ◌+◌, ◌≤◌, ◌<◌, Bool, true, false, nat_lt, Option, Some, None, Err, refl, ap, sym, ◌∙◌, arith}
+use Rattle.std.proofs.lemmas.Bool.Decides.{nat_tests}
+use Rattle.ll_page.specs.Playlist.{Playlist}
+use Rattle.ll_apply.specs.declared.fault.ApplyFault.TheVariants.{NotRecent}
+use Rattle.ll_apply.specs.Applied.{applied_by, missing, missing_by, has, unless_missing, put_upon}
+use Rattle.ll_apply.specs.Law.{IsLeastMissing, NotRecentLaw}
+
+missing_at : (base : Playlist) (m n k : ℕ) (b : Bool) → has base m ≡ b → (missing base (m + 1) n ≡ Some k → IsLeastMissing base (m + 1) n k)
+    → missing_by b m (missing base (m + 1) n) ≡ Some k → IsLeastMissing base m (suc n) k
+missing_at base m n k true e more h =
+    let i = more h in
+    record { low = omega (arith, i.low); high = omega (arith, i.high); lacked = i.lacked; others = λ j low high. from j low high (nat_lt m j) refl }
+  where
+    from : (j : ℕ) → m ≤ j → j < k → (c : Bool) → nat_lt m j ≡ c → has base j ≡ true
+    from j low high true d = (more h).others j (grind (arith, nat_tests)) high
+    from j low high false d = let s : j ≡ m = grind (arith, nat_tests) in ap (has base) s ∙ e
+missing_at base m n k false e more h =
+    let same : m ≡ k = grind (arith, h) in
+    record {
+      low = omega (arith, same);
+      high = omega (arith, same);
+      lacked = ap (has base) (sym same) ∙ e;
+      others = λ j low high. absurd (omega (arith, same));
+    }
+
+least-missing : (base : Playlist) (m n k : ℕ) → missing base m n ≡ Some k → IsLeastMissing base m n k
+least-missing base m zero k h = absurd (grind (arith, h))
+least-missing base m (suc n) k h = missing_at base m n k (has base m) refl (λ e. least-missing base (m + 1) n k e) h
+
+missed : (o : Option ℕ) (p : Playlist) (number : ℕ) → unless_missing o p ≡ Err (NotRecent number) → o ≡ Some number
+missed None p number h = absurd (grind (arith, h))
+missed (Some m) p number h = let same : m ≡ number = grind (arith, h) in ap Some same
+
+pub not-recent : NotRecentLaw
+not-recent base delta skip number e h =
+    least-missing base delta.sequence skip.count number
+    (missed (missing base delta.sequence skip.count) (put_upon base delta skip) number (ap (λ s. applied_by s base delta) (sym e) ∙ h))

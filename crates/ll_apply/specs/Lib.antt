@@ -1,0 +1,5 @@
+pub mod Applied
+pub mod Law
+pub use Rattle.ll_page.specs.Delta
+pub use Rattle.ll_page.specs.Full
+pub use Rattle.ll_page.specs.Playlist
