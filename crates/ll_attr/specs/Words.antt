@@ -1,6 +1,6 @@
 -- The words of a line, and what stands behind a key.
-use Rattle.std.specs.Prelude.{ℕ, List, [], ◌∷◌, ◌++◌, Option, Some, None, ◌==◌, drop, length, nat_eq, if◌then◌else◌}
-use Rattle.std.specs.List.{slice_split, starts_with}
+use Rattle.std.specs.Prelude.{ℕ, List, Option, Some, None, ◌==◌, drop, length, nat_eq, if◌then◌else◌}
+use Rattle.std.specs.List.{join_with_byte, slice_split, starts_with}
 
 -- the parts of a text between single bytes of this value, as a space or a comma
 abbrev pub parts_at : ℕ → List ℕ → List (List ℕ)
@@ -10,11 +10,9 @@ parts_at separator text = slice_split (λ b. b == separator) text
 abbrev pub words : List ℕ → List (List ℕ)
 words text = parts_at 32 text
 
--- these words as one text again
+-- words with a space between two of them, as one text again
 abbrev pub joined : List (List ℕ) → List ℕ
-joined [] = []
-joined (word ∷ []) = word
-joined (word ∷ next ∷ more) = word ++ (32 ∷ joined (next ∷ more))
+joined words = join_with_byte 32 words
 
 -- what stands behind a key, where a text begins with it
 abbrev pub behind : List ℕ → List ℕ → Option (List ℕ)

@@ -115,7 +115,8 @@ impl Window {
     }
 
     /// Adds the next item, or answers the first reason for which it may not follow, or that no memory was found; nothing
-    /// changes then. A date range changes nothing here, and only the end refuses it. The caller brings the items of one rendition alone: which one an item names isn't looked at.
+    /// changes then. A date range changes nothing here, and the end alone refuses it. The caller brings the items of one
+    /// rendition alone: which one an item names isn't looked at.
     pub fn push(&mut self, item: Item) -> Result<(), PushFault>
         ensures accepted { (items : List Item) → self.old ≡ compact self.old.settings items
             → OnOk result ((refusal self.old.settings items item ≡ None)
@@ -366,6 +367,7 @@ impl Window {
             index: self.open_parts.len() as u64,
         }
     }
+
     /// Whether the parts behind a finished segment last less than three target durations.
     fn is_near(&self, segment: &Segment) -> bool
         requires behind { segment.now.time + segment.now.duration ≤ self.now.open_time }
