@@ -11,7 +11,7 @@ use Rattle.ll_attr.specs.Words.{parts_at}
 use Rattle.ll_attr.proofs.Digits.{is_digits-parts, number_in-short, no_point}
 use Rattle.ll_attr.proofs.Fractions.{fraction_in}
 
-abbrev is_point : ℕ → Bool
+abbrev pub is_point : ℕ → Bool
 is_point b = b == 46
 
 uncut_cases : (text : List ℕ) (r : Option ℕ) → r ≡ number_in 12 text → option_map (λ w. w * 1000000) r ≡ micros_of_parts (text ∷ [])
@@ -27,7 +27,7 @@ no_fraction whole fraction (x ∷ []) e some bad = grind (arith, nat_tests)
 no_fraction whole fraction (x ∷ y ∷ more) e some bad = refl
 
 -- a further point leaves the text no meaning, as it leaves no digits behind the first point
-one_cut : (whole fraction : List ℕ) (b : Bool) → is_digits 6 fraction ≡ b → micros_of_parts (whole ∷ parts_at 46 fraction) ≡ micros_of_parts (whole ∷ fraction ∷ [])
+pub one_cut : (whole fraction : List ℕ) (b : Bool) → is_digits 6 fraction ≡ b → micros_of_parts (whole ∷ parts_at 46 fraction) ≡ micros_of_parts (whole ∷ fraction ∷ [])
 one_cut whole fraction true h =
     ap (λ ps. micros_of_parts (whole ∷ ps)) (slice_split_none is_point fraction (no_point fraction (is_digits-parts 6 fraction h).2))
 one_cut whole fraction false h =

@@ -9,24 +9,24 @@ use Rattle.ll_attr.specs.Numbers.{is_digits}
 use Rattle.ll_attr.proofs.Digits.{digits_model}
 use Rattle.ll_attr.proofs.MicrosAtCut.{micros_in-point}
 
-abbrev six_digits : ℕ → List ℕ
+abbrev pub six_digits : ℕ → List ℕ
 six_digits n =
     (48 + n / 100000 % 10) ∷ (48 + n / 10000 % 10) ∷ (48 + n / 1000 % 10) ∷ (48 + n / 100 % 10) ∷ (48 + n / 10 % 10) ∷ (48 + n % 10) ∷ []
 
 decimal_place : (n : ℕ) → decimal (n % 10) ≡ (48 + n % 10) ∷ []
 decimal_place n = decimal_digit (n % 10) (omega arith)
 
-seconds-six_digits : (n : ℕ) → seconds n ≡ decimal (n / 1000000) ++ (46 ∷ six_digits n)
+pub seconds-six_digits : (n : ℕ) → seconds n ≡ decimal (n / 1000000) ++ (46 ∷ six_digits n)
 unfolding seconds
 seconds-six_digits n = simp decimal_place
 
-is_digits-six_digits : (n : ℕ) → is_digits 6 (six_digits n) ≡ true
+pub is_digits-six_digits : (n : ℕ) → is_digits 6 (six_digits n) ≡ true
 is_digits-six_digits n = grind (arith, nat_tests)
 
 digits_value-six_digits : (n : ℕ) → digits_value 10 (six_digits n) ≡ n % 1000000
 digits_value-six_digits n = grind (arith, nat_tests)
 
-is_digits-decimal : (n : ℕ) → n < 10 ^ 12 → is_digits 12 (decimal n) ≡ true
+pub is_digits-decimal : (n : ℕ) → n < 10 ^ 12 → is_digits 12 (decimal n) ≡ true
 is_digits-decimal n small =
     let all : all_ascii_digits (decimal n) ≡ true = digits_decimal digits_model n (omega arith) in
     let some = decimal_nonempty n (omega arith) in

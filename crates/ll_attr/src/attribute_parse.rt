@@ -21,9 +21,30 @@ impl AttrList {
         ensures written_again { IfOk result (λ list. spelling list ≡ text.now) }
     {
         match read(alloc, text) {
-            Err(AttrFault::Memory) => Err(first_fault(text).unwrap_or(AttrFault::Memory)),
+            Err(AttrFault::Memory) => Err(AttrList::first_fault(text).unwrap_or(AttrFault::Memory)),
             Err(fault) => Err(fault),
             Ok(attributes) => Ok(AttrList::of(attributes)),
+        }
+    }
+
+    /// The first fault of a text from the left; none where it spells an attribute list (section 4.2). It takes no memory,
+    /// and goes over the text again for each name.
+    pub fn first_fault(text: &str) -> Option<AttrFault>
+        ensures fault { MatchOption result (IsOk (attributes_in text.now)) (λ fault. attributes_in text.now ≡ Err fault) }
+        ensures not_memory { IfSome result (λ fault. fault ≢ AttrFault.Memory) }
+    {
+        let mut count: usize = 0;
+        let mut rest = text;
+        loop {
+            let (part, behind) = first_part(rest);
+            if let Some(fault) = part_fault(text, count, part) {
+                return Some(fault);
+            }
+            match behind {
+                Some(behind) => rest = behind,
+                None => return None,
+            }
+            count += 1;
         }
     }
 }
@@ -89,27 +110,6 @@ fn stands_in(attributes: &[Attribute], name: &str) -> bool
     attributes
         .iter()
         .any(|attribute| name == attribute.name.as_str())
-}
-
-/// The first fault of a text, found without memory. It goes over the text again for each name, so it is for the rare case
-/// alone.
-fn first_fault(text: &str) -> Option<AttrFault>
-    ensures fault { MatchOption result (IsOk (attributes_in text.now)) (λ fault. attributes_in text.now ≡ Err fault) }
-    ensures not_memory { IfSome result (λ fault. fault ≢ AttrFault.Memory) }
-{
-    let mut count: usize = 0;
-    let mut rest = text;
-    loop {
-        let (part, behind) = first_part(rest);
-        if let Some(fault) = part_fault(text, count, part) {
-            return Some(fault);
-        }
-        match behind {
-            Some(behind) => rest = behind,
-            None => return None,
-        }
-        count += 1;
-    }
 }
 
 /// The first fault of a part behind so many parts of a text.

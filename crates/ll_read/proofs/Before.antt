@@ -1,0 +1,52 @@
+-- The date ranges of the first lines of a text, by its first line and the others.
+use Rattle.std.proofs.Common.{◌≡◌, ℕ, suc, ◌+◌, ◌-◌, ◌<◌, ◌||◌, Bool, true, false, List, [], ◌∷◌, ◌++◌, length, take, drop, get_or, refl, ap, sym, ◌∙◌, arith, append_assoc, add-one, drop-cons, length-drop, bytes_eq}
+use Rattle.std.proofs.lemmas.List.{take_more, append-nil}
+use Rattle.std.proofs.lemmas.List.Folds.{list_any-append}
+use Rattle.std.specs.Str.Lines.{strip_carriage_return}
+use Rattle.ll_attr.specs.Words.{parts_at}
+use Rattle.ll_page.specs.Playlist.{DateRangeLine}
+use Rattle.ll_read.specs.Lines.{line_in}
+use Rattle.ll_read.specs.Ranges.{has_id, ranges_of, ranges_in}
+
+abbrev of_line : List ℕ → List DateRangeLine
+of_line line = ranges_in (line_in (strip_carriage_return line))
+
+first_of : (id line : List ℕ) (left : ℕ) (ps : List (List ℕ)) → 0 < left → has_id id (ranges_of (take left (line ∷ ps))) ≡ (has_id id (of_line line) || has_id id (ranges_of (take (left - 1) ps)))
+first_of id line left ps some =
+    let e : left ≡ suc (left - 1) = omega arith in
+    ap (λ n. has_id id (ranges_of (take n (line ∷ ps)))) e
+    ∙ list_any-append (λ (range : DateRangeLine). bytes_eq id range.id) (of_line line) (ranges_of (take (left - 1) ps))
+
+or_true : (x y : Bool) → x ≡ true → true ≡ (x || y)
+or_true true y h = refl
+or_true false y h = cc
+
+or_false : (x y : Bool) → x ≡ false → y ≡ (x || y)
+or_false true y h = cc
+or_false false y h = refl
+
+pub found : (id line shown rest below : List ℕ) (left : ℕ) (b whole : Bool) → parts_at 10 rest ≡ line ∷ parts_at 10 below → 0 < left → shown ≡ strip_carriage_return line → b ≡ has_id id (ranges_in (line_in shown)) → b ≡ true
+    → has_id id (ranges_of (take left (parts_at 10 rest))) ≡ whole → true ≡ whole
+found id line shown rest below left b whole e some s h t w =
+    or_true (has_id id (of_line line)) (has_id id (ranges_of (take (left - 1) (parts_at 10 below)))) (ap (λ l. has_id id (ranges_in (line_in l))) (sym s) ∙ sym h ∙ t)
+    ∙ sym (first_of id line left (parts_at 10 below) some) ∙ ap (λ ps. has_id id (ranges_of (take left ps))) (sym e) ∙ w
+
+pub passed : (id line shown rest below : List ℕ) (left : ℕ) (b whole : Bool) → parts_at 10 rest ≡ line ∷ parts_at 10 below → 0 < left → shown ≡ strip_carriage_return line → b ≡ has_id id (ranges_in (line_in shown)) → b ≡ false
+    → has_id id (ranges_of (take left (parts_at 10 rest))) ≡ whole → has_id id (ranges_of (take (left - 1) (parts_at 10 below))) ≡ whole
+passed id line shown rest below left b whole e some s h t w =
+    or_false (has_id id (of_line line)) (has_id id (ranges_of (take (left - 1) (parts_at 10 below)))) (ap (λ l. has_id id (ranges_in (line_in l))) (sym s) ∙ sym h ∙ t)
+    ∙ sym (first_of id line left (parts_at 10 below) some) ∙ ap (λ ps. has_id id (ranges_of (take left ps))) (sym e) ∙ w
+
+ranges_append : (xs : List (List ℕ)) (line : List ℕ) → ranges_of (xs ++ line ∷ []) ≡ ranges_of xs ++ of_line line
+ranges_append [] line = append-nil (of_line line)
+ranges_append (x ∷ xs) line = ap (λ rs. of_line x ++ rs) (ranges_append xs line) ∙ sym (append_assoc (of_line x) (ranges_of xs) (of_line line))
+
+-- one line more of those that are passed
+pub one_line : (count : ℕ) (whole parts : List (List ℕ)) (line : List ℕ) → drop count whole ≡ line ∷ parts → (drop (count + 1) whole ≡ parts) × (ranges_of (take (count + 1) whole) ≡ ranges_of (take count whole) ++ ranges_in (line_in (strip_carriage_return line)))
+one_line count whole parts line left =
+    let within : count < length whole = omega (arith, length-drop count whole, ap length left) in
+    let cons : drop count whole ≡ get_or whole count [] ∷ drop (count + 1) whole = rw add-one (drop-cons whole count [] within) in
+    let both : line ∷ parts ≡ get_or whole count [] ∷ drop (count + 1) whole = sym left ∙ cons in
+    let here : get_or whole count [] ≡ line = cc in
+    let after : drop (count + 1) whole ≡ parts = cc in
+    (after, ap ranges_of (take_more whole count [] within ∙ ap (λ p. take count whole ++ p ∷ []) here) ∙ ranges_append (take count whole) line)

@@ -1,0 +1,13 @@
+pub mod Pieces
+pub mod Durations
+pub mod Controls
+pub mod Colons
+pub mod Entries
+pub mod Ids
+pub mod Steps
+pub mod Ends
+pub mod Shapes
+pub mod Before
+pub mod Onward
+pub mod DateRanges
+pub mod Begins

@@ -1,0 +1,45 @@
+-- The playlist that a text spells, line by line. Lines end in LF or CR LF, the last one too.
+use Rattle.std.specs.Prelude.{ℕ, ◌+◌, List, [], ◌∷◌, Bool, ◌&&◌, Option, Some, None, Result, Ok, Err, bytes_eq, codes, if◌then◌else◌}
+use Rattle.std.specs.Str.{is_utf8}
+use Rattle.std.specs.Str.Lines.{strip_carriage_return}
+use Rattle.ll_attr.specs.Words.{parts_at}
+use Rattle.ll_page.specs.Playlist.{Playlist}
+use Rattle.ll_read.specs.Lines.{Line, line_in}
+use Rattle.ll_read.specs.Shape.{Reading, Place, AtEnd, start, next, is_empty}
+use Rattle.ll_read.specs.declared.fault.ReadFault.{ReadFault}
+use Rattle.ll_read.specs.declared.fault.ReadFault.TheVariants.{NotPlaylist, BadLine}
+
+-- what stands at the end of the text, whose next line would have this number
+abbrev pub ended : ℕ → Place → Playlist → Result Playlist ReadFault
+ended number AtEnd p = Ok p
+ended number place p = Err (BadLine number)
+
+abbrev pub next_line : Reading → Option Line → Option Reading
+next_line r None = None
+next_line r (Some line) = next r line
+
+abbrev pub and_then : ℕ → Option Reading → (Reading → Result Playlist ReadFault) → Result Playlist ReadFault
+and_then number None more = Err (BadLine number)
+and_then number (Some r) more = more r
+
+-- the playlist of these lines, of which the first has this number, or the number of the first that can't stand in its
+-- place; behind the last LF nothing stands
+abbrev pub read_from : ℕ → Reading → List (List ℕ) → Result Playlist ReadFault
+read_from number r [] = ended number r.place r.playlist
+read_from number r (rest ∷ []) = if is_empty rest then ended number r.place r.playlist else Err (BadLine number)
+read_from number r (line ∷ below ∷ more) =
+    and_then number (next_line r (line_in (strip_carriage_return line))) (λ q. read_from (number + 1) q (below ∷ more))
+
+-- the first line, without its end
+abbrev pub first_line : List (List ℕ) → List ℕ
+first_line [] = []
+first_line (rest ∷ []) = rest
+first_line (line ∷ below ∷ more) = strip_carriage_return line
+
+-- UTF-8 whose first line is that of a playlist
+abbrev pub is_playlist : List ℕ → Bool
+is_playlist text = is_utf8 text && bytes_eq (first_line (parts_at 10 text)) (codes "#EXTM3U")
+
+-- the playlist that a text spells, or why there is none
+abbrev pub playlist_in : List ℕ → Result Playlist ReadFault
+playlist_in text = if is_playlist text then read_from 1 start (parts_at 10 text) else Err NotPlaylist

@@ -1,0 +1,275 @@
+//! What the lines so far come to.
+ghost use Rattle.std.specs.Prelude.{◌≡◌, ◌++◌, ◌∷◌, [], IfOk, map, false};
+ghost use Rattle.std.specs.Option.{option_map};
+ghost use Rattle.ll_read.specs.Draft.{draft_of, with_part, closed, takes_memory};
+ghost use Rattle.ll_read.specs.Draft as spec;
+ghost use Rattle.ll_read.specs.Lines as line;
+ghost use Rattle.ll_read.specs.Shape.{start};
+ghost use Rattle.ll_read.specs.Lines.{ids_in};
+ghost use Rattle.ll_read.specs.Meaning.{meant};
+ghost use Rattle.ll_read.specs.Ranges.{range_at, has_id};
+
+use crate::line::Line;
+use crate::playlist::{Block, Finished, Header, PartLine, Playlist, Report, Skip};
+use indexmap::IndexMap;
+use ll_attr::{Text, cut};
+use std::alloc::{AllocError, Global};
+use std::marker::Model;
+
+/// The playlist so far, and what its next segment begins with.
+#[derive(Debug, Drop)]
+pub(crate) struct Draft {
+    pub(crate) playlist: Playlist,
+    /// Whether the next segment is broken from the one before it.
+    pub(crate) broken: bool,
+    /// The URI of the next segment's map.
+    pub(crate) map: Option<Text>,
+    /// The segment that one stands in.
+    pub(crate) segment: Option<Block>,
+    /// How long it lasts, in microseconds.
+    pub(crate) duration: u64,
+}
+
+impl Model for Draft {
+    ghost use Rattle.ll_read.specs.Draft.{Draft};
+
+    ghost Value = { Draft };
+
+    ghost view = { λ d. record { playlist = d.playlist; broken = d.broken; map = d.map; segment = d.segment; duration = d.duration } };
+}
+
+impl Draft {
+    /// Before the first line. It takes no memory.
+    pub(crate) fn new(alloc: Global) -> Draft
+        ensures { result ≡ draft_of start }
+    {
+        let header = Header {
+            version: 0,
+            target: 0,
+            hold_back: 0,
+            skip_until: 0,
+            skips_date_ranges: false,
+            part_target: 0,
+        };
+        let playlist = Playlist {
+            header,
+            sequence: 0,
+            discontinuity: 0,
+            ranges: IndexMap::new(alloc),
+            skipped: None,
+            segments: Vec::new(alloc),
+            open_block: None,
+            reports: Vec::new(alloc),
+            hint: None,
+        };
+        Draft {
+            playlist,
+            broken: false,
+            map: None,
+            segment: None,
+            duration: 0,
+        }
+    }
+
+    /// Whether a date range of this id stands before.
+    pub(crate) fn has_range(&self, id: &str) -> bool
+        ensures { result ≡ has_id id.now self.now.playlist.ranges }
+    {
+        has_key(&self.playlist.ranges, id)
+    }
+
+    /// Takes in a line, wherever it stands; or answers that no memory was found, and is of no use then. The id of a
+    /// date range is new; one that isn't is answered so too.
+    pub(crate) fn put(&mut self, alloc: Global, line: &Line<'_>) -> Result<(), AllocError>
+        ensures { IfOk result (λ u. self.new ≡ spec.put (meant line.now) self.old) }
+    {
+        match *line {
+            Line::DateRange { id, attributes } => {
+                if self.has_range(id) {
+                    return Err(AllocError);
+                }
+                put_range(&mut self.playlist.ranges, alloc, id, attributes)
+            }
+            Line::Skipped { count, removed } => {
+                let removed = removed_ids(alloc, removed)?;
+                self.playlist.skipped = Some(Skip { count, removed });
+                Ok(())
+            }
+            Line::Map(uri) => {
+                self.map = Some(Text::from_str(alloc, uri)?);
+                Ok(())
+            }
+            Line::Time(time) => self.open(alloc, time),
+            Line::Part {
+                duration,
+                uri,
+                independent,
+            } => {
+                let uri = Text::from_str(alloc, uri)?;
+                put_part(
+                    &mut self.segment,
+                    PartLine {
+                        duration,
+                        uri,
+                        independent,
+                    },
+                )
+            }
+            Line::Uri(uri) => self.finish_segment(alloc, uri),
+            Line::Report { uri, number, index } => {
+                self.close();
+                let uri = Text::from_str(alloc, uri)?;
+                self.playlist.reports.push(Report { uri, number, index })?;
+                Ok(())
+            }
+            Line::Hint(uri) => {
+                self.close();
+                self.playlist.hint = Some(Text::from_str(alloc, uri)?);
+                Ok(())
+            }
+            _ => {
+                self.set(line);
+                Ok(())
+            }
+        }
+    }
+
+    /// Takes in a line that needs no memory.
+    fn set(&mut self, line: &Line<'_>)
+        requires { takes_memory (meant line.now) ≡ false }
+        ensures { self.new ≡ spec.put (meant line.now) self.old }
+    {
+        match *line {
+            Line::Version(version) => self.playlist.header.version = version,
+            Line::TargetDuration(target) => self.playlist.header.target = target,
+            Line::Control {
+                hold_back,
+                skip_until,
+                skips_date_ranges,
+            } => {
+                self.playlist.header.hold_back = hold_back;
+                self.playlist.header.skip_until = skip_until;
+                self.playlist.header.skips_date_ranges = skips_date_ranges;
+            }
+            Line::PartTarget(part_target) => self.playlist.header.part_target = part_target,
+            Line::MediaSequence(number) => self.playlist.sequence = number,
+            Line::DiscontinuitySequence(number) => self.playlist.discontinuity = number,
+            Line::Discontinuity => self.broken = true,
+            Line::Duration(duration) => self.duration = duration,
+            Line::EndList => self.close(),
+            _ => {}
+        }
+    }
+
+    /// A segment begins at this time.
+    fn open(&mut self, alloc: Global, time: &str) -> Result<(), AllocError>
+        ensures { IfOk result (λ u. self.new ≡ spec.put (line.Time time.now) self.old) }
+    {
+        let time = Text::from_str(alloc, time)?;
+        self.segment = Some(Block {
+            broken: self.broken,
+            map: self.map.take(),
+            time,
+            parts: Vec::new(alloc),
+        });
+        self.broken = false;
+        Ok(())
+    }
+
+    /// The segment has this URI.
+    fn finish_segment(&mut self, alloc: Global, uri: &str) -> Result<(), AllocError>
+        ensures { IfOk result (λ u. self.new ≡ spec.put (line.Uri uri.now) self.old) }
+    {
+        let uri = Text::from_str(alloc, uri)?;
+        let duration = self.duration;
+        self.duration = 0;
+        let Some(block) = self.segment.take() else {
+            return Ok(());
+        };
+        self.playlist.segments.push(Finished {
+            block,
+            duration,
+            uri,
+        })?;
+        Ok(())
+    }
+
+    /// The segment that one stands in stays open.
+    fn close(&mut self)
+        ensures { self.new ≡ closed self.old }
+    {
+        if let Some(block) = self.segment.take() {
+            self.playlist.open_block = Some(block);
+        }
+    }
+
+    /// The playlist.
+    pub(crate) fn finish(self) -> Playlist
+        ensures { result ≡ self.playlist }
+    {
+        self.playlist
+    }
+}
+
+/// Whether a date range has this id.
+fn has_key(ranges: &IndexMap<String, Text>, id: &str) -> bool
+    ensures { result ≡ has_id id.now (map range_at ranges.now.entries) }
+{
+    ranges.contains_key(id)
+}
+
+/// Puts a date range of a new id behind the others.
+fn put_range(
+    ranges: &mut IndexMap<String, Text>,
+    alloc: Global,
+    id: &str,
+    attributes: &str,
+) -> Result<(), AllocError>
+    requires { has_id id.now (map range_at ranges.old.entries) ≡ false }
+    ensures { IfOk result (λ u. map range_at ranges.new.entries ≡ map range_at ranges.old.entries
+        ++ (record { id = id.now; attributes = attributes.now }) ∷ []) }
+{
+    let key = String::from_str(alloc, id)?;
+    let attributes = Text::from_str(alloc, attributes)?;
+    match ranges.insert(key, attributes) {
+        Ok(_) => Ok(()),
+        Err(_) => Err(AllocError),
+    }
+}
+
+/// Puts a part behind the others of a segment, where there is one.
+fn put_part(segment: &mut Option<Block>, part: PartLine) -> Result<(), AllocError>
+    ensures { IfOk result (λ u. segment.new ≡ option_map (with_part part) segment.old) }
+{
+    if let Some(block) = segment {
+        block.parts.push(part)?;
+    }
+    Ok(())
+}
+
+/// The ids that a skip line lists, where it does.
+fn removed_ids(alloc: Global, removed: Option<&str>) -> Result<Option<Vec<Text>>, AllocError>
+    ensures { IfOk result (λ r. option_map (λ ids. ids.items) r ≡ option_map (λ ids. ids_in ids.now) removed.entry) }
+{
+    match removed {
+        Some(ids) => Ok(Some(split_ids(alloc, ids)?)),
+        None => Ok(None),
+    }
+}
+
+/// The ids of a text with a tab between two of them.
+fn split_ids(alloc: Global, text: &str) -> Result<Vec<Text>, AllocError>
+    ensures { IfOk result (λ ids. ids.items ≡ ids_in text.now) }
+{
+    let mut ids = Vec::new(alloc);
+    if text.is_empty() {
+        return Ok(ids);
+    }
+    let mut rest = text;
+    while let Some((id, more)) = cut(rest, '\t') {
+        ids.push(Text::from_str(alloc, id)?)?;
+        rest = more;
+    }
+    ids.push(Text::from_str(alloc, rest)?)?;
+    Ok(ids)
+}

@@ -1,0 +1,18 @@
+//! Reads Media Playlists and Playlist Delta Updates of this profile. Sections are those of draft-pantos-hls-rfc8216bis.
+#![tactic(auto)]
+
+mod draft;
+mod fault;
+mod line;
+mod playlist;
+mod reading;
+mod shape;
+mod tags;
+mod value;
+
+pub use fault::ReadFault;
+pub use playlist::{Block, DateRange, Finished, Header, PartLine, Playlist, Report, Skip};
+pub use reading::read;
+
+#[cfg(test)]
+mod tests;

@@ -1,0 +1,168 @@
+//! Playlists, read line by line.
+ghost use Rattle.std.specs.Prelude.{◌≡◌, ◌≢◌, ◌∷◌, ◌++◌, [], IfOk, IfErr, IsOk, IsErrOf, Ok, Err, Some, None, MatchOption, take};
+ghost use Rattle.std.specs.Str.Lines.{strip_carriage_return};
+ghost use Rattle.ll_attr.specs.Words.{parts_at};
+ghost use Rattle.ll_read.specs.Draft.{drafted, IsAt};
+ghost use Rattle.ll_read.specs.Lines.{line_in};
+ghost use Rattle.ll_read.specs.Meaning.{meant};
+ghost use Rattle.ll_read.specs.Ranges.{has_id, ranges_of, ranges_in};
+ghost use Rattle.ll_read.specs.Reading.{playlist_in, first_line, next_line, read_from};
+ghost use Rattle.ll_read.specs.Shape.{Reading, start, next};
+ghost use Rattle.ll_read.specs.Steps.{is_new_line, shape_of};
+
+use crate::draft::Draft;
+use crate::fault::ReadFault;
+use crate::line::Line;
+use crate::playlist::Playlist;
+use crate::shape::Shape;
+use crate::tags::read_line;
+use ll_attr::cut;
+use std::alloc::{AllocError, Global};
+use std::str;
+
+/// The playlist that a text spells: a Media Playlist or a Playlist Delta Update in UTF-8 (section 4) of this profile, whose
+/// lines end in LF or CR LF. Where it spells none, the first reason; memory that isn't found comes after all others.
+pub fn read(alloc: Global, bytes: &[u8]) -> Result<Playlist, ReadFault>
+    ensures value { IfOk result (λ p. playlist_in bytes.now ≡ Ok p) }
+    ensures refused { IfErr result (λ fault. fault ≢ ReadFault.Memory → playlist_in bytes.now ≡ Err fault) }
+    ensures memory { IsErrOf result ReadFault.Memory → IsOk (playlist_in bytes.now) }
+{
+    let Ok(text) = str::from_utf8(bytes) else {
+        return Err(ReadFault::NotPlaylist);
+    };
+    if first(text) == "#EXTM3U" {
+        read_lines(alloc, text)
+    } else {
+        Err(ReadFault::NotPlaylist)
+    }
+}
+
+/// The first line, without its end.
+fn first(text: &str) -> &str
+    ensures { result.now ≡ first_line (parts_at 10 text.now) }
+{
+    match cut(text, '\n') {
+        Some((line, _)) => without_end(line),
+        None => text,
+    }
+}
+
+/// A line without the CR that may stand before its LF.
+fn without_end(line: &str) -> &str
+    ensures { result.now ≡ strip_carriage_return line.now }
+{
+    match line.strip_suffix('\r') {
+        Some(front) => front,
+        None => line,
+    }
+}
+
+/// The playlist of these lines. Once memory is refused the draft is given up, and the other lines are checked without it.
+fn read_lines(alloc: Global, text: &str) -> Result<Playlist, ReadFault>
+    ensures value { IfOk result (λ p. read_from 1 start (parts_at 10 text.now) ≡ Ok p) }
+    ensures refused { IfErr result (λ fault. fault ≢ ReadFault.Memory → read_from 1 start (parts_at 10 text.now) ≡ Err fault) }
+    ensures memory { IsErrOf result ReadFault.Memory → IsOk (read_from 1 start (parts_at 10 text.now)) }
+{
+    let mut shape = Shape::start();
+    let mut draft = Some(Draft::new(alloc));
+    let mut rest = text;
+    let mut count: usize = 0;
+    loop {
+        let number = count as u64 + 1;
+        let Some((line, below)) = cut(rest, '\n') else {
+            return ended(rest, shape, draft, number);
+        };
+        let Some((next, grown)) = step(alloc, shape, draft, text, count, without_end(line)) else {
+            return Err(ReadFault::BadLine { line: number });
+        };
+        shape = next;
+        draft = grown;
+        rest = below;
+        count += 1;
+    }
+}
+
+/// What the lines come to, if this stands behind the last LF.
+fn ended(rest: &str, shape: Shape, draft: Option<Draft>, number: u64) -> Result<Playlist, ReadFault>
+    ensures value { (r : Reading) → shape ≡ shape_of r → drafted draft r → IfOk result (λ p. read_from number r (rest.now ∷ []) ≡ Ok p) }
+    ensures refused { (r : Reading) → shape ≡ shape_of r → IfErr result (λ fault. fault ≢ ReadFault.Memory → read_from number r (rest.now ∷ []) ≡ Err fault) }
+    ensures memory { (r : Reading) → shape ≡ shape_of r → IsErrOf result ReadFault.Memory → IsOk (read_from number r (rest.now ∷ [])) }
+{
+    if !rest.is_empty() || !shape.is_at_end() {
+        return Err(ReadFault::BadLine { line: number });
+    }
+    match draft {
+        Some(draft) => Ok(draft.finish()),
+        None => Err(ReadFault::Memory),
+    }
+}
+
+/// Where one stands behind one more line, if it may stand there.
+fn step(
+    alloc: Global,
+    shape: Shape,
+    draft: Option<Draft>,
+    text: &str,
+    count: usize,
+    line: &str,
+) -> Option<(Shape, Option<Draft>)>
+    ensures { (r : Reading) → IsAt shape draft (take count (parts_at 10 text.now)) r → MatchOption result (next_line r (line_in line.now) ≡ None)
+        (λ s. (q : Reading) × (next_line r (line_in line.now) ≡ Some q) × (s.0 ≡ shape_of q) × drafted s.1 q
+        × (q.playlist.ranges ≡ r.playlist.ranges ++ ranges_in (line_in line.now))) }
+{
+    let line = read_line(line)?;
+    let is_new = is_new(&draft, text, count, &line);
+    let shape = shape.next(&line, is_new)?;
+    Some((shape, grown(draft, alloc, &line)))
+}
+
+/// The draft with a line more that may stand there, while memory is found.
+fn grown(draft: Option<Draft>, alloc: Global, line: &Line<'_>) -> Option<Draft>
+    ensures { (r q : Reading) → drafted draft r → next r (meant line.now) ≡ Some q → drafted result q }
+{
+    let mut draft = draft?;
+    match draft.put(alloc, line) {
+        Ok(()) => Some(draft),
+        Err(AllocError) => None,
+    }
+}
+
+/// Whether the id of a line is new behind so many lines, where it has one. Without a draft the lines are gone through again.
+fn is_new(draft: &Option<Draft>, text: &str, count: usize, line: &Line<'_>) -> bool
+    ensures { (r : Reading) → drafted draft.now r → r.playlist.ranges ≡ ranges_of (take count (parts_at 10 text.now)) → result ≡ is_new_line (meant line.now) r.playlist }
+{
+    match (line, draft) {
+        (Line::DateRange { id, .. }, Some(draft)) => !draft.has_range(id),
+        (Line::DateRange { id, .. }, None) => !stands_before(text, count, id),
+        _ => true,
+    }
+}
+
+/// Whether one of the first so many lines of a text is a date range of this id.
+fn stands_before(text: &str, count: usize, id: &str) -> bool
+    ensures { result ≡ has_id id.now (ranges_of (take count (parts_at 10 text.now))) }
+{
+    let mut left = count;
+    let mut rest = text;
+    while 0 < left {
+        let Some((line, below)) = cut(rest, '\n') else {
+            return has_this_id(without_end(rest), id);
+        };
+        if has_this_id(without_end(line), id) {
+            return true;
+        }
+        rest = below;
+        left -= 1;
+    }
+    false
+}
+
+/// Whether a line is a date range of this id.
+fn has_this_id(line: &str, id: &str) -> bool
+    ensures { result ≡ has_id id.now (ranges_in (line_in line.now)) }
+{
+    match read_line(line) {
+        Some(Line::DateRange { id: other, .. }) => id == other,
+        _ => false,
+    }
+}
