@@ -1,6 +1,7 @@
 #!/usr/bin/env bash
 # refused_memory.sh [ROW..]: for each row, refuses the Nth allocation of the program, for N from 1 until a run meets no
-# refusal. A run that meets one ends with status 4 and `llhls: Memory`, and has written a front of the row's output; the
+# refusal. A run that meets one ends with status 4 and `llhls: Memory`, and has written a front of the row's output; or it
+# ends as the row does, where what was refused is not needed for the answer, as for a list that is refused anyway. The
 # last run ends as the row does. It tells how many N were tried. The last line, `N passed, M failed`, counts rows.
 set -u
 here=$(cd "$(dirname "${BASH_SOURCE[0]}")" && pwd) || exit 2
@@ -21,7 +22,12 @@ while read -r name ending; do
     endings[$name]=$ending
 done < <(grep -v '^#' "$here/endings")
 
-# Whether a run that met a refusal ended as it must.
+# Whether a run ended as its row does.
+is_whole() {
+    [ "$status" = "$wanted" ] && [ "$(<"$room/stderr")" = "$fault" ] && cmp -s "$room/stdout" "$1"
+}
+
+# Whether a run was cut by a refusal.
 is_cut() {
     local size
     [ "$status" = 4 ] && [ "$(<"$room/stderr")" = 'llhls: Memory' ] || return 1
@@ -42,7 +48,7 @@ sweep() {
             "$program" "${words[@]}" <"$script" >"$room/stdout" 2>"$room/stderr"
         status=$?
         if [ ! -e "$room/refused" ]; then
-            if [ "$status" != "$wanted" ] || [ "$(<"$room/stderr")" != "$fault" ] || ! cmp "$room/stdout" "$output"; then
+            if ! is_whole "$output"; then
                 echo "FAILED $1: with no refusal it ended with status $status: $(head -c 2000 "$room/stderr")"
                 return 1
             fi
@@ -53,7 +59,7 @@ sweep() {
             return 0
         fi
         met=$((met + 1))
-        if ! is_cut "$output"; then
+        if ! is_cut "$output" && ! is_whole "$output"; then
             wrong=$((wrong + 1))
             # (a program that is wrong at each would fill the screen)
             if [ "$wrong" -le 3 ]; then
