@@ -1,14 +1,16 @@
 -- The lines of date ranges, one place after another.
 use Rattle.std.proofs.Common.{◌≡◌, ℕ, zero, suc, ◌+◌, List, [], ◌∷◌, ◌++◌, drop, map, Some, ap, sym, ◌∙◌, arith, append_assoc}
+use Rattle.std.proofs.lemmas.Option.{none-some, same_Some}
 use Rattle.std.specs.Prelude.{flat_map, slice_get}
 use Rattle.ll_range.specs.Announced.{Listed}
 use Rattle.ll_page.specs.Full.{range_line}
 use Rattle.ll_page.specs.Spelling.{date_range_line}
 
-rest_from : (xs : List Listed) (i : ℕ) (x : Listed) → slice_get xs i ≡ Some x → drop i xs ≡ x ∷ drop (suc i) xs
-rest_from [] i x e = absurd (grind (arith, e))
-rest_from (y ∷ ys) zero x e = let same : y ≡ x = grind (arith, e) in ap (λ z. z ∷ ys) same
-rest_from (y ∷ ys) (suc i) x e = rest_from ys i x e
+-- what is left from a place on begins with what stands there
+pub rest-from : {A : Type 0} (xs : List A) (i : ℕ) (x : A) → slice_get xs i ≡ Some x → drop i xs ≡ x ∷ drop (suc i) xs
+rest-from [] i x e = absurd (none-some x e)
+rest-from (y ∷ ys) zero x e = ap (λ z. z ∷ ys) (same_Some y x e)
+rest-from (y ∷ ys) (suc i) x e = rest-from ys i x e
 
 -- the text so far and the lines from this place on stay the whole text when this date range's is added
 pub next-range : (old new whole : List ℕ) (ranges : List Listed) (i : ℕ) (x : Listed) → slice_get ranges i ≡ Some x
@@ -21,5 +23,5 @@ next-range old new whole ranges i x e added h =
     ap (λ t. t ++ more) added
     ∙ append_assoc old (date_range_line (range_line x)) more
     ∙ ap (λ j. old ++ (date_range_line (range_line x) ++ flat_map date_range_line (map range_line (drop j ranges)))) (sym next)
-    ∙ ap (λ xs. old ++ flat_map date_range_line (map range_line xs)) (sym (rest_from ranges i x e))
+    ∙ ap (λ xs. old ++ flat_map date_range_line (map range_line xs)) (sym (rest-from ranges i x e))
     ∙ h

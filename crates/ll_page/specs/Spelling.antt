@@ -45,13 +45,19 @@ behind_comma (b ∷ bs) = codes "," ++ (b ∷ bs)
 unfoldable pub date_range_line : DateRangeLine → List ℕ
 date_range_line r = codes "#EXT-X-DATERANGE:ID=\"" ++ (r.id ++ (codes "\"" ++ (behind_comma r.attributes ++ codes "\n")))
 
+abbrev pub behind_tab : List ℕ → List ℕ
+behind_tab id = 9 ∷ id
+
 abbrev pub removed_text : Option (List (List ℕ)) → List ℕ
 removed_text None = []
 removed_text (Some ids) = codes ",RECENTLY-REMOVED-DATERANGES=\"" ++ (join_with_byte 9 ids ++ codes "\"")
 
+unfoldable pub skip_front : ℕ → List ℕ
+skip_front count = codes "#EXT-X-SKIP:SKIPPED-SEGMENTS=" ++ decimal count
+
 -- section 4.4.5.2; ids are joined by tabs
-unfoldable pub skip_line : Skip → List ℕ
-skip_line s = codes "#EXT-X-SKIP:SKIPPED-SEGMENTS=" ++ (decimal s.count ++ (removed_text s.removed ++ codes "\n"))
+abbrev pub skip_line : Skip → List ℕ
+skip_line s = skip_front s.count ++ (removed_text s.removed ++ codes "\n")
 
 abbrev pub skip_lines : Option Skip → List ℕ
 skip_lines None = []
@@ -116,13 +122,19 @@ abbrev pub last_line : Option (List ℕ) → List ℕ
 last_line None = end_line
 last_line (Some uri) = hint_line uri
 
+-- the lines before all date ranges and segments
+abbrev pub head_lines : Playlist → List ℕ
+head_lines p = header_lines p.header ++ (sequence_line p.sequence ++ discontinuity_line p.discontinuity)
+
 -- the lines before all segments
 abbrev pub front_lines : Playlist → List ℕ
 front_lines p =
     header_lines p.header ++ (sequence_line p.sequence ++ (discontinuity_line p.discontinuity ++ flat_map date_range_line p.ranges))
 
+-- the lines behind all finished segments
+abbrev pub tail_lines : Playlist → List ℕ
+tail_lines p = open_lines p.open_block ++ (flat_map report_line p.reports ++ last_line p.hint)
+
 -- the text of a playlist
 abbrev pub spelling : Playlist → List ℕ
-spelling p =
-    front_lines p ++ (skip_lines p.skipped ++ (flat_map segment_lines p.segments
-    ++ (open_lines p.open_block ++ (flat_map report_line p.reports ++ last_line p.hint))))
+spelling p = front_lines p ++ (skip_lines p.skipped ++ (flat_map segment_lines p.segments ++ tail_lines p))

@@ -1,5 +1,7 @@
 -- The URIs of media, which are this origin's own choice.
 use Rattle.std.specs.Prelude.{ℕ, List, ◌++◌, codes, decimal}
+use Rattle.ll_page.specs.declared.uri.Uri.{Uri}
+use Rattle.ll_page.specs.declared.uri.Uri.TheVariants.{Segment, Part, Map, Rendition, Text}
 
 -- the segment of this media sequence number
 unfoldable pub segment_uri : ℕ → List ℕ
@@ -16,3 +18,11 @@ map_uri number = codes "init" ++ (decimal number ++ codes ".mp4")
 -- the playlist of the rendition of this name, from that of another one
 unfoldable pub report_uri : List ℕ → List ℕ
 report_uri name = codes "../" ++ (name ++ codes "/live.m3u8")
+
+-- a URI as it stands in a line
+abbrev pub uri_text : Uri → List ℕ
+uri_text (Segment number) = segment_uri number
+uri_text (Part number index) = part_uri number index
+uri_text (Map number) = map_uri number
+uri_text (Rendition name) = report_uri name.now
+uri_text (Text text) = text.now

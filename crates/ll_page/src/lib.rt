@@ -3,16 +3,18 @@
 #![tactic(auto)]
 
 mod laws;
-mod lines;
+pub mod lines;
 mod playlist;
 mod rendition;
 mod skip_kind;
+mod uri;
 mod view;
 
 pub use laws::worked_playlists;
 pub use playlist::{delta, full};
 pub use rendition::Rendition;
 pub use skip_kind::SkipKind;
+pub use uri::Uri;
 pub use view::View;
 
 #[cfg(test)]

@@ -7,6 +7,7 @@ ghost use Rattle.ll_page.specs.Spelling.{spelling, front_lines, header_lines, da
 
 use crate::lines::*;
 use crate::skip_kind::SkipKind;
+use crate::uri::Uri;
 use crate::view::View;
 use ll_attr::{Micros, Text};
 use ll_item::Settings;
@@ -106,7 +107,7 @@ fn push_range(text: &mut String, range: DateRange<'_>) -> Result<(), AllocError>
         ++ date_range_line (range_line (record { id = range.entry.id.now; attributes = range.entry.attributes.now; added = range.entry.added }))) }
 {
     let attributes = range.attributes.write()?;
-    push_date_range_line(text, range.id, &attributes)
+    push_date_range_line(text, range.id, attributes.as_str())
 }
 
 /// Adds the line that stands for so many segments, where there are any.
@@ -116,7 +117,7 @@ fn push_skip(text: &mut String, skipped: usize) -> Result<(), AllocError>
     if skipped == 0 {
         return Ok(());
     }
-    push_skip_line(text, skipped as u64)
+    push_skip_line(text, skipped as u64, None)
 }
 
 /// Adds the lines of all finished segments but so many.
@@ -144,7 +145,10 @@ fn push_segment(
         ++ segment_lines (finished_of leads (record { segment = segment; parts = parts.now }))) }
 {
     push_block(text, leads, segment, parts)?;
-    push_finished_lines(text, segment.number, Micros(segment.duration))
+    let uri = Uri::Segment {
+        number: segment.number,
+    };
+    push_finished_lines(text, Micros(segment.duration), uri)
 }
 
 /// Adds the lines of the open segment, where there is one.
@@ -189,7 +193,8 @@ fn push_report(
         return Ok(());
     }
     if let Some(last) = last {
-        push_report_line(text, name.as_str(), last)?;
+        let name = name.as_str();
+        push_report_line(text, Uri::Rendition { name }, last)?;
     }
     Ok(())
 }
@@ -201,7 +206,8 @@ fn push_last_line(text: &mut String, window: &Window) -> Result<(), AllocError>
     if window.ended() {
         push_end_line(text)
     } else {
-        push_hint_line(text, window.next_number(), window.open_parts().len() as u64)
+        let (number, index) = (window.next_number(), window.open_parts().len() as u64);
+        push_hint_line(text, Uri::Part { number, index })
     }
 }
 
@@ -218,7 +224,8 @@ fn push_block(
 {
     push_broken_line(text, segment.broken)?;
     if leads || segment.broken {
-        push_map_line(text, segment.map_number)?;
+        let number = segment.map_number;
+        push_map_line(text, Uri::Map { number })?;
     }
     push_time_line(text, utc_time(segment.time))?;
     push_parts(text, segment.number, parts)
@@ -229,7 +236,9 @@ fn push_parts(text: &mut String, number: u64, parts: &[Part]) -> Result<(), Allo
     ensures { OnOk result (string_bytes text.new ≡ string_bytes text.old ++ flat_map part_line (part_lines number 0 parts.now)) }
 {
     for (index, part) in parts.iter().enumerate() {
-        push_part_line(text, number, index as u64, *part)?;
+        let index = index as u64;
+        let uri = Uri::Part { number, index };
+        push_part_line(text, Micros(part.duration), uri, part.independent)?;
     }
     Ok(())
 }

@@ -19,26 +19,26 @@ use Rattle.ll_attr.proofs.Spelled.{read_ok, then_ok, written_again}
 use Rattle.ll_read.specs.Pieces.{or_nothing}
 use Rattle.ll_read.specs.Lines.{Line, DateRange, date_range_in, date_range_of, date_range_with}
 
--- what a quoted value holds
-abbrev is_whole : AttrValue → Bool
+-- whether a value holds only bytes that may stand in it
+abbrev pub is_whole : AttrValue → Bool
 is_whole (Quoted text) = list_all is_quoted_byte text
-is_whole (Bare text) = true
+is_whole (Bare text) = is_bare text
 
-bare_whole : (b : Bool) (text : List ℕ) (v : AttrValue) → (if b then Some (Bare text) else None) ≡ Some v → is_whole v ≡ true
-bare_whole true text v h = let e : Bare text ≡ v = cc in sym (ap is_whole e)
-bare_whole false text v h = cc
+bare_whole : (b : Bool) (text : List ℕ) (v : AttrValue) → is_bare text ≡ b → (if b then Some (Bare text) else None) ≡ Some v → is_whole v ≡ true
+bare_whole true text v bare h = let e : Bare text ≡ v = cc in sym (ap is_whole e) ∙ bare
+bare_whole false text v bare h = cc
 
 quoted_whole : (b : Bool) (inner : List ℕ) (v : AttrValue) → list_all is_quoted_byte inner ≡ b → (if b then Some (Quoted inner) else None) ≡ Some v → is_whole v ≡ true
 quoted_whole true inner v all h = let e : Quoted inner ≡ v = cc in sym (ap is_whole e) ∙ all
 quoted_whole false inner v all h = cc
 
-whole_by : (text : List ℕ) (parts : List (List ℕ)) (v : AttrValue) → value_by text parts ≡ Some v → is_whole v ≡ true
-whole_by text [] v h = bare_whole (is_bare text) text v h
-whole_by text ((b ∷ bs) ∷ parts) v h = bare_whole (is_bare text) text v h
-whole_by text ([] ∷ []) v h = bare_whole (is_bare text) text v h
-whole_by text ([] ∷ inner ∷ []) v h = bare_whole (is_bare text) text v h
-whole_by text ([] ∷ inner ∷ (b ∷ bs) ∷ parts) v h = bare_whole (is_bare text) text v h
-whole_by text ([] ∷ inner ∷ [] ∷ part ∷ parts) v h = bare_whole (is_bare text) text v h
+pub whole_by : (text : List ℕ) (parts : List (List ℕ)) (v : AttrValue) → value_by text parts ≡ Some v → is_whole v ≡ true
+whole_by text [] v h = bare_whole (is_bare text) text v refl h
+whole_by text ((b ∷ bs) ∷ parts) v h = bare_whole (is_bare text) text v refl h
+whole_by text ([] ∷ []) v h = bare_whole (is_bare text) text v refl h
+whole_by text ([] ∷ inner ∷ []) v h = bare_whole (is_bare text) text v refl h
+whole_by text ([] ∷ inner ∷ (b ∷ bs) ∷ parts) v h = bare_whole (is_bare text) text v refl h
+whole_by text ([] ∷ inner ∷ [] ∷ part ∷ parts) v h = bare_whole (is_bare text) text v refl h
 whole_by text ([] ∷ inner ∷ [] ∷ []) v h = quoted_whole (list_all is_quoted_byte inner) inner v refl h
 
 first_whole : (text : List ℕ) (a : Attribute) (more : List Attribute) → attributes_in text ≡ Ok (a ∷ more) → is_whole a.value ≡ true

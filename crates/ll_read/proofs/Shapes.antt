@@ -55,7 +55,8 @@ ranges_shape (DateRange range) p = if_shape (is_new range p) InRanges (record p 
 ranges_shape (Skipped skip) p = if_shape (nat_le 1 skip.count) BetweenSegments (record p { skipped = Some skip })
 ranges_shape line p = between_shape line p stage.InRanges
 
-some_last : {A : Type 0} (xs : List A) (x : A) → not (is_empty (xs ++ x ∷ [])) ≡ true
+-- a list with a last element
+pub some_last : {A : Type 0} (xs : List A) (x : A) → not (is_empty (xs ++ x ∷ [])) ≡ true
 some_last [] x = refl
 some_last (y ∷ ys) x = refl
 

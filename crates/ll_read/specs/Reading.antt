@@ -1,5 +1,5 @@
 -- The playlist that a text spells, line by line. Lines end in LF or CR LF, the last one too.
-use Rattle.std.specs.Prelude.{ℕ, ◌+◌, List, [], ◌∷◌, Bool, ◌&&◌, Option, Some, None, Result, Ok, Err, bytes_eq, codes, if◌then◌else◌}
+use Rattle.std.specs.Prelude.{ℕ, ◌+◌, List, [], ◌∷◌, ◌++◌, Bool, ◌&&◌, Option, Some, None, Result, Ok, Err, bytes_eq, codes, if◌then◌else◌}
 use Rattle.std.specs.Str.{is_utf8}
 use Rattle.std.specs.Str.Lines.{strip_carriage_return}
 use Rattle.ll_attr.specs.Words.{parts_at}
@@ -43,3 +43,13 @@ is_playlist text = is_utf8 text && bytes_eq (first_line (parts_at 10 text)) (cod
 -- the playlist that a text spells, or why there is none
 abbrev pub playlist_in : List ℕ → Result Playlist ReadFault
 playlist_in text = if is_playlist text then read_from 1 start (parts_at 10 text) else Err NotPlaylist
+
+-- these lines, each with LF at its end
+abbrev pub line_feeds_of : List (List ℕ) → List ℕ
+line_feeds_of [] = []
+line_feeds_of (rest ∷ []) = rest
+line_feeds_of (line ∷ below ∷ more) = strip_carriage_return line ++ (10 ∷ line_feeds_of (below ∷ more))
+
+-- a text whose lines end in LF or CR LF, with LF in either place
+abbrev pub with_line_feeds : List ℕ → List ℕ
+with_line_feeds text = line_feeds_of (parts_at 10 text)

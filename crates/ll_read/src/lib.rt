@@ -3,14 +3,19 @@
 
 mod draft;
 mod fault;
+mod laws;
 mod line;
+mod outline;
 mod playlist;
 mod reading;
 mod shape;
 mod tags;
 mod value;
+mod writing;
 
 pub use fault::ReadFault;
+pub use laws::reads_back_law;
+pub use outline::Outline;
 pub use playlist::{Block, DateRange, Finished, Header, PartLine, Playlist, Report, Skip};
 pub use reading::read;
 

@@ -1,0 +1,54 @@
+-- What is written is read again: each line of it by itself, and the lines one after another.
+use Rattle.std.proofs.Common.{◌≡◌, ℕ, ◌&&◌, true, List, ◌∷◌, ◌++◌, map, refl, sym, ◌∙◌, Option, Some, None, is_none, is_some, Ok, drop}
+use Rattle.std.proofs.lemmas.Str.{IsUtf8-from_is_utf8}
+use Rattle.std.specs.List.{flat_map}
+use Rattle.std.specs.Str.{is_utf8}
+use Rattle.ll_page.specs.Playlist.{Skip, Playlist}
+use Rattle.ll_page.specs.Spelling.{spelling}
+use Rattle.ll_read.specs.Lines.{Line, First, DateRange}
+use Rattle.ll_read.specs.Readable.{Each, IsReadable, ReadsBackLaw}
+use Rattle.ll_read.specs.Reading.{playlist_in}
+use Rattle.ll_read.specs.Shape.{AtEnd, at, start}
+use Rattle.ll_read.specs.Written.{line_text, lines_of_skip, lines_of_segment, lines_of_open, lines_of, text_of}
+use Rattle.ll_read.proofs.Begins.{begun}
+use Rattle.ll_read.proofs.LineTexts.{spelled}
+use Rattle.ll_read.proofs.LinesCan.{all_read}
+use Rattle.ll_read.proofs.Onward.{first_is}
+use Rattle.ll_read.proofs.Readability.{IsLine}
+use Rattle.ll_read.proofs.Runs.{run, kept, cut, read}
+use Rattle.ll_read.proofs.RunsInside.{header, segments}
+use Rattle.ll_read.proofs.RunsRanges.{ranges, skip}
+use Rattle.ll_read.proofs.RunsToEnd.{end_lines, to_end}
+
+first_leads : (o : Option Skip) → (is_none o && true) ≡ is_none o
+first_leads None = refl
+first_leads (Some s) = refl
+
+-- the lines of a readable playlist come to it
+whole_run : (p : Playlist) → IsReadable p → run (Some start) (lines_of p) ≡ at AtEnd p
+whole_run p can =
+    let begin : Playlist = record (start.playlist) { header = p.header; sequence = p.sequence; discontinuity = p.discontinuity } in
+    let ranged : Playlist = record begin { ranges = p.ranges } in
+    let skipping : Playlist = record ranged { skipped = p.skipped } in
+    let last_lines = end_lines p.reports p.hint in
+    let behind_segments = lines_of_open p.open_block ++ last_lines in
+    let behind_skip = flat_map lines_of_segment p.segments ++ behind_segments in
+    let behind_ranges = lines_of_skip p.skipped ++ behind_skip in
+    let told = segments (is_none p.skipped) p.segments (is_some p.skipped) skipping behind_segments (first_leads p.skipped) can.segments in
+    header p.header p.sequence p.discontinuity start.playlist (map DateRange p.ranges ++ behind_ranges) can.header.version
+    ∙ ranges p.ranges begin behind_ranges can.distinct
+    ∙ skip p.skipped ranged behind_skip can.skipped
+    ∙ told.1
+    ∙ to_end p.open_block p.reports p.hint told.0 (record skipping { segments = p.segments }) can.own_segment can.open_block
+
+-- a text of such lines, of which the first is a playlist's, is read as what they come to
+by_lines : (text : List ℕ) (more : List Line) (p : Playlist) → text ≡ text_of (First ∷ more) → is_utf8 text ≡ true → Each IsLine (First ∷ more)
+    → run (Some start) (First ∷ more) ≡ at AtEnd p → playlist_in text ≡ Ok p
+by_lines text more p spelt utf8 are comes =
+    let whole = text_of (First ∷ more) in
+    let first = line_text First in
+    let shown = kept first are.0.whole ∙ first_is whole first (text_of more) (cut first (text_of more) are.0.whole) in
+    sym (begun whole text first (sym spelt) (IsUtf8-from_is_utf8 text utf8) shown refl) ∙ read (First ∷ more) 1 start p are comes
+
+pub reads-back : ReadsBackLaw
+reads-back p can = by_lines (spelling p) (drop 1 (lines_of p)) p (spelled p) can.utf8 (all_read p can) (whole_run p can)

@@ -1,0 +1,69 @@
+-- What lines come to, one after another, without their numbers; and that reading their text comes to it.
+use Rattle.std.proofs.Common.{◌≡◌, ℕ, ◌+◌, true, false, not, List, [], ◌∷◌, ◌++◌, refl, ap, sym, ◌∙◌, append_assoc, Option, Some, None, Ok, bytes_eq}
+use Rattle.std.proofs.lemmas.Bool.{and_parts, or_parts, not-true}
+use Rattle.std.proofs.lemmas.List.Elements.{All-from_recursion}
+use Rattle.std.proofs.lemmas.List.Splits.{slice_split_at}
+use Rattle.std.proofs.lemmas.Slice.Eq.{bytes_eq-Decides}
+use Rattle.std.specs.List.{AllByRecursion, list_any}
+use Rattle.std.specs.Str.Lines.{strip_carriage_return}
+use Rattle.ll_attr.specs.Words.{parts_at}
+use Rattle.ll_page.specs.Playlist.{Playlist}
+use Rattle.ll_read.specs.Lines.{Line}
+use Rattle.ll_read.specs.Readable.{Each, is_line_feed, ends_no_line}
+use Rattle.ll_read.specs.Reading.{read_from, next_line, ended}
+use Rattle.ll_read.specs.Shape.{Reading, AtEnd, at, next}
+use Rattle.ll_read.specs.Written.{line_text, text_of}
+use Rattle.ll_read.proofs.Onward.{goes_on}
+use Rattle.ll_read.proofs.Readability.{IsLine}
+
+abbrev step : Option Reading → Line → Option Reading
+step None line = None
+step (Some r) line = next r line
+
+abbrev pub run : Option Reading → List Line → Option Reading
+run o [] = o
+run o (line ∷ more) = run (step o line) more
+
+none_run : (lines : List Line) → run None lines ≡ None
+none_run [] = refl
+none_run (line ∷ more) = none_run more
+
+no_feed : (text : List ℕ) → list_any is_line_feed text ≡ false → AllByRecursion (λ b. is_line_feed b ≡ false) text
+no_feed [] h = tt
+no_feed (b ∷ bs) h = let p = or_parts (is_line_feed b) (list_any is_line_feed bs) h in (p.0, no_feed bs p.1)
+
+parts : (text : List ℕ) → ends_no_line text ≡ true → (not (list_any is_line_feed text) ≡ true) × (bytes_eq (strip_carriage_return text) text ≡ true)
+parts text h = and_parts (not (list_any is_line_feed text)) (bytes_eq (strip_carriage_return text) text) h
+
+-- a text that ends no line has no CR at its end
+pub kept : (text : List ℕ) → ends_no_line text ≡ true → text ≡ strip_carriage_return text
+kept text h = sym ((bytes_eq-Decides (strip_carriage_return text) text).0 (parts text h).1)
+
+-- and is cut off at the LF behind it
+pub cut : (text more : List ℕ) → ends_no_line text ≡ true → parts_at 10 ((text ++ 10 ∷ []) ++ more) ≡ text ∷ parts_at 10 more
+cut text more h =
+    let none = no_feed text (not-true (list_any is_line_feed text) (parts text h).0) in
+    ap (parts_at 10) (append_assoc text (10 ∷ []) more)
+    ∙ slice_split_at is_line_feed text 10 more (All-from_recursion (λ b. is_line_feed b ≡ false) text none) refl
+
+-- reading from a line on, by what the line comes to
+from_line : (n : ℕ) (r : Reading) (line : Line) (more : List Line) (o : Option Reading) (p : Playlist) → IsLine line → next r line ≡ o
+    → run o more ≡ at AtEnd p
+    → ((q : Reading) → run (Some q) more ≡ at AtEnd p → read_from (n + 1) q (parts_at 10 (text_of more)) ≡ Ok p)
+    → read_from n r (parts_at 10 (text_of (line ∷ more))) ≡ Ok p
+from_line n r line more None p is e h rest = absurd (cc (none_run more))
+from_line n r line more (Some q) p is e h rest =
+    let text = line_text line in
+    let whole = text_of (line ∷ more) in
+    let below = cut text (text_of more) is.whole in
+    let comes = ap (next_line r) is.read ∙ e in
+    sym (goes_on n r q whole text text (text_of more) (read_from n r (parts_at 10 whole)) below (kept text is.whole) comes refl) ∙ rest q h
+
+-- lines that come to a whole playlist are read as it
+pub read : (lines : List Line) (n : ℕ) (r : Reading) (p : Playlist) → Each IsLine lines → run (Some r) lines ≡ at AtEnd p
+    → read_from n r (parts_at 10 (text_of lines)) ≡ Ok p
+read [] n r p are h =
+    let end : Reading = record { place = AtEnd; playlist = p } in
+    let e : r ≡ end = cc in
+    ap (λ (x : Reading). ended n x.place x.playlist) e
+read (line ∷ more) n r p are h = from_line n r line more (next r line) p are.0 refl h (λ q g. read more (n + 1) q p are.1 g)

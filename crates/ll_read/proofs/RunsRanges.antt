@@ -1,0 +1,44 @@
+-- The lines of date ranges with distinct ids, and a skip line, come to those date ranges and that skip.
+use Rattle.std.proofs.Common.{◌≡◌, ℕ, ◌||◌, true, false, not, List, [], ◌∷◌, ◌++◌, map, refl, ap, sym, ◌∙◌, append_assoc, Option, Some, None, is_some, nat_le, bytes_eq}
+use Rattle.std.proofs.lemmas.Bool.{and_parts, or_parts, or_from, not-true, not_from_false, both_ways, false_from_ne_true, le-leb}
+use Rattle.std.proofs.lemmas.List.{append-nil}
+use Rattle.std.proofs.lemmas.List.Folds.{list_any-append}
+use Rattle.std.proofs.lemmas.Slice.Eq.{bytes_eq-Decides}
+use Rattle.ll_page.specs.Playlist.{DateRangeLine, Skip, Playlist}
+use Rattle.ll_read.specs.Lines.{Line, DateRange}
+use Rattle.ll_read.specs.Ranges.{has_id}
+use Rattle.ll_read.specs.Readable.{Where, are_distinct, IsReadableSkip}
+use Rattle.ll_read.specs.Shape.{InRanges, BetweenSegments, at, is_new}
+use Rattle.ll_read.specs.Written.{lines_of_skip}
+use Rattle.ll_read.proofs.Runs.{run}
+use Rattle.ll_read.proofs.RunsInside.{allowed, between}
+
+other_way : (a b : List ℕ) → bytes_eq a b ≡ false → bytes_eq b a ≡ false
+other_way a b h =
+    false_from_ne_true (bytes_eq b a) (λ e. both_ways (bytes_eq a b) h ((bytes_eq-Decides a b).1 (sym ((bytes_eq-Decides b a).0 e))))
+
+-- among distinct date ranges none has an id of those before it
+is_other : (before : List DateRangeLine) (r : DateRangeLine) (behind : List DateRangeLine) → are_distinct (before ++ r ∷ behind) ≡ true
+    → has_id r.id before ≡ false
+is_other [] r behind h = refl
+is_other (x ∷ xs) r behind h =
+    let both = and_parts (not (has_id x.id (xs ++ r ∷ behind))) (are_distinct (xs ++ r ∷ behind)) h in
+    let none : (has_id x.id xs || has_id x.id (r ∷ behind)) ≡ false =
+    sym (list_any-append (λ (range : DateRangeLine). bytes_eq x.id range.id) xs (r ∷ behind)) ∙ not-true (has_id x.id (xs ++ r ∷ behind)) both.0 in
+    let apart = or_parts (bytes_eq x.id r.id) (has_id x.id behind) (or_parts (has_id x.id xs) (has_id x.id (r ∷ behind)) none).1 in
+    or_from (bytes_eq r.id x.id) (has_id r.id xs) (other_way x.id r.id apart.0) (is_other xs r behind both.1)
+
+pub ranges : (rs : List DateRangeLine) (p : Playlist) (more : List Line) → are_distinct (p.ranges ++ rs) ≡ true
+    → run (at InRanges p) (map DateRange rs ++ more) ≡ run (at InRanges (record p { ranges = p.ranges ++ rs })) more
+ranges [] p more h = ap (λ rs. run (at InRanges (record p { ranges = rs })) more) (sym (append-nil p.ranges))
+ranges (r ∷ rs) p more h =
+    let after : Playlist = record p { ranges = p.ranges ++ r ∷ [] } in
+    let new : is_new r p ≡ true = not_from_false (has_id r.id p.ranges) (is_other p.ranges r rs h) in
+    allowed (is_new r p) InRanges after (map DateRange rs ++ more) new
+    ∙ ranges rs after more (ap are_distinct (append_assoc p.ranges (r ∷ []) rs) ∙ h)
+    ∙ ap (λ all. run (at InRanges (record p { ranges = all })) more) (append_assoc p.ranges (r ∷ []) rs)
+
+pub skip : (o : Option Skip) (p : Playlist) (more : List Line) → Where IsReadableSkip o
+    → run (at InRanges (record p { skipped = None })) (lines_of_skip o ++ more) ≡ run (at (between (is_some o)) (record p { skipped = o })) more
+skip None p more can = refl
+skip (Some s) p more can = allowed (nat_le 1 s.count) BetweenSegments (record p { skipped = Some s }) more (le-leb 1 s.count can.some)

@@ -1,0 +1,8 @@
+-- What a playlist comes to without its texts.
+use Rattle.std.specs.Prelude.{ℕ, length}
+use Rattle.std.specs.Option.{option_map}
+use Rattle.ll_page.specs.Playlist.{Skip, Playlist}
+use Rattle.ll_read.specs.declared.outline.Outline.{Outline}
+
+abbrev pub outline_of : Playlist → Outline
+outline_of p = record { sequence = p.sequence; segments = length p.segments; skipped = option_map (λ (s : Skip). s.count) p.skipped }
