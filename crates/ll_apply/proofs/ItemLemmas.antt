@@ -19,10 +19,10 @@ abbrev pub AreInOrder : Configuration → List Item → List Item → Type 0
 AreInOrder c before [] = Unit
 AreInOrder c before (i ∷ items) = (refusal c before i ≡ None) × AreInOrder c (before ++ i ∷ []) items
 
-own_one : (r : ℕ) (before : List Item) (i : Item) (b : Bool) → (rendition_of i == r) ≡ b → own r (before ++ i ∷ []) ≡ own r before ++ cond b (i ∷ []) []
+pub own_one : (r : ℕ) (before : List Item) (i : Item) (b : Bool) → (rendition_of i == r) ≡ b → own r (before ++ i ∷ []) ≡ own r before ++ cond b (i ∷ []) []
 own_one r before i b e = filter-append (λ i. rendition_of i == r) before (i ∷ []) ∙ ap (λ t. own r before ++ cond t (i ∷ []) []) e
 
-same : (m n : ℕ) → (m == n) ≡ true → m ≡ n
+pub same : (m n : ℕ) → (m == n) ≡ true → m ≡ n
 same m n e = grind (arith, nat_tests)
 
 in_order_by : (c : Configuration) (r : ℕ) (before items : List Item) (i : Item) (b : Bool) → (rendition_of i == r) ≡ b

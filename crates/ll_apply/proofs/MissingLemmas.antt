@@ -1,5 +1,5 @@
 -- The least of the numbers that a playlist lacks.
-use Rattle.std.proofs.Common.{◌≡◌, ℕ, zero, suc, ◌+◌, ◌≤◌, ◌<◌, Bool, true, false, nat_lt, Option, Some, None, Err, refl, ap, sym, ◌∙◌, arith}
+use Rattle.std.proofs.Common.{◌≡◌, ℕ, zero, suc, ◌+◌, ◌≤◌, ◌<◌, Bool, true, false, nat_lt, length, Option, Some, None, Err, refl, ap, sym, ◌∙◌, arith}
 use Rattle.std.proofs.lemmas.Bool.Decides.{nat_tests}
 use Rattle.ll_page.specs.Playlist.{Playlist}
 use Rattle.ll_apply.specs.declared.fault.ApplyFault.TheVariants.{NotRecent}
@@ -36,3 +36,25 @@ pub not-recent : NotRecentLaw
 not-recent base delta skip number e h =
     least-missing base delta.sequence skip.count number
     (missed (missing base delta.sequence skip.count) (put_upon base delta skip) number (ap (λ s. applied_by s base delta) (sym e) ∙ h))
+
+-- the numbers that a playlist lacks, by how it lies to the numbers asked for
+
+one_more : (m n : ℕ) → m + 1 + n ≡ m + suc n
+one_more m n = omega arith
+
+pub missing-below : (base : Playlist) (m n : ℕ) → m < base.sequence → missing base m (suc n) ≡ Some m
+missing-below base m n low = let e : has base m ≡ false = grind (arith, nat_tests) in ap (λ b. missing_by b m (missing base (m + 1) n)) e
+
+pub missing-above : (base : Playlist) (m n : ℕ) → base.sequence + length base.segments ≤ m → missing base m (suc n) ≡ Some m
+missing-above base m n high = let e : has base m ≡ false = grind (arith, nat_tests) in ap (λ b. missing_by b m (missing base (m + 1) n)) e
+
+-- the first number past the playlist, where the numbers asked for begin within it and end past it
+pub missing-past : (base : Playlist) (left m n : ℕ) → base.sequence ≤ m → m + left ≡ base.sequence + length base.segments → left < n
+    → missing base m n ≡ Some (m + left)
+missing-past base zero m (suc n) low is more = missing-above base m n (omega arith) ∙ ap Some (omega arith)
+missing-past base (suc left) m (suc n) low is more =
+    let e : has base m ≡ true = grind (arith, nat_tests) in
+    ap (λ b. missing_by b m (missing base (m + 1) n)) e
+    ∙ missing-past base left (m + 1) n (omega arith) (omega arith) (omega arith)
+    ∙ ap Some (one_more m left)
+missing-past base left m zero low is more = absurd (omega arith)

@@ -9,7 +9,7 @@ use Rattle.ll_window.specs.declared.part.Part.{Part}
 use Rattle.ll_window.specs.declared.window.PushFault.{PushFault}
 use Rattle.ll_window.specs.Compact.{Compact, compact, skip_count}
 use Rattle.ll_window.specs.Refusal.{part_refusal, refusal, refusal_by, refusal_before_end}
-use Rattle.ll_window.specs.Rows.{Row, one_if, lasting}
+use Rattle.ll_window.specs.Rows.{Row, lasting}
 use Rattle.ll_window.specs.Segments.{own, segments, open_segment, duration, end_time, ended}
 use Rattle.ll_window.specs.Step.{with_part_by, with_item, ended_by}
 use Rattle.ll_window.specs.Window.{skip_limit, skipped_in}
@@ -18,9 +18,10 @@ use Rattle.ll_window.proofs.StepLemmas.{compact-snoc, duration-snoc}
 use Rattle.ll_page.specs.Playlist.{Skip}
 use Rattle.ll_page.specs.Delta.{delta_by}
 use Rattle.ll_page.specs.View.{Seen, seen, asked}
-use Rattle.ll_apply.specs.Law.{OwnSegmentLaw}
+use Rattle.ll_apply.specs.Law.{AreAccepted, OwnSegmentLaw}
 use Rattle.ll_apply.proofs.ItemLemmas.{AreInOrder, in-order}
 use Rattle.ll_apply.proofs.PlaylistLemmas.{length-printed, asked-is}
+use Rattle.ll_apply.proofs.RowLemmas.{one_at_most}
 
 part_limit : (c : Configuration) (n lasts ends micros : ℕ) → part_refusal c n lasts ends micros ≡ None → (lasts + micros + 500000) / 1000000 ≤ c.target
 part_limit c n lasts ends micros e = grind (arith, nat_tests, e)
@@ -28,7 +29,7 @@ part_limit c n lasts ends micros e = grind (arith, nat_tests, e)
 short : (limit target skip d : ℕ) → 1 ≤ target → 6 * target ≤ skip → limit ≡ skip * 1000000 → (d + 500000) / 1000000 ≤ target → d ≤ limit
 short limit target skip d one six e le = omega (arith, e, le)
 
-unended : (b : Bool) (o : Option PushFault) → refusal_by b o ≡ None → (b ≡ false) × (o ≡ None)
+pub unended : (b : Bool) (o : Option PushFault) → refusal_by b o ≡ None → (b ≡ false) × (o ≡ None)
 unended true o e = absurd (grind (arith, e))
 unended false o e = (refl, e)
 
@@ -65,10 +66,6 @@ bounded c before [] one six h le = rw (append-nil before) le
 bounded c before (i ∷ items) one six h le =
     rw (append_assoc before (i ∷ []) items) at (bounded c (before ++ i ∷ []) items one six h.1 (step c before i one six h.0 le))
 
-one_at_most : (b : Bool) → one_if b ≤ 1
-one_at_most true = omega arith
-one_at_most false = omega arith
-
 few : (limit tail : ℕ) (r : Row) (rs : List Row) → tail ≤ limit → skipped_in limit tail (r ∷ rs) ≤ length rs
 few limit tail r [] le = let a = skipped-none limit tail r [] (omega arith) in omega (arith, a)
 few limit tail r (s ∷ rs) le =
@@ -87,10 +84,15 @@ own_by (suc n) v skip e h =
     let b = length-drop (suc n) (asked v).window.window in
     omega (arith, low, a, b)
 
+-- segments stay in the window that a delta update doesn't skip
+pub some-left : (c : Configuration) (items : List Item) (r : ℕ) → 1 ≤ c.target → 6 * c.target ≤ c.skip → AreAccepted c [] items
+    → 1 ≤ skip_count (compact c (own r items)) → skip_count (compact c (own r items)) < length (compact c (own r items)).window
+some-left c items r one six accepted some =
+    let le = bounded c [] (own r items) one six (in-order c r [] items accepted) (omega arith) in
+    fewer (skip_limit c) (duration (open_segment (own r items))) (compact c (own r items)).window le some
+
 pub own-segment : OwnSegmentLaw
 own-segment c items r kind skip is_one one six accepted e =
     let v = seen c items r in
     let is = asked-is c items r is_one in
-    let le = bounded c [] (own r items) one six (in-order c r [] items accepted) (omega arith) in
-    own_by (skip_count (asked v).window) v skip e
-    (rw is (λ some. fewer (skip_limit c) (duration (open_segment (own r items))) (compact c (own r items)).window le some))
+    own_by (skip_count (asked v).window) v skip e (rw is (some-left c items r one six accepted))

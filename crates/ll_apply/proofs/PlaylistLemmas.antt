@@ -26,7 +26,7 @@ missing-none base m (suc n) low high =
     ap (λ b. missing_by b m (missing base (m + 1) n)) (has_one base.sequence (length base.segments) m low (omega arith))
     ∙ missing-none base (m + 1) n (omega arith) (omega arith)
 
-length-rows : (n m t : ℕ) (gs : List (List Part)) → length (rows n m t gs) ≡ length gs
+pub length-rows : (n m t : ℕ) (gs : List (List Part)) → length (rows n m t gs) ≡ length gs
 length-rows n m t [] = refl
 length-rows n m t (g ∷ gs) = ap suc (length-rows (n + 1) (m + one_if (is_broken g)) (t + duration g) gs)
 

@@ -40,7 +40,7 @@ skipped-drop limit tail zero rs e = e
 skipped-drop limit tail (suc w) [] e = refl
 skipped-drop limit tail (suc w) (r ∷ rs) e = skipped-drop limit tail w rs (omega arith)
 
-one_at_most : (b : Bool) → one_if b ≤ 1
+pub one_at_most : (b : Bool) → one_if b ≤ 1
 one_at_most true = omega arith
 one_at_most false = omega arith
 

@@ -13,10 +13,10 @@ use Rattle.ll_window.proofs.SkipLemmas.{skipped-none}
 abbrev pub total : List (List Part) → ℕ
 total gs = sum_by duration gs
 
-total-cons : (g : List Part) (gs : List (List Part)) → total (g ∷ gs) ≡ duration g + total gs
+pub total-cons : (g : List Part) (gs : List (List Part)) → total (g ∷ gs) ≡ duration g + total gs
 total-cons g gs = let a = sum_by-append duration (g ∷ []) gs in grind (arith, a)
 
-total-append : (gs hs : List (List Part)) → total (gs ++ hs) ≡ total gs + total hs
+pub total-append : (gs hs : List (List Part)) → total (gs ++ hs) ≡ total gs + total hs
 total-append gs hs = sum_by-append duration gs hs
 
 lasting-rows : (n m t : ℕ) (gs : List (List Part)) → lasting (rows n m t gs) ≡ total gs
@@ -65,14 +65,14 @@ pub going-unfinished : (ps : List Part) → Going (split ps).unfinished
 going-unfinished [] = tt
 going-unfinished (p ∷ ps) = going_by p.finish p (split ps).finished (split ps).unfinished refl (going-unfinished ps)
 
-duration-cons : (p : Part) (ps : List Part) → duration (p ∷ ps) ≡ p.duration + duration ps
+pub duration-cons : (p : Part) (ps : List Part) → duration (p ∷ ps) ≡ p.duration + duration ps
 duration-cons p ps = let a = sum_by-append (λ (p : Part). p.duration) (p ∷ []) ps in grind (arith, a)
 
 pub duration-append : (ps qs : List Part) → duration (ps ++ qs) ≡ duration ps + duration qs
 duration-append ps qs = sum_by-append (λ (p : Part). p.duration) ps qs
 
 -- how long a split lasts
-abbrev whole : Split → ℕ
+abbrev pub whole : Split → ℕ
 whole s = total s.finished + duration s.unfinished
 
 whole_by : (b : Bool) (p : Part) (gs : List (List Part)) (ps : List Part) → whole (put_by b p gs ps) ≡ p.duration + (total gs + duration ps)
@@ -80,12 +80,12 @@ whole_by true p gs ps = let a = total-cons (p ∷ []) gs in let b = duration-con
 whole_by false p [] ps = let a = duration-cons p ps in grind (arith, a)
 whole_by false p (g ∷ gs) ps = let a = total-cons (p ∷ g) gs in let b = total-cons g gs in let d = duration-cons p g in grind (arith, a, b, d)
 
-whole-split : (ps : List Part) → whole (split ps) ≡ duration ps
+pub whole-split : (ps : List Part) → whole (split ps) ≡ duration ps
 whole-split [] = refl
 whole-split (p ∷ ps) =
     whole_by p.finish p (split ps).finished (split ps).unfinished ∙ ap (λ n. p.duration + n) (whole-split ps) ∙ sym (duration-cons p ps)
 
-total-closed : (ps : List Part) → total (closed ps) ≡ duration ps
+pub total-closed : (ps : List Part) → total (closed ps) ≡ duration ps
 total-closed [] = refl
 total-closed (p ∷ ps) = let a = total-cons (p ∷ ps) [] in grind (arith, a)
 

@@ -1,5 +1,7 @@
 pub mod Applied
+pub mod Found
 pub mod Law
+pub mod Order
 pub mod Published
 pub mod Texts
 pub use Rattle.ll_page.specs.Delta

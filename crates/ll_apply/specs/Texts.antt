@@ -32,8 +32,11 @@ abbrev pub and_then : {A B : Type 0} → Result A ApplyFault → (A → Result B
 and_then (Err fault) more = Err fault
 and_then (Ok x) more = more x
 
--- the text of the full playlist that a delta update makes of an earlier one, or the first reason why there is none: the earlier
--- text spells no full playlist, the other one spells no playlist, or a skipped segment is missing
+-- the text of the full playlist that an update makes of an earlier one, or the first reason why there is none
+abbrev pub chain : Result Playlist ApplyFault → Result Playlist ApplyFault → Result (List ℕ) ApplyFault
+chain base delta = and_then base (λ b. and_then delta (λ d. and_then (applied b d) (λ p. Ok (spelling p))))
+
+-- The same of their texts: the earlier text spells no full playlist, or the other one spells no playlist, or a skipped segment is
+-- missing; else there is one.
 abbrev pub applied_text : List ℕ → List ℕ → Result (List ℕ) ApplyFault
-applied_text base delta =
-    and_then (base_of (playlist_in base)) (λ b. and_then (delta_of (playlist_in delta)) (λ d. and_then (applied b d) (λ p. Ok (spelling p))))
+applied_text base delta = chain (base_of (playlist_in base)) (delta_of (playlist_in delta))

@@ -8,7 +8,7 @@ any_by true rest n m none some = (λ e. cc, λ e. omega arith)
 any_by false rest n m none some = (λ e. omega (arith, none e), λ e. omega (arith, some e))
 
 -- the first colon has a place just where one stands
-place : (text : List ℕ) → (list_any is_colon text ≡ false → position_or_len is_colon text ≡ length text) × (list_any is_colon text ≡ true → position_or_len is_colon text < length text)
+pub place : (text : List ℕ) → (list_any is_colon text ≡ false → position_or_len is_colon text ≡ length text) × (list_any is_colon text ≡ true → position_or_len is_colon text < length text)
 place [] = (λ e. refl, λ e. cc)
 place (b ∷ bs) =
     let more = place bs in

@@ -1,11 +1,11 @@
 -- A date range whose id is cut out of its text.
-use Rattle.std.proofs.Common.{◌≡◌, ℕ, ◌==◌, Bool, true, false, List, [], ◌∷◌, ◌++◌, length, refl, ap, sym, ◌∙◌, arith, take, drop, append_assoc, codes, Option, Some, None, Result, Ok, Err, IsOk, bytes_eq, nat_eq, if◌then◌else◌}
-use Rattle.std.proofs.lemmas.Bool.Decides.{nat_tests, Decides-eqb}
+use Rattle.std.proofs.Common.{◌≡◌, ℕ, ◌==◌, Bool, true, false, List, [], ◌∷◌, ◌++◌, length, refl, ap, sym, ◌∙◌, arith, take, drop, append_assoc, codes, Option, Some, None, Result, Ok, Err, IsOk, bytes_eq, if◌then◌else◌}
+use Rattle.std.proofs.lemmas.Bool.Decides.{nat_tests}
 use Rattle.std.proofs.lemmas.List.{append-nil}
 use Rattle.std.proofs.lemmas.List.Elements.{All-from_recursion}
 use Rattle.std.proofs.lemmas.List.Splits.{slice_split_at, join_with_byte-slice_split, length-slice_split}
-use Rattle.std.proofs.lemmas.Slice.Eq.{bytes_eq-Decides, starts_is}
-use Rattle.std.specs.List.{list_all, AllByRecursion, starts_with, join_with_byte, after_first}
+use Rattle.std.proofs.lemmas.Slice.Eq.{bytes_eq-Decides}
+use Rattle.std.specs.List.{list_all, AllByRecursion, join_with_byte, after_first}
 use Rattle.ll_attr.specs.Attributes.{attributes_in, attributes_of, attribute_in, spelling, value_spelling, value_by, value_in, is_attribute_name, is_bare, is_quoted_byte, is_equals}
 use Rattle.ll_attr.specs.Reading.{name_of, is_named, part_len}
 use Rattle.ll_attr.specs.Words.{parts_at, behind}
@@ -18,6 +18,7 @@ use Rattle.ll_attr.proofs.PartsOutside.{first_part, parts_behind}
 use Rattle.ll_attr.proofs.Spelled.{read_ok, then_ok, written_again}
 use Rattle.ll_read.specs.Pieces.{or_nothing}
 use Rattle.ll_read.specs.Lines.{Line, DateRange, date_range_in, date_range_of, date_range_with}
+use Rattle.ll_read.proofs.PiecesAgain.{behind-again}
 
 -- whether a value holds only bytes that may stand in it
 abbrev pub is_whole : AttrValue → Bool
@@ -55,14 +56,14 @@ abbrev key : List ℕ
 key = codes "ID=\""
 
 -- what stands behind the first attribute
-abbrev tail : List Attribute → List ℕ
+abbrev pub tail : List Attribute → List ℕ
 tail [] = []
 tail (b ∷ more) = 44 ∷ spelling (b ∷ more)
 
 nothing : (t : List ℕ) → t ++ [] ≡ t
 nothing t = append-nil t
 
-spelled : (a : Attribute) (more : List Attribute) → spelling (a ∷ more) ≡ a.name ++ (61 ∷ (value_spelling a.value ++ tail more))
+pub spelled : (a : Attribute) (more : List Attribute) → spelling (a ∷ more) ≡ a.name ++ (61 ∷ (value_spelling a.value ++ tail more))
 spelled a [] = ap (λ t. a.name ++ (61 ∷ t)) (sym (nothing (value_spelling a.value)))
 spelled a (b ∷ more) = append_assoc a.name (61 ∷ value_spelling a.value) (44 ∷ spelling (b ∷ more))
 
@@ -72,14 +73,8 @@ key_cut (x ∷ []) rest more h e = let wrong : ◌≡◌ {A = ℕ} 61 68 = cc in
 key_cut (x ∷ y ∷ []) rest more h e = (cc, cc)
 key_cut (x ∷ y ∷ z ∷ name) rest more h e = let wrong : z ≡ 61 = cc in absurd (grind (arith, nat_tests))
 
-behind_by : (b : Bool) (text more : List ℕ) → starts_with nat_eq text key ≡ b → (if b then Some (drop 4 text) else None) ≡ Some more → text ≡ key ++ more
-behind_by false text more h e = cc
-behind_by true text more h e =
-    let is : drop 4 text ≡ more = cc in
-    (starts_is Decides-eqb text key _ refl).0 h ∙ ap (λ t. key ++ t) is
-
 behind_some : (text more : List ℕ) → behind key text ≡ Some more → text ≡ key ++ more
-behind_some text more e = behind_by (starts_with nat_eq text key) text more refl e
+behind_some text more e = sym (behind-again key text more e)
 
 -- the id and the attributes of the first, by its value
 value_cut : (v : AttrValue) (rest more : List ℕ) → is_formed v ≡ true → value_spelling v ++ rest ≡ 34 ∷ more → (id : List ℕ) × (v ≡ Quoted id) × (more ≡ id ++ (34 ∷ rest))

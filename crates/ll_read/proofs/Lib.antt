@@ -1,5 +1,7 @@
+pub mod Again
 pub mod Before
 pub mod Begins
+pub mod Bounds
 pub mod Colons
 pub mod Controls
 pub mod Cuts
@@ -9,12 +11,18 @@ pub mod Ends
 pub mod Entries
 pub mod Ids
 pub mod LineTexts
+pub mod LinesAgain
 pub mod LinesBack
 pub mod LinesCan
+pub mod LinesSmall
+pub mod LinesSoFar
+pub mod ListsAgain
 pub mod ListsBack
 pub mod NumbersBack
 pub mod Onward
+pub mod Outlines
 pub mod Pieces
+pub mod PiecesAgain
 pub mod PlaylistBack
 pub mod RangesBack
 pub mod RangesLeft
@@ -24,6 +32,8 @@ pub mod RunsInside
 pub mod RunsRanges
 pub mod RunsToEnd
 pub mod Shapes
+pub mod SpelledAgain
 pub mod Steps
+pub mod StepsSoFar
 pub mod UrisBack
 pub mod WholeLines

@@ -37,9 +37,9 @@ part_target-back n small =
 duration-back : (d : ℕ) → d < duration_end → IsLine (Duration d)
 duration-back d small = record {
   read =
-    ap segment_duration_of (in_two 44 (seconds d) [] (seconds_lack 44 d refl small) refl)
-    ∙ ap (option_map Duration) (duration_back d small);
-  whole = whole (line_text (Duration d)) (all_in_both is_inside (seconds d) (codes ",") (seconds_inside d small) refl)
+      ap segment_duration_of (in_two 44 (seconds d) [] (seconds_lack 44 d refl small) refl)
+      ∙ ap (option_map Duration) (duration_back d small);
+  whole = whole (line_text (Duration d)) (all_in_both is_inside (seconds d) (codes ",") (seconds_inside d small) refl);
 }
 
 uri_by : (x y : Bool) (a : Option Line) (uri : List ℕ) → (y && not x) ≡ true → (if x then a else (if y then Some (Uri uri) else None)) ≡ Some (Uri uri)
@@ -51,21 +51,21 @@ uri_by true false a uri h = cc
 uri-back : (uri : List ℕ) → (is_uri uri && not (is_tag uri)) ≡ true → IsLine (Uri uri)
 uri-back uri can = record {
   read =
-    let tag = if list_any is_colon uri then tagged (before_first is_colon uri) (after_first is_colon uri) else alone uri in
-    uri_by (is_tag uri) (is_uri uri) tag uri can;
-  whole = whole uri (quoted_inside uri (quoted_bytes uri (and_parts (is_uri uri) (not (is_tag uri)) can).0))
+      let tag = if list_any is_colon uri then tagged (before_first is_colon uri) (after_first is_colon uri) else alone uri in
+      uri_by (is_tag uri) (is_uri uri) tag uri can;
+  whole = whole uri (quoted_inside uri (quoted_bytes uri (and_parts (is_uri uri) (not (is_tag uri)) can).0));
 }
 
 map-back : (uri : List ℕ) → is_uri uri ≡ true → IsLine (Map uri)
 map-back uri can = record {
   read = ap (option_map Map) (uri_back (codes "URI=") uri refl can);
-  whole = whole (line_text (Map uri)) (quoted_before uri (codes "\"") (quoted_bytes uri can) refl)
+  whole = whole (line_text (Map uri)) (quoted_before uri (codes "\"") (quoted_bytes uri can) refl);
 }
 
 hint-back : (uri : List ℕ) → is_uri uri ≡ true → IsLine (Hint uri)
 hint-back uri can = record {
   read = ap (option_map Hint) (uri_back (codes "TYPE=PART,URI=") uri refl can);
-  whole = whole (line_text (Hint uri)) (quoted_before uri (codes "\"") (quoted_bytes uri can) refl)
+  whole = whole (line_text (Hint uri)) (quoted_before uri (codes "\"") (quoted_bytes uri can) refl);
 }
 
 time_by : (x : Bool) (time : List ℕ) → x ≡ true → (let o : Option Line = if x then Some (Time time) else None in o) ≡ Some (Time time)
@@ -75,7 +75,7 @@ time_by false time h = cc
 time-back : (time : List ℕ) → (nat_le 1 (length time) && ends_no_line time) ≡ true → IsLine (Time time)
 time-back time can = record {
   read = time_by (nat_le 1 (length time)) time (and_parts (nat_le 1 (length time)) (ends_no_line time) can).0;
-  whole = whole_behind (codes "#EXT-X-PROGRAM-DATE-TIME:") time refl can
+  whole = whole_behind (codes "#EXT-X-PROGRAM-DATE-TIME:") time refl can;
 }
 
 pub line-back : (line : Line) → CanBeRead line → IsLine line

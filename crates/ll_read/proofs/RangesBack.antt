@@ -55,7 +55,7 @@ text-back text id more h = ap date_range_of h
 pub range-back : (r : DateRangeLine) → IsReadableRange r → IsLine (DateRange r)
 range-back r can = record {
   read =
-    text-back (range_text r) r.id can.more can.list
-    ∙ ap (λ attributes. Some (DateRange (record { id = r.id; attributes = attributes }))) can.spelled;
-  whole = whole (line_text (DateRange r)) (list_inside (range_text r) ((record { name = codes "ID"; value = Quoted r.id }) ∷ can.more) can.list)
+      text-back (range_text r) r.id can.more can.list
+      ∙ ap (λ attributes. Some (DateRange (record { id = r.id; attributes = attributes }))) can.spelled;
+  whole = whole (line_text (DateRange r)) (list_inside (range_text r) ((record { name = codes "ID"; value = Quoted r.id }) ∷ can.more) can.list);
 }

@@ -75,7 +75,7 @@ impl Draft {
     pub(crate) fn has_range(&self, id: &str) -> bool
         ensures { result ≡ has_id id.now self.now.playlist.ranges }
     {
-        has_key(&self.playlist.ranges, id)
+        self.playlist.has_range(id)
     }
 
     /// Takes in a line, wherever it stands; or answers that no memory was found, and is of no use then. The id of a
@@ -209,13 +209,6 @@ impl Draft {
     {
         self.playlist
     }
-}
-
-/// Whether a date range has this id.
-fn has_key(ranges: &IndexMap<String, Text>, id: &str) -> bool
-    ensures { result ≡ has_id id.now (map range_at ranges.now.entries) }
-{
-    ranges.contains_key(id)
 }
 
 /// Puts a date range of a new id behind the others.

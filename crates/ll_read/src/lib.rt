@@ -14,8 +14,8 @@ mod value;
 mod writing;
 
 pub use fault::ReadFault;
-pub use laws::reads_back_law;
-pub use outline::Outline;
+pub use laws::{reads_back_law, spelled_again_law};
+pub use outline::{Outline, read_outline};
 pub use playlist::{Block, DateRange, Finished, Header, PartLine, Playlist, Report, Skip};
 pub use reading::read;
 

@@ -1,8 +1,19 @@
-ghost use Rattle.std.specs.Prelude.{◌≡◌, ◌≤◌, ◌^◌, Ok};
-ghost use Rattle.ll_read.specs.Outline.{outline_of};
+//! What playlists come to without their texts.
+ghost use Rattle.std.specs.Prelude.{◌≡◌, ◌+◌, ◌<◌, ◌^◌, Ok};
+ghost use Rattle.ll_attr.specs.Words.{parts_at};
 ghost use Rattle.ll_page.specs.Playlist.{Playlist};
+ghost use Rattle.ll_read.specs.Meaning.{meant};
+ghost use Rattle.ll_read.specs.Outline.{outline_of};
+ghost use Rattle.ll_read.specs.Outline as spec;
+ghost use Rattle.ll_read.specs.Reading.{playlist_in, read_from};
+ghost use Rattle.ll_read.specs.Shape.{start};
 
+use crate::line::Line;
 use crate::playlist::Playlist;
+use crate::reading::without_end;
+use crate::tags::read_line;
+use ll_attr::cut;
+use std::str;
 
 /// What a playlist comes to without its texts.
 #[derive(Clone, Copy, Debug, PartialEq, Eq)]
@@ -24,6 +35,63 @@ impl Playlist {
             sequence: self.sequence,
             segments: self.segments.len(),
             skipped: self.skipped.as_ref().map(|skip| skip.count),
+        }
+    }
+}
+
+/// What the playlist comes to that a text spells, told without memory; of a text that spells none nothing is told.
+pub fn read_outline(bytes: &[u8]) -> Outline
+    ensures { (p : Playlist) → playlist_in bytes.now ≡ Ok p → result ≡ outline_of p }
+{
+    match str::from_utf8(bytes) {
+        Ok(text) => outline_of_lines(text),
+        Err(_) => Outline::start(),
+    }
+}
+
+/// What lines come to.
+fn outline_of_lines(text: &str) -> Outline
+    ensures { (p : Playlist) → read_from 1 start (parts_at 10 text.now) ≡ Ok p → result ≡ outline_of p }
+{
+    let mut outline = Outline::start();
+    let mut rest = text;
+    while let Some((line, below)) = cut(rest, '\n') {
+        if let Some(line) = read_line(without_end(line)) {
+            outline = outline.with_line(&line);
+        }
+        rest = below;
+    }
+    outline
+}
+
+impl Outline {
+    /// Before the first line.
+    fn start() -> Outline
+        ensures { result ≡ outline_of start.playlist }
+    {
+        Outline {
+            sequence: 0,
+            segments: 0,
+            skipped: None,
+        }
+    }
+
+    /// With one line more.
+    fn with_line(self, line: &Line<'_>) -> Outline
+        requires { self.segments + 1 < 2 ^ 64 }
+        ensures { result ≡ spec.with_line (meant line.now) self }
+    {
+        match *line {
+            Line::MediaSequence(sequence) => Outline { sequence, ..self },
+            Line::Skipped { count, .. } => Outline {
+                skipped: Some(count),
+                ..self
+            },
+            Line::Uri(_) => Outline {
+                segments: self.segments + 1,
+                ..self
+            },
+            _ => self,
         }
     }
 }

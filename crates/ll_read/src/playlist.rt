@@ -1,5 +1,6 @@
 //! Playlists, as their lines tell them.
-ghost use Rattle.std.specs.Prelude.{◌≡◌, ◌≤◌, Some, MatchOption, length, slice_get};
+ghost use Rattle.std.specs.Prelude.{◌≡◌, ◌≤◌, Some, MatchOption, length, map, slice_get};
+ghost use Rattle.ll_read.specs.Ranges.{has_id, range_at};
 
 use indexmap::IndexMap;
 use ll_attr::Text;
@@ -194,4 +195,18 @@ impl Playlist {
             attributes: attributes.as_str(),
         })
     }
+
+    /// Whether a date range of this id is listed.
+    pub fn has_range(&self, id: &str) -> bool
+        ensures { result ≡ has_id id.now self.now.ranges }
+    {
+        has_key(&self.ranges, id)
+    }
+}
+
+/// Whether a date range has this id.
+fn has_key(ranges: &IndexMap<String, Text>, id: &str) -> bool
+    ensures { result ≡ has_id id.now (map range_at ranges.now.entries) }
+{
+    ranges.contains_key(id)
 }

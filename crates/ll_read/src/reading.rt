@@ -48,7 +48,7 @@ fn first(text: &str) -> &str
 }
 
 /// A line without the CR that may stand before its LF.
-fn without_end(line: &str) -> &str
+pub(crate) fn without_end(line: &str) -> &str
     ensures { result.now ≡ strip_carriage_return line.now }
 {
     match line.strip_suffix('\r') {

@@ -2,7 +2,7 @@
 ghost use Rattle.std.specs.Prelude.{◌≡◌, ◌++◌, IfOk, OnOk, string_bytes, flat_map};
 ghost use Rattle.ll_page.specs.Spelling.{spelling, front_lines, head_lines, tail_lines, header_lines, date_range_line, skip_lines, block_lines, segment_lines, open_lines, part_line, report_line, last_line, broken_line, map_lines};
 
-use crate::playlist::{Block, Finished, Header, PartLine, Playlist, Report};
+use crate::playlist::{Block, Finished, Header, Playlist, Report};
 use ll_attr::{Micros, Text};
 use ll_page::Uri;
 use ll_page::lines::*;
@@ -33,7 +33,7 @@ impl Playlist {
     }
 
     /// Adds a line for each date range.
-    fn push_ranges(&self, text: &mut String) -> Result<(), AllocError>
+    pub fn push_ranges(&self, text: &mut String) -> Result<(), AllocError>
         ensures { OnOk result (string_bytes text.new ≡ string_bytes text.old ++ flat_map date_range_line self.now.ranges) }
     {
         for place in 0..self.ranges() {
@@ -96,7 +96,18 @@ impl Block {
             push_map_line(text, Uri::Text(uri.as_str()))?;
         }
         push_spelled_time_line(text, self.time.as_str())?;
-        push_parts(text, &self.parts)
+        self.push_parts(text)
+    }
+
+    /// Adds a line for each part.
+    pub fn push_parts(&self, text: &mut String) -> Result<(), AllocError>
+        ensures { OnOk result (string_bytes text.new ≡ string_bytes text.old ++ flat_map part_line self.now.parts) }
+    {
+        for part in &self.parts {
+            let uri = Uri::Text(part.uri.as_str());
+            push_part_line(text, Micros(part.duration), uri, part.independent)?;
+        }
+        Ok(())
     }
 }
 
@@ -116,17 +127,6 @@ fn push_segments(text: &mut String, segments: &[Finished]) -> Result<(), AllocEr
 {
     for segment in segments {
         segment.push_lines(text)?;
-    }
-    Ok(())
-}
-
-/// Adds a line for each part.
-fn push_parts(text: &mut String, parts: &[PartLine]) -> Result<(), AllocError>
-    ensures { OnOk result (string_bytes text.new ≡ string_bytes text.old ++ flat_map part_line parts.now) }
-{
-    for part in parts {
-        let uri = Uri::Text(part.uri.as_str());
-        push_part_line(text, Micros(part.duration), uri, part.independent)?;
     }
     Ok(())
 }

@@ -1,0 +1,97 @@
+-- What comes of two texts, once it is known what was found of each.
+use Rattle.std.proofs.Common.{◌≡◌, ℕ, List, Option, Some, None, IfSome, Result, Ok, Err, IfOk, IfErr, IsOk, IsErrOf, is_ok, ◌≢◌, refl, ap, sym, ◌∙◌}
+use Rattle.ll_page.specs.Playlist.{Skip, Playlist}
+use Rattle.ll_page.specs.Spelling.{spelling}
+use Rattle.ll_read.specs.Outline.{outline_of}
+use Rattle.ll_read.specs.declared.fault.ReadFault.{ReadFault}
+use Rattle.ll_apply.specs.Applied.{applied, applied_by, put_upon, unless_missing}
+use Rattle.ll_apply.specs.Found.{IsAnswer, IsFound, missing_of, missing_by_skip, merged, merged_by}
+use Rattle.ll_apply.specs.Texts.{and_then, base_of, chain, delta_of, unless_skipping}
+use Rattle.ll_apply.specs.declared.fault.ApplyFault.{ApplyFault}
+use Rattle.ll_apply.specs.declared.fault.ApplyFault.TheVariants.{BadBase, BadDelta, NotRecent, Memory}
+use Rattle.ll_apply.specs.declared.found.Found.{Found}
+
+pub bad-base : (x y : Result Playlist ApplyFault) (f : ApplyFault) → x ≡ Err f → chain x y ≡ Err f
+bad-base x y f e = ap (λ r. chain r y) e
+
+pub bad-delta : (x y : Result Playlist ApplyFault) (f : ApplyFault) (o : Found) → IsFound o x → y ≡ Err f → chain x y ≡ Err f
+bad-delta (Err g) y f o found e = absurd found
+bad-delta (Ok b) y f o found e = ap (λ r. chain (Ok b) r) e
+
+lacks_by : (s : Option Skip) (b d : Playlist) (n : ℕ) → Some n ≡ missing_by_skip s b d → applied_by s b d ≡ Err (NotRecent n)
+lacks_by None b d n e = absurd (cc)
+lacks_by (Some skip) b d n e = ap (λ o. unless_missing o (put_upon b d skip)) (sym e)
+
+has_by : (s : Option Skip) (b d : Playlist) → None ≡ missing_by_skip s b d → applied_by s b d ≡ Ok (merged_by s b d)
+has_by None b d e = refl
+has_by (Some skip) b d e = ap (λ o. unless_missing o (put_upon b d skip)) (sym e)
+
+-- where a number is missing
+pub not-recent : (x y : Result Playlist ApplyFault) (n : ℕ) (o u : Found) → IsFound o x → IsFound u y
+    → ((b d : Playlist) → o.outline ≡ outline_of b → u.outline ≡ outline_of d → Some n ≡ missing_of b d) → chain x y ≡ Err (NotRecent n)
+not-recent (Err g) y n o u found also lacks = absurd found
+not-recent (Ok b) (Err g) n o u found also lacks = absurd also
+not-recent (Ok b) (Ok d) n o u found also lacks = ap (λ p. and_then p (λ p. Ok (spelling p))) (lacks_by d.skipped b d n (lacks b d found.0 also.0))
+
+-- where none is, there is a text
+pub goes : (x y : Result Playlist ApplyFault) (o u : Found) → IsFound o x → IsFound u y
+    → ((b d : Playlist) → o.outline ≡ outline_of b → u.outline ≡ outline_of d → None ≡ missing_of b d) → IsOk (chain x y)
+goes (Err g) y o u found also has = absurd found
+goes (Ok b) (Err g) o u found also has = absurd also
+goes (Ok b) (Ok d) o u found also has = ap (λ p. is_ok (and_then p (λ p. Ok (spelling p)))) (has_by d.skipped b d (has b d found.0 also.0))
+
+same_found : (q : Option Playlist) (b p : Playlist) → IfSome q (λ p. p ≡ b) → q ≡ Some p → p ≡ b
+same_found None b p h e = absurd (cc)
+same_found (Some a) b p h e = let same : a ≡ p = cc in sym same ∙ h
+
+-- it is the text of the playlists that were found
+pub text-of-found : (x y : Result Playlist ApplyFault) (o u : Found) (p q : Playlist) (text : List ℕ) → IsFound o x → IsFound u y
+    → ((b d : Playlist) → o.outline ≡ outline_of b → u.outline ≡ outline_of d → None ≡ missing_of b d) → o.playlist ≡ Some p → u.playlist ≡ Some q
+    → text ≡ spelling (merged p q) → chain x y ≡ Ok text
+text-of-found (Err g) y o u p q text found also has is_p is_q is = absurd found
+text-of-found (Ok b) (Err g) o u p q text found also has is_p is_q is = absurd also
+text-of-found (Ok b) (Ok d) o u p q text found also has is_p is_q is =
+    ap (λ p. and_then p (λ p. Ok (spelling p))) (has_by d.skipped b d (has b d found.0 also.0))
+    ∙ ap (λ z. Ok (spelling (merged z d))) (sym (same_found o.playlist b p found.1 is_p))
+    ∙ ap (λ z. Ok (spelling (merged p z))) (sym (same_found u.playlist d q also.1 is_q))
+    ∙ ap Ok (sym is)
+
+-- an answer, clause by clause
+
+pub answer-value : (r x : Result (List ℕ) ApplyFault) → IsAnswer r x → IfOk r (λ text. x ≡ Ok text)
+answer-value (Ok text) x h = h
+answer-value (Err fault) x h = tt
+
+pub answer-refused : (r x : Result (List ℕ) ApplyFault) → IsAnswer r x → IfErr r (λ fault. fault ≢ Memory → x ≡ Err fault)
+answer-refused (Ok text) x h = tt
+answer-refused (Err Memory) x h = λ other. absurd (other refl)
+answer-refused (Err (BadBase line)) x h = λ other. h
+answer-refused (Err (BadDelta line)) x h = λ other. h
+answer-refused (Err (NotRecent number)) x h = λ other. h
+
+pub answer-memory : (r x : Result (List ℕ) ApplyFault) → IsAnswer r x → IsErrOf r Memory → IsOk x
+answer-memory (Ok text) x h e = absurd (cc)
+answer-memory (Err Memory) x h e = h
+answer-memory (Err (BadBase line)) x h e = absurd (cc)
+answer-memory (Err (BadDelta line)) x h e = absurd (cc)
+answer-memory (Err (NotRecent number)) x h e = absurd (cc)
+
+-- faults of reading are no want of memory
+
+pub answer-base : (r : Result Playlist ReadFault) (f : ApplyFault) (x : Result (List ℕ) ApplyFault) → base_of r ≡ Err f → x ≡ Err f → IsAnswer (Err f) x
+answer-base r (BadBase line) x e h = h
+answer-base r (BadDelta line) x e h = h
+answer-base r (NotRecent number) x e h = h
+answer-base (Err fault) Memory x e h = absurd (cc)
+answer-base (Ok p) Memory x e h = no_memory p.skipped p e
+  where
+    no_memory : (s : Option Skip) (p : Playlist) → unless_skipping s p ≡ Err Memory → IsOk x
+    no_memory None p e = absurd (cc)
+    no_memory (Some skip) p e = absurd (cc)
+
+pub answer-delta : (r : Result Playlist ReadFault) (f : ApplyFault) (x : Result (List ℕ) ApplyFault) → delta_of r ≡ Err f → x ≡ Err f → IsAnswer (Err f) x
+answer-delta r (BadBase line) x e h = h
+answer-delta r (BadDelta line) x e h = h
+answer-delta r (NotRecent number) x e h = h
+answer-delta (Err fault) Memory x e h = absurd (cc)
+answer-delta (Ok p) Memory x e h = absurd (cc)

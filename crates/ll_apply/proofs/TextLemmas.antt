@@ -1,0 +1,183 @@
+-- Numbers, times and the URIs of media consist of ASCII bytes that may stand in quotes.
+use Rattle.std.proofs.Common.{◌≡◌, ℕ, zero, suc, ◌-◌, ◌/◌, ◌%◌, ◌≤◌, ◌<◌, ◌==◌, ◌&&◌, Bool, true, false, not, cond, List, [], ◌∷◌, ◌++◌, length, refl, ap, subst, ◌∙◌, arith, nat_le, bytes_eq, codes, decimal, slice_index, take}
+use Rattle.std.proofs.lemmas.Bool.{and_parts, and_from, or_from}
+use Rattle.std.proofs.lemmas.Bool.Decides.{nat_tests}
+use Rattle.std.proofs.lemmas.List.{length-append}
+use Rattle.std.proofs.lemmas.List.Folds.{list_all-append}
+use Rattle.std.proofs.lemmas.Slice.Eq.{bytes_eq-Decides}
+use Rattle.std.specs.Char.{is_ascii}
+use Rattle.std.specs.Fmt.{digits, digits_onto, digit_glyph}
+use Rattle.std.specs.List.{list_all, list_any}
+use Rattle.std.specs.Str.Lines.{strip_carriage_return}
+use Rattle.ll_attr.specs.Attributes.{is_quoted_byte}
+use Rattle.ll_item.specs.Names as names
+use Rattle.ll_time.specs.Calendar.{CivilDate, nth_date}
+use Rattle.ll_time.specs.Times.{digits_2, digits_3, digits_4, time_of, time_text}
+use Rattle.ll_page.specs.Uris.{segment_uri, part_uri, map_uri, report_uri}
+use Rattle.ll_read.specs.Lines.{is_uri, is_tag}
+use Rattle.ll_read.specs.Readable.{ends_no_line, is_line_feed}
+
+abbrev pub is_plain : ℕ → Bool
+is_plain b = is_ascii b && is_quoted_byte b
+
+abbrev pub ArePlain : List ℕ → Type 0
+ArePlain text = list_all is_plain text ≡ true
+
+-- what all bytes of two texts pass, all bytes of both together pass
+pub all-append : (p : ℕ → Bool) (a b : List ℕ) → list_all p a ≡ true → list_all p b ≡ true → list_all p (a ++ b) ≡ true
+all-append p a b h k = list_all-append p a b ∙ and_from (list_all p a) (list_all p b) h k
+
+-- a test that follows from another for each byte does so for a text
+pub all-so : (p q : ℕ → Bool) → ((b : ℕ) → p b ≡ true → q b ≡ true) → (text : List ℕ) → list_all p text ≡ true → list_all q text ≡ true
+all-so p q f [] h = refl
+all-so p q f (b ∷ bs) h =
+    let both = and_parts (p b) (list_all p bs) h in and_from (q b) (list_all q bs) (f b both.0) (all-so p q f bs both.1)
+
+plain-append : (a b : List ℕ) → ArePlain a → ArePlain b → ArePlain (a ++ b)
+plain-append a b p q = all-append is_plain a b p q
+
+-- numbers
+
+digit_plain : (d : ℕ) → d < 10 → is_plain (digit_glyph false d) ≡ true
+digit_plain d low = grind (arith, nat_tests)
+
+onto_by : (b : Bool) (xs ys : List ℕ) → ArePlain xs → ArePlain ys → ArePlain (cond b xs ys)
+onto_by true xs ys p q = p
+onto_by false xs ys p q = q
+
+onto_plain : (k n : ℕ) (more : List ℕ) → ArePlain more → ArePlain (digits_onto k 10 false n more)
+onto_plain zero n more p = p
+onto_plain (suc k) n more p =
+    let all : ArePlain (digit_glyph false (n % 10) ∷ more) = and_from _ (list_all is_plain more) (digit_plain (n % 10) (omega arith)) p in
+    onto_by (n / 10 == 0) _ _ all (onto_plain k (n / 10) (digit_glyph false (n % 10) ∷ more) all)
+
+digits-onto : (n : ℕ) → digits_onto 64 10 false n [] ≡ decimal n
+unfolding digits
+digits-onto n = refl
+
+pub plain-decimal : (n : ℕ) → ArePlain (decimal n)
+plain-decimal n = subst ArePlain (digits-onto n) (onto_plain 64 n [] refl)
+
+-- URIs
+
+pub plain-segment : (n : ℕ) → ArePlain (segment_uri n)
+unfolding segment_uri
+plain-segment n = plain-append (decimal n) (codes ".m4s") (plain-decimal n) refl
+
+pub plain-part : (n i : ℕ) → ArePlain (part_uri n i)
+unfolding part_uri
+plain-part n i =
+    plain-append (decimal n) (codes "." ++ (decimal i ++ codes ".m4s")) (plain-decimal n) (plain-append (decimal i) (codes ".m4s") (plain-decimal i) refl)
+
+pub plain-map : (n : ℕ) → ArePlain (map_uri n)
+unfolding map_uri
+plain-map n = plain-append (decimal n) (codes ".mp4") (plain-decimal n) refl
+
+name_byte : (b : ℕ) → names.is_name_byte b ≡ true → is_plain b ≡ true
+name_byte b h = grind (arith, nat_tests)
+
+pub plain-report : (name : List ℕ) → names.is_name name ≡ true → ArePlain (report_uri name)
+unfolding report_uri
+plain-report name h =
+    let all = and_parts (nat_le 1 (length name) && nat_le (length name) 32) (list_all names.is_name_byte name) h in
+    plain-append name (codes "/live.m3u8") (all-so names.is_name_byte is_plain name_byte name all.1) refl
+
+quoted : (b : ℕ) → is_plain b ≡ true → is_quoted_byte b ≡ true
+quoted b h = (and_parts (is_ascii b) (is_quoted_byte b) h).1
+
+some_test : (n : ℕ) → 1 ≤ n → nat_le 1 n ≡ true
+some_test n some = grind (arith, nat_tests)
+
+uri_plain : (text : List ℕ) → 1 ≤ length text → ArePlain text → is_uri text ≡ true
+uri_plain text some h =
+    and_from (nat_le 1 (length text)) (list_all is_quoted_byte text) (some_test (length text) some) (all-so is_plain is_quoted_byte quoted text h)
+
+some_more : (b : ℕ) (bs : List ℕ) → 1 ≤ length (b ∷ bs)
+some_more b bs = omega arith
+
+pub uri-segment : (n : ℕ) → (is_uri (segment_uri n) && not (is_tag (segment_uri n))) ≡ true
+unfolding segment_uri
+uri-segment n = ap (λ b. b && true) (uri_plain (segment_uri n) (some_more 115 (decimal n ++ codes ".m4s")) (plain-segment n))
+
+pub uri-part : (n i : ℕ) → is_uri (part_uri n i) ≡ true
+unfolding part_uri
+uri-part n i = uri_plain (part_uri n i) (some_more 115 (decimal n ++ (codes "." ++ (decimal i ++ codes ".m4s")))) (plain-part n i)
+
+pub uri-map : (n : ℕ) → is_uri (map_uri n) ≡ true
+unfolding map_uri
+uri-map n = uri_plain (map_uri n) (some_more 105 (codes "nit" ++ (decimal n ++ codes ".mp4"))) (plain-map n)
+
+pub uri-report : (name : List ℕ) → names.is_name name ≡ true → is_uri (report_uri name) ≡ true
+unfolding report_uri
+uri-report name h = uri_plain (report_uri name) (some_more 46 (codes "./" ++ (name ++ codes "/live.m3u8"))) (plain-report name h)
+
+-- times
+
+plain_2 : (n : ℕ) → ArePlain (digits_2 n)
+unfolding digits_2
+plain_2 n = plain-append (decimal (n / 10 % 10)) (decimal (n % 10)) (plain-decimal _) (plain-decimal _)
+
+plain_3 : (n : ℕ) → ArePlain (digits_3 n)
+unfolding digits_3
+plain_3 n =
+    plain-append (decimal (n / 100 % 10)) (decimal (n / 10 % 10) ++ decimal (n % 10)) (plain-decimal _)
+    (plain-append (decimal (n / 10 % 10)) (decimal (n % 10)) (plain-decimal _) (plain-decimal _))
+
+plain_4 : (n : ℕ) → ArePlain (digits_4 n)
+unfolding digits_4
+plain_4 n =
+    plain-append (decimal (n / 1000 % 10)) (decimal (n / 100 % 10) ++ (decimal (n / 10 % 10) ++ decimal (n % 10))) (plain-decimal _)
+    (plain-append (decimal (n / 100 % 10)) (decimal (n / 10 % 10) ++ decimal (n % 10)) (plain-decimal _)
+    (plain-append (decimal (n / 10 % 10)) (decimal (n % 10)) (plain-decimal _) (plain-decimal _)))
+
+plain-time_of : (date : CivilDate) (ms : ℕ) → ArePlain (time_of date ms)
+unfolding time_of
+plain-time_of date ms =
+    plain-append (digits_4 date.year) _ (plain_4 date.year)
+    (plain-append (digits_2 date.month) _ (plain_2 date.month)
+    (plain-append (digits_2 date.day) _ (plain_2 date.day)
+    (plain-append (digits_2 (ms / 3600000)) _ (plain_2 (ms / 3600000))
+    (plain-append (digits_2 (ms / 60000 % 60)) _ (plain_2 (ms / 60000 % 60))
+    (plain-append (digits_2 (ms / 1000 % 60)) _ (plain_2 (ms / 1000 % 60))
+    (plain-append (digits_3 (ms % 1000)) (codes "Z") (plain_3 (ms % 1000)) refl))))))
+
+pub plain-time : (ms : ℕ) → ArePlain (time_text ms)
+plain-time ms = plain-time_of (nth_date (ms / 86400000)) (ms % 86400000)
+
+-- no line ends in a plain text
+
+no_end : (b : ℕ) → is_quoted_byte b ≡ true → (is_line_feed b ≡ false) × ((b == 13) ≡ false)
+no_end b h = (grind (arith, nat_tests), grind (arith, nat_tests))
+
+no_feed : (text : List ℕ) → ArePlain text → list_any is_line_feed text ≡ false
+no_feed [] h = refl
+no_feed (b ∷ bs) h =
+    let p = and_parts (is_plain b) (list_all is_plain bs) h in
+    or_from (is_line_feed b) (list_any is_line_feed bs) (no_end b (quoted b p.0)).0 (no_feed bs p.1)
+
+no_return : (text : List ℕ) (i : ℕ) → ArePlain text → (slice_index text i == 13) ≡ false
+no_return [] i h = refl
+no_return (b ∷ bs) zero h = (no_end b (quoted b (and_parts (is_plain b) (list_all is_plain bs) h).0)).1
+no_return (b ∷ bs) (suc i) h = no_return bs i (and_parts (is_plain b) (list_all is_plain bs) h).1
+
+plain_stripped : (text : List ℕ) → ArePlain text → strip_carriage_return text ≡ text
+plain_stripped text h = ap (λ b. cond b (take (length text - 1) text) text) (no_return text (length text - 1) h)
+
+ends_none : (text : List ℕ) → ArePlain text → ends_no_line text ≡ true
+ends_none text h =
+    ap (λ b. not b && bytes_eq (strip_carriage_return text) text) (no_feed text h) ∙ (bytes_eq-Decides (strip_carriage_return text) text).1 (plain_stripped text h)
+
+some_behind : (xs : List ℕ) (b : ℕ) (bs : List ℕ) → 1 ≤ length (xs ++ b ∷ bs)
+some_behind xs b bs = let e = length-append xs (b ∷ bs) in omega (arith, e)
+
+some_time_of : (date : CivilDate) (ms : ℕ) → 1 ≤ length (time_of date ms)
+unfolding time_of
+some_time_of date ms = some_behind (digits_4 date.year) 45 _
+
+some_time : (ms : ℕ) → 1 ≤ length (time_text ms)
+some_time ms = some_time_of (nth_date (ms / 86400000)) (ms % 86400000)
+
+pub readable-time : (ms : ℕ) → (nat_le 1 (length (time_text ms)) && ends_no_line (time_text ms)) ≡ true
+readable-time ms =
+    and_from (nat_le 1 (length (time_text ms))) (ends_no_line (time_text ms)) (some_test (length (time_text ms)) (some_time ms))
+    (ends_none (time_text ms) (plain-time ms))

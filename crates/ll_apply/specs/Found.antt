@@ -1,0 +1,41 @@
+-- What was found of a text, and what comes of it.
+use Rattle.std.specs.Prelude.{◌≡◌, ◌≤◌, ℕ, List, Option, Some, None, Result, Ok, Err, IfSome, IsOk}
+use Rattle.ll_page.specs.Playlist.{Skip, Playlist}
+use Rattle.ll_read.specs.Lines.{number_end}
+use Rattle.ll_read.specs.Outline.{outline_of}
+use Rattle.ll_read.specs.declared.outline.Outline.{Outline}
+use Rattle.ll_apply.specs.Applied.{missing, put_upon}
+use Rattle.ll_apply.specs.declared.fault.ApplyFault.{ApplyFault}
+use Rattle.ll_apply.specs.declared.fault.ApplyFault.TheVariants.{Memory}
+use Rattle.ll_apply.specs.declared.found.Found.{Found}
+
+-- the outline of the playlist that was read, and it, unless no memory was found for it
+abbrev pub IsFound : {E : Type 0} → Found → Result Playlist E → Type 0
+IsFound f (Err fault) = ⊥
+IsFound f (Ok p) = (f.outline ≡ outline_of p) × IfSome f.playlist (λ q. q ≡ p)
+
+-- numbers that were read are at most this large
+abbrev pub AreRead : Outline → Type 0
+AreRead o = (o.sequence ≤ number_end) × IfSome o.skipped (λ n. n ≤ number_end)
+
+abbrev pub missing_by_skip : Option Skip → Playlist → Playlist → Option ℕ
+missing_by_skip None base delta = None
+missing_by_skip (Some skip) base delta = missing base delta.sequence skip.count
+
+-- the least number that an update skips and a playlist lacks
+abbrev pub missing_of : Playlist → Playlist → Option ℕ
+missing_of base delta = missing_by_skip delta.skipped base delta
+
+abbrev pub merged_by : Option Skip → Playlist → Playlist → Playlist
+merged_by None base delta = delta
+merged_by (Some skip) base delta = put_upon base delta skip
+
+-- the playlist that an update makes of one that lacks nothing
+abbrev pub merged : Playlist → Playlist → Playlist
+merged base delta = merged_by delta.skipped base delta
+
+-- an answer is this one, or want of memory where there is a text
+abbrev pub IsAnswer : Result (List ℕ) ApplyFault → Result (List ℕ) ApplyFault → Type 0
+IsAnswer (Ok text) right = right ≡ Ok text
+IsAnswer (Err Memory) right = IsOk right
+IsAnswer (Err fault) right = right ≡ Err fault

@@ -1,0 +1,78 @@
+ghost use Rattle.std.specs.Prelude.{◌≡◌, IfOk, IfErr, Err};
+ghost use Rattle.ll_apply.specs.Found.{AreRead, IsFound};
+ghost use Rattle.ll_apply.specs.Texts.{base_of, delta_of};
+ghost use Rattle.ll_apply.specs.Texts as spec;
+ghost use Rattle.ll_read.specs.Reading.{playlist_in};
+
+use crate::fault::ApplyFault;
+use ll_read::{Outline, Playlist, ReadFault, read, read_outline};
+use std::alloc::Global;
+
+/// What a text spells. Where no memory is found for the playlist its outline is told alone, so that each fault of the texts
+/// comes before want of memory.
+#[derive(Debug, Drop)]
+pub(crate) struct Found {
+    pub(crate) outline: Outline,
+    pub(crate) playlist: Option<Playlist>,
+}
+
+/// What a text spells.
+fn look(alloc: Global, bytes: &[u8]) -> Result<Found, ReadFault>
+    ensures found { IfOk result (λ f. IsFound f (playlist_in bytes.now)) }
+    ensures refused { IfErr result (λ fault. playlist_in bytes.now ≡ Err fault) }
+{
+    match read(alloc, bytes) {
+        Ok(playlist) => Ok(Found {
+            outline: playlist.outline(),
+            playlist: Some(playlist),
+        }),
+        Err(ReadFault::Memory) => Ok(Found {
+            outline: read_outline(bytes),
+            playlist: None,
+        }),
+        Err(fault) => Err(fault),
+    }
+}
+
+/// What the earlier text spells: a full playlist.
+pub(crate) fn look_at_base(alloc: Global, bytes: &[u8]) -> Result<Found, ApplyFault>
+    ensures found { IfOk result (λ f. IsFound f (base_of (playlist_in bytes.now))) }
+    ensures refused { IfErr result (λ fault. base_of (playlist_in bytes.now) ≡ Err fault) }
+{
+    match look(alloc, bytes) {
+        Ok(found) => {
+            if found.outline.skipped.is_some() {
+                Err(ApplyFault::BadBase { line: None })
+            } else {
+                Ok(found)
+            }
+        }
+        Err(fault) => Err(ApplyFault::BadBase {
+            line: line_of(fault),
+        }),
+    }
+}
+
+/// What the later text spells, whose numbers are not too large to be added.
+pub(crate) fn look_at_delta(alloc: Global, bytes: &[u8]) -> Result<Found, ApplyFault>
+    ensures found { IfOk result (λ f. IsFound f (delta_of (playlist_in bytes.now))) }
+    ensures refused { IfErr result (λ fault. delta_of (playlist_in bytes.now) ≡ Err fault) }
+    ensures numbers { IfOk result (λ f. AreRead f.outline) }
+{
+    match look(alloc, bytes) {
+        Ok(found) => Ok(found),
+        Err(fault) => Err(ApplyFault::BadDelta {
+            line: line_of(fault),
+        }),
+    }
+}
+
+/// The line that can't stand in its place, where there is one.
+fn line_of(fault: ReadFault) -> Option<u64>
+    ensures { result ≡ spec.line_of fault }
+{
+    match fault {
+        ReadFault::BadLine { line } => Some(line),
+        ReadFault::NotPlaylist | ReadFault::Memory => None,
+    }
+}

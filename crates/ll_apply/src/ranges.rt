@@ -1,0 +1,62 @@
+//! The date ranges of the playlist that an update makes of an earlier one, as text.
+ghost use Rattle.std.specs.Prelude.{◌≡◌, ◌++◌, OnOk, string_bytes, flat_map, filter};
+ghost use Rattle.std.specs.Option.{option_map};
+ghost use Rattle.ll_apply.specs.Applied.{ranges_by};
+ghost use Rattle.ll_apply.specs.Applied as spec;
+ghost use Rattle.ll_page.specs.Spelling.{date_range_line};
+
+use ll_attr::Text;
+use ll_page::lines::push_date_range_line;
+use ll_read::{DateRange, Playlist};
+use std::alloc::AllocError;
+
+/// Adds the date ranges: those of the update, where it doesn't say which were taken away; else those of the earlier playlist
+/// that stay, and then the update's.
+pub(crate) fn push_ranges(
+    text: &mut String,
+    base: &Playlist,
+    delta: &Playlist,
+    removed: Option<&[Text]>,
+) -> Result<(), AllocError>
+    ensures { OnOk result (string_bytes text.new ≡ string_bytes text.old
+        ++ flat_map date_range_line (ranges_by (option_map (λ ids. ids.now) removed.entry) base.now.ranges delta.now.ranges)) }
+{
+    if let Some(removed) = removed {
+        push_staying(text, base, delta, removed)?;
+    }
+    delta.push_ranges(text)
+}
+
+/// Adds the date ranges of an earlier playlist that were not taken away and that the update doesn't list.
+fn push_staying(
+    text: &mut String,
+    base: &Playlist,
+    delta: &Playlist,
+    removed: &[Text],
+) -> Result<(), AllocError>
+    ensures { OnOk result (string_bytes text.new ≡ string_bytes text.old
+        ++ flat_map date_range_line (filter (spec.stays removed.now delta.now.ranges) base.now.ranges)) }
+{
+    for place in 0..base.ranges() {
+        if let Some(range) = base.range(place) {
+            if stays(removed, delta, range) {
+                push_date_range_line(text, range.id, range.attributes)?;
+            }
+        }
+    }
+    Ok(())
+}
+
+/// Whether a date range was not taken away, and the update doesn't list it.
+fn stays(removed: &[Text], delta: &Playlist, range: DateRange<'_>) -> bool
+    ensures { result ≡ spec.stays removed.now delta.now.ranges (record { id = range.entry.id.now; attributes = range.entry.attributes.now }) }
+{
+    !is_one_of(range.id, removed) && !delta.has_range(range.id)
+}
+
+/// Whether an id is one of these.
+fn is_one_of(id: &str, ids: &[Text]) -> bool
+    ensures { result ≡ spec.is_one_of id.now ids.now }
+{
+    ids.iter().any(|other| id == other.as_str())
+}

@@ -1,0 +1,121 @@
+//! The segments of the playlist that an update makes of an earlier one, as text.
+ghost use Rattle.std.specs.Prelude.{◌≡◌, ◌++◌, OnOk, string_bytes, map, take, drop};
+ghost use Rattle.std.specs.Option.{option_map};
+ghost use Rattle.ll_apply.specs.Applied.{or_else, with_map};
+ghost use Rattle.ll_apply.specs.Order.{both, both_lines, force_behind, lines_from, shown};
+ghost use Rattle.ll_page.specs.Spelling.{segment_lines};
+
+use ll_attr::Micros;
+use ll_page::Uri;
+use ll_page::lines::*;
+use ll_read::Finished;
+use std::alloc::AllocError;
+
+/// Adds the segments that are kept of an earlier playlist, so many from this place on and without their parts, and then those
+/// of the update. A MAP line stands at the first of all, and at each broken one.
+pub(crate) fn push_segments(
+    text: &mut String,
+    base: &[Finished],
+    from: usize,
+    count: usize,
+    own: &[Finished],
+) -> Result<(), AllocError>
+    ensures { OnOk result (string_bytes text.new ≡ string_bytes text.old ++ both from count base.now own.now) }
+{
+    let (gone, kept) = split_kept(base, from, count);
+    push_both(text, map_behind(None, gone), kept, own)
+}
+
+/// The segments before the kept ones, which begin at this place, and so many kept ones.
+fn split_kept(segments: &[Finished], from: usize, count: usize) -> (&[Finished], &[Finished])
+    ensures gone { result.0.now ≡ take from segments.now }
+    ensures kept { result.1.now ≡ take count (drop from segments.now) }
+{
+    let (gone, rest) = segments.split_at(segments.len().min(from));
+    let (kept, _) = rest.split_at(rest.len().min(count));
+    (gone, kept)
+}
+
+/// Adds kept segments behind this map in force, without their parts, and then those of the update. The first of all leads.
+fn push_both(
+    text: &mut String,
+    before: Option<&str>,
+    kept: &[Finished],
+    own: &[Finished],
+) -> Result<(), AllocError>
+    ensures { OnOk result (string_bytes text.new ≡ string_bytes text.old
+        ++ both_lines (option_map (λ uri. uri.now) before.entry) kept.now own.now) }
+{
+    if kept.is_empty() {
+        return push_in_order(text, own, None, true, true);
+    }
+    push_in_order(text, kept, before, true, false)?;
+    push_in_order(text, own, map_behind(before, kept), false, true)
+}
+
+/// The map in force behind segments, where this one is in force before them.
+fn map_behind<'a>(before: Option<&'a str>, segments: &'a [Finished]) -> Option<&'a str>
+    ensures { option_map (λ uri. uri.now) result ≡ force_behind (option_map (λ uri. uri.now) before.entry) segments.now }
+{
+    let mut map = before;
+    for segment in segments {
+        map = map_at(map, segment);
+    }
+    map
+}
+
+/// The map in force at a segment, where this one is in force before it.
+fn map_at<'a>(before: Option<&'a str>, segment: &'a Finished) -> Option<&'a str>
+    ensures { option_map (λ uri. uri.now) result ≡ or_else segment.now.block.map (option_map (λ uri. uri.now) before.entry) }
+{
+    match &segment.block.map {
+        Some(uri) => Some(uri.as_str()),
+        None => before,
+    }
+}
+
+/// Adds segments behind this map in force, with their parts or without them. The first of them leads the playlist or doesn't.
+fn push_in_order(
+    text: &mut String,
+    segments: &[Finished],
+    before: Option<&str>,
+    leads: bool,
+    with_parts: bool,
+) -> Result<(), AllocError>
+    ensures { OnOk result (string_bytes text.new ≡ string_bytes text.old
+        ++ lines_from leads (option_map (λ uri. uri.now) before.entry) (map (shown with_parts) segments.now)) }
+{
+    let (mut map, mut leads) = (before, leads);
+    for segment in segments {
+        map = map_at(map, segment);
+        let has_map = leads || segment.block.broken;
+        push_segment(text, segment, if has_map { map } else { None }, with_parts)?;
+        leads = false;
+    }
+    Ok(())
+}
+
+/// Adds a segment with this map, with its parts or without them.
+fn push_segment(
+    text: &mut String,
+    segment: &Finished,
+    map: Option<&str>,
+    with_parts: bool,
+) -> Result<(), AllocError>
+    ensures { OnOk result (string_bytes text.new ≡ string_bytes text.old
+        ++ segment_lines (with_map (option_map (λ uri. uri.now) map.entry) (shown with_parts segment.now))) }
+{
+    push_broken_line(text, segment.block.broken)?;
+    if let Some(uri) = map {
+        push_map_line(text, Uri::Text(uri))?;
+    }
+    push_spelled_time_line(text, segment.block.time.as_str())?;
+    if with_parts {
+        segment.block.push_parts(text)?;
+    }
+    push_finished_lines(
+        text,
+        Micros(segment.duration),
+        Uri::Text(segment.uri.as_str()),
+    )
+}

@@ -1,0 +1,69 @@
+-- The lines that a reading stands for, and what is still empty in its playlist: a line more is put at the end of those lines.
+use Rattle.std.proofs.Common.{◌≡◌, List, [], ◌∷◌, ◌++◌, map, None}
+use Rattle.std.specs.List.{flat_map}
+use Rattle.ll_page.specs.Playlist.{Playlist}
+use Rattle.ll_read.specs.Lines.{Line, First, Version, TargetDuration, Control, MediaSequence, DiscontinuitySequence, DateRange, Discontinuity, Map, Duration, ReportOf}
+use Rattle.ll_read.specs.Shape.{Reading, Place, AtStart, BehindFirst, BehindVersion, BehindTargetDuration, BehindControl, BehindPartTarget, BehindMediaSequence, InRanges, BetweenSegments, BehindDiscontinuity, BehindMap, InSegment, BehindDuration, InReports, AtEnd}
+use Rattle.ll_read.specs.Written.{lines_of_header, lines_of_skip, lines_of_break, lines_of_block, lines_of_segment, lines_of_open, lines_of}
+
+-- the header's lines and those of date ranges
+abbrev pub ranged : Playlist → List Line
+ranged p = lines_of_header p.header ++ (MediaSequence p.sequence ∷ DiscontinuitySequence p.discontinuity ∷ map DateRange p.ranges)
+
+-- and those of finished segments
+abbrev pub segmented : Playlist → List Line
+segmented p = ranged p ++ (lines_of_skip p.skipped ++ flat_map lines_of_segment p.segments)
+
+-- and those of an open segment and of reports
+abbrev pub reported : Playlist → List Line
+reported p = segmented p ++ (lines_of_open p.open_block ++ map ReportOf p.reports)
+
+abbrev pub so_far_at : Place → Playlist → List Line
+so_far_at AtStart p = []
+so_far_at BehindFirst p = First ∷ []
+so_far_at BehindVersion p = First ∷ Version p.header.version ∷ []
+so_far_at BehindTargetDuration p = First ∷ Version p.header.version ∷ TargetDuration p.header.target ∷ []
+so_far_at BehindControl p =
+    First ∷ Version p.header.version ∷ TargetDuration p.header.target
+    ∷ Control p.header.hold_back p.header.skip_until p.header.skips_date_ranges ∷ []
+so_far_at BehindPartTarget p = lines_of_header p.header
+so_far_at BehindMediaSequence p = lines_of_header p.header ++ MediaSequence p.sequence ∷ []
+so_far_at InRanges p = ranged p
+so_far_at BetweenSegments p = segmented p
+so_far_at BehindDiscontinuity p = segmented p ++ Discontinuity ∷ []
+so_far_at (BehindMap broken uri) p = segmented p ++ (lines_of_break broken ++ Map uri ∷ [])
+so_far_at (InSegment b) p = segmented p ++ lines_of_block b
+so_far_at (BehindDuration b d) p = segmented p ++ (lines_of_block b ++ Duration d ∷ [])
+so_far_at InReports p = reported p
+so_far_at AtEnd p = lines_of p
+
+-- the lines that a reading stands for
+abbrev pub so_far : Reading → List Line
+so_far r = so_far_at r.place r.playlist
+
+-- nothing stands behind the segments
+abbrev pub NothingBehindSegments : Playlist → Type 0
+NothingBehindSegments p = (p.open_block ≡ None) × (p.reports ≡ []) × (p.hint ≡ None)
+
+-- nor behind the date ranges
+abbrev pub NothingBehindRanges : Playlist → Type 0
+NothingBehindRanges p = (p.skipped ≡ None) × (p.segments ≡ []) × NothingBehindSegments p
+
+-- nor behind the header
+abbrev pub NothingBehindHeader : Playlist → Type 0
+NothingBehindHeader p = (p.ranges ≡ []) × NothingBehindRanges p
+
+-- what is empty where a reading stands
+abbrev pub IsEarlyAt : Place → Playlist → Type 0
+IsEarlyAt InRanges p = NothingBehindRanges p
+IsEarlyAt BetweenSegments p = NothingBehindSegments p
+IsEarlyAt BehindDiscontinuity p = NothingBehindSegments p
+IsEarlyAt (BehindMap broken uri) p = NothingBehindSegments p
+IsEarlyAt (InSegment b) p = NothingBehindSegments p
+IsEarlyAt (BehindDuration b d) p = NothingBehindSegments p
+IsEarlyAt InReports p = p.hint ≡ None
+IsEarlyAt AtEnd p = Unit {0}
+IsEarlyAt place p = NothingBehindHeader p
+
+abbrev pub IsEarly : Reading → Type 0
+IsEarly r = IsEarlyAt r.place r.playlist
