@@ -50,13 +50,33 @@ for output in "$room"/rows/*.stdout; do
     expect "$name" "$output" "$status" "$fault" "${words[@]}" <"$script"
 done
 
+# A row of tests/apply is a folder: two playlists, what comes of them, and how that ends where it isn't with status 0.
+for row in "$here"/apply/*/; do
+    row=${row%/}
+    ending=0
+    if [ -e "$row/ending" ]; then
+        ending=$(<"$row/ending")
+    fi
+    read -r status fault <<<"$ending"
+    expect "apply ${row##*/}" "$row/stdout" "$status" "$fault" apply "$row/base" "$row/delta" </dev/null
+done
+
 first=$here/../examples/first.script
 expect usage_of_no_word /dev/null 2 'llhls: usage' <"$first"
 expect usage_of_another_word /dev/null 2 'llhls: usage' play <"$first"
 expect usage_of_a_longer_word /dev/null 2 'llhls: usage' replays <"$first"
 expect usage_of_an_empty_word /dev/null 2 'llhls: usage' '' <"$first"
 expect usage_of_no_utf8 /dev/null 2 'llhls: usage' $'\xff' <"$first"
+expect usage_of_apply_alone /dev/null 2 'llhls: usage' apply </dev/null
+expect usage_of_apply_of_one_file /dev/null 2 'llhls: usage' apply "$first" </dev/null
+expect usage_of_apply_of_three_files /dev/null 2 'llhls: usage' apply "$first" "$first" "$first" </dev/null
+expect usage_of_replay_of_a_file /dev/null 2 'llhls: usage' replay "$first" </dev/null
 expect read_of_a_folder /dev/null 4 'llhls: Read' replay <"$here"
+recent=$here/apply/applies_to_a_recent_base
+expect read_of_no_base /dev/null 4 'llhls: Read' apply "$room/none" "$recent/delta" </dev/null
+expect read_of_a_folder_as_the_base /dev/null 4 'llhls: Read' apply "$here" "$recent/delta" </dev/null
+expect read_of_no_delta /dev/null 4 'llhls: Read' apply "$recent/base" "$room/none" </dev/null
+expect read_of_no_delta_behind_a_bad_base /dev/null 4 'llhls: Read' apply /dev/null "$room/none" </dev/null
 
 # What is written into a full device is lost, and a script without answers is run to its end.
 timeout 60 "$program" replay <"$first" >/dev/full 2>"$room/stderr"
@@ -65,6 +85,13 @@ if [ "$?" = 4 ] && [ "$(cat "$room/stderr")" = 'llhls: Write' ]; then
 else
     failed=$((failed + 1))
     echo "FAILED write_to_a_full_device: $(cat "$room/stderr")"
+fi
+timeout 60 "$program" apply "$recent/base" "$recent/delta" >/dev/full 2>"$room/stderr"
+if [ "$?" = 4 ] && [ "$(cat "$room/stderr")" = 'llhls: Write' ]; then
+    passed=$((passed + 1))
+else
+    failed=$((failed + 1))
+    echo "FAILED apply_to_a_full_device: $(cat "$room/stderr")"
 fi
 if timeout 60 "$program" replay <"$here/rows/only_ends_of_lines" >/dev/full 2>"$room/stderr" && [ ! -s "$room/stderr" ]; then
     passed=$((passed + 1))

@@ -1,4 +1,5 @@
 pub mod Applied
+pub mod Faults
 pub mod Found
 pub mod Law
 pub mod Order

@@ -24,15 +24,18 @@ with_line_within (MediaSequence n) o h w = (h, w.1)
 with_line_within (Skipped skip) o h w = (w.0, h)
 with_line_within line o h w = w
 
-step_within : (r : Reading) (o : Option Line) (q : Reading) → IsSmall o → next_line r o ≡ Some q → IsWithin (outline_of r.playlist) → IsWithin (outline_of q.playlist)
+step_within : (r : Reading) (o : Option Line) (q : Reading) → IsSmall o → next_line r o ≡ Some q
+    → IsWithin (outline_of r.playlist) → IsWithin (outline_of q.playlist)
 step_within r None q small e w = absurd (cc)
 step_within r (Some line) q small e w = subst IsWithin (sym (outlined r line q e)) (with_line_within line (outline_of r.playlist) small.line w)
 
-one_more : (n : ℕ) (o : Option Reading) (more : Reading → Result Playlist ReadFault) (p : Playlist) → and_then n o more ≡ Ok p → (q : Reading) × (o ≡ Some q) × (more q ≡ Ok p)
+one_more : (n : ℕ) (o : Option Reading) (more : Reading → Result Playlist ReadFault) (p : Playlist)
+    → and_then n o more ≡ Ok p → (q : Reading) × (o ≡ Some q) × (more q ≡ Ok p)
 one_more n None more p h = absurd (cc)
 one_more n (Some q) more p h = (q, refl, h)
 
-lines_within : (n : ℕ) (r : Reading) (lines : List (List ℕ)) (p : Playlist) → IsWithin (outline_of r.playlist) → read_from n r lines ≡ Ok p → IsWithin (outline_of p)
+lines_within : (n : ℕ) (r : Reading) (lines : List (List ℕ)) (p : Playlist)
+    → IsWithin (outline_of r.playlist) → read_from n r lines ≡ Ok p → IsWithin (outline_of p)
 lines_within n r [] p w h = subst (λ q. IsWithin (outline_of q)) (at_end n r.place r.playlist p h) w
 lines_within n r (rest ∷ []) p w h = subst (λ q. IsWithin (outline_of q)) (last_left n r rest p h) w
 lines_within n r (line ∷ below ∷ more) p w h =
@@ -48,7 +51,8 @@ skip_within : (o : Option Skip) → Where IsNumber (option_map (λ (s : Skip). s
 skip_within None h = tt
 skip_within (Some s) h = h
 
-pub read-within : (text : List ℕ) (p : Playlist) → playlist_in text ≡ Ok p → (p.sequence ≤ number_end) × Where (λ (s : Skip). s.count ≤ number_end) p.skipped
+pub read-within : (text : List ℕ) (p : Playlist) → playlist_in text ≡ Ok p
+    → (p.sequence ≤ number_end) × Where (λ (s : Skip). s.count ≤ number_end) p.skipped
 read-within text p h =
     let lines = parts_at 10 text in
     let w = lines_within 1 start lines p (omega arith, tt) (spelled (is_playlist text) (read_from 1 start lines) p h) in

@@ -24,7 +24,8 @@ not_if true uri p q h = cc
 not_if false uri p q h = cc
 
 -- a URI stands behind a segment's duration alone
-some_segment : (place : Place) (uri : List ℕ) (p : Playlist) (q : Reading) → next_at place (Uri uri) p ≡ Some q → (b : Block) × ((draft_at place p).segment ≡ Some b)
+some_segment : (place : Place) (uri : List ℕ) (p : Playlist) (q : Reading)
+    → next_at place (Uri uri) p ≡ Some q → (b : Block) × ((draft_at place p).segment ≡ Some b)
 some_segment (BehindDuration b d) uri p q h = (b, refl)
 some_segment InRanges uri p q h = absurd (not_if (may_end p) uri p q h)
 some_segment BetweenSegments uri p q h = absurd (not_if (may_end p) uri p q h)
@@ -68,8 +69,8 @@ pub last_left : (n : ℕ) (r : Reading) (rest : List ℕ) (p : Playlist) → rea
 last_left n r [] p h = at_end n r.place r.playlist p h
 last_left n r (b ∷ bs) p h = absurd (cc)
 
-by_next : (n : ℕ) (r : Reading) (rest line shown below : List ℕ) (p : Playlist) (o : Option Reading) → parts_at 10 rest ≡ line ∷ parts_at 10 below → shown ≡ strip_carriage_return line
-    → next_line r (line_in shown) ≡ o → read_from n r (parts_at 10 rest) ≡ Ok p
+by_next : (n : ℕ) (r : Reading) (rest line shown below : List ℕ) (p : Playlist) (o : Option Reading)
+    → parts_at 10 rest ≡ line ∷ parts_at 10 below → shown ≡ strip_carriage_return line → next_line r (line_in shown) ≡ o → read_from n r (parts_at 10 rest) ≡ Ok p
     → (q : Reading) × (next_line r (line_in shown) ≡ Some q) × (read_from (n + 1) q (parts_at 10 below) ≡ Ok p)
 by_next n r rest line shown below p None e s h w = let bad = bad_here n r rest line shown below (Ok p) e s h w in absurd (cc)
 by_next n r rest line shown below p (Some q) e s h w = (q, h, goes_on n r q rest line shown below (Ok p) e s h w)
@@ -82,8 +83,8 @@ one_at_most line o = omega arith
 abbrev pub IsLeft : Outline → List ℕ → Playlist → Type 0
 IsLeft o rest p = (n : ℕ) × (r : Reading) × (o ≡ outline_of r.playlist) × (read_from n r (parts_at 10 rest) ≡ Ok p)
 
-pub line_more : (o : Outline) (rest line shown below : List ℕ) (p : Playlist) (l : Line) → parts_at 10 rest ≡ line ∷ parts_at 10 below → shown ≡ strip_carriage_return line
-    → Some l ≡ line_in shown → IsLeft o rest p → IsLeft (with_line l o) below p
+pub line_more : (o : Outline) (rest line shown below : List ℕ) (p : Playlist) (l : Line)
+    → parts_at 10 rest ≡ line ∷ parts_at 10 below → shown ≡ strip_carriage_return line → Some l ≡ line_in shown → IsLeft o rest p → IsLeft (with_line l o) below p
 line_more o rest line shown below p l e s is (n, r, same, w) =
     let m = by_next n r rest line shown below p (next_line r (line_in shown)) e s refl w in
     (n + 1, m.0, ap (with_line l) same ∙ sym (outlined r l m.0 (ap (next_line r) is ∙ m.1)), m.2)

@@ -20,4 +20,6 @@ pub use playlist::{Block, DateRange, Finished, Header, PartLine, Playlist, Repor
 pub use reading::read;
 
 #[cfg(test)]
+mod tables_tests;
+#[cfg(test)]
 mod tests;

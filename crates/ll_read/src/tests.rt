@@ -1,98 +1,197 @@
 use super::*;
+use std::alloc::Global;
+use std::process::Abort;
 use std::test::Fail;
 
-const HEADER: &str =
-    "#EXTM3U\n#EXT-X-VERSION:10\n#EXT-X-TARGETDURATION:4\n#EXT-X-SERVER-CONTROL:CAN-BLOCK-RELOAD=YES,PART-HOLD-BACK=3.000000,CAN-SKIP-UNTIL=24.000000,CAN-SKIP-DATERANGES=YES\n#EXT-X-PART-INF:PART-TARGET=1.000000\n#EXT-X-MEDIA-SEQUENCE:1\n#EXT-X-DISCONTINUITY-SEQUENCE:0\n";
+/// A playlist with every kind of line but two: it skips nothing and has not ended.
+const FULL: &str = "#EXTM3U\n\
+    #EXT-X-VERSION:10\n\
+    #EXT-X-TARGETDURATION:4\n\
+    #EXT-X-SERVER-CONTROL:CAN-BLOCK-RELOAD=YES,PART-HOLD-BACK=3.000000,CAN-SKIP-UNTIL=24.000000,CAN-SKIP-DATERANGES=YES\n\
+    #EXT-X-PART-INF:PART-TARGET=1.000000\n\
+    #EXT-X-MEDIA-SEQUENCE:7\n\
+    #EXT-X-DISCONTINUITY-SEQUENCE:2\n\
+    #EXT-X-DATERANGE:ID=\"ad 1\",START-DATE=\"1970-01-01T00:00:00Z\",DURATION=1.5\n\
+    #EXT-X-DATERANGE:ID=\"ad 2\"\n\
+    #EXT-X-MAP:URI=\"init0.mp4\"\n\
+    #EXT-X-PROGRAM-DATE-TIME:1970-01-01T00:00:07.000Z\n\
+    #EXTINF:1.500000,\n\
+    s7.m4s\n\
+    #EXT-X-PROGRAM-DATE-TIME:1970-01-01T00:00:08.500Z\n\
+    #EXT-X-PART:DURATION=0.500000,URI=\"s8.0.m4s\",INDEPENDENT=YES\n\
+    #EXT-X-PART:DURATION=0.250000,URI=\"s8.1.m4s\"\n\
+    #EXTINF:0.750000,\n\
+    s8.m4s\n\
+    #EXT-X-DISCONTINUITY\n\
+    #EXT-X-MAP:URI=\"init1.mp4\"\n\
+    #EXT-X-PROGRAM-DATE-TIME:1970-01-01T00:00:09.250Z\n\
+    #EXT-X-PART:DURATION=0.999999,URI=\"s9.0.m4s\"\n\
+    #EXT-X-RENDITION-REPORT:URI=\"../lo/live.m3u8\",LAST-MSN=9,LAST-PART=3\n\
+    #EXT-X-PRELOAD-HINT:TYPE=PART,URI=\"s9.1.m4s\"\n";
 
-/// What a text behind the header comes to: how many date ranges, segments and reports it has, or its fault.
-fn told(rt: &HostRuntime, header: &str, rest: &str) -> Result<String, Fail> {
-    let text = format!(in rt.alloc(); "{header}{rest}")?;
-    let told = match read(rt.alloc(), text.as_bytes()) {
-        Ok(p) => format!(in rt.alloc(); "{} {} {}", p.ranges(), p.segments.len(), p.reports.len())?,
-        Err(fault) => format!(in rt.alloc(); "{fault}")?,
+/// A delta update of a playlist that has ended.
+const DELTA: &str = "#EXTM3U\n\
+    #EXT-X-VERSION:10\n\
+    #EXT-X-TARGETDURATION:4\n\
+    #EXT-X-SERVER-CONTROL:CAN-BLOCK-RELOAD=YES,PART-HOLD-BACK=3.000000,CAN-SKIP-UNTIL=24.000000,CAN-SKIP-DATERANGES=YES\n\
+    #EXT-X-PART-INF:PART-TARGET=1.000000\n\
+    #EXT-X-MEDIA-SEQUENCE:5\n\
+    #EXT-X-DISCONTINUITY-SEQUENCE:0\n\
+    #EXT-X-DATERANGE:ID=\"ad 2\"\n\
+    #EXT-X-SKIP:SKIPPED-SEGMENTS=3,RECENTLY-REMOVED-DATERANGES=\"ad 1\tad 3\"\n\
+    #EXT-X-PROGRAM-DATE-TIME:1970-01-01T00:00:08.000Z\n\
+    #EXTINF:1.000000,\n\
+    s8.m4s\n\
+    #EXT-X-ENDLIST\n";
+
+/// A text whose lines end in CR LF in place of LF.
+fn with_returns(alloc: Global, text: &str) -> Result<String, Fail> {
+    let mut other = String::new(alloc);
+    for line in text.lines() {
+        other.push_str(line)?;
+        other.push_str("\r\n")?;
+    }
+    Ok(other)
+}
+
+/// A text is read as a playlist that comes to this and is written as another text.
+fn expect_written(
+    rt: &impl Abort,
+    alloc: Global,
+    text: &str,
+    outline: Outline,
+    again: &str,
+) -> Result<(), Fail> {
+    let playlist = read(alloc, text.as_bytes())?;
+    let written = playlist.write(alloc)?;
+    assert_eq!(rt; written.as_str(), again);
+    assert_eq!(rt; playlist.outline(), outline);
+    assert_eq!(rt; read_outline(text.as_bytes()), outline);
+    Ok(())
+}
+
+#[test]
+fn what_was_read_is_written_again(rt: HostRuntime) -> Result<(), Fail> {
+    let full = Outline {
+        sequence: 7,
+        segments: 2,
+        skipped: None,
+    };
+    let delta = Outline {
+        sequence: 5,
+        segments: 1,
+        skipped: Some(3),
+    };
+    for (text, outline) in [(FULL, full), (DELTA, delta)] {
+        expect_written(&rt, rt.alloc(), text, outline, text)?;
+        let returns = with_returns(rt.alloc(), text)?;
+        expect_written(&rt, rt.alloc(), returns.as_str(), outline, text)?;
+    }
+    Ok(())
+}
+
+/// What a text comes to: how many date ranges, segments and reports it has, or its fault.
+pub(crate) fn told(alloc: Global, text: &[u8]) -> Result<String, Fail> {
+    let told = match read(alloc, text) {
+        Ok(p) => format!(in alloc; "{} {} {}", p.ranges(), p.segments.len(), p.reports.len())?,
+        Err(fault) => format!(in alloc; "{fault}")?,
     };
     Ok(told)
 }
 
-#[test]
-fn lines_behind_the_header(rt: HostRuntime) -> Result<(), Fail> {
-    let part = "#EXT-X-PROGRAM-DATE-TIME:t\n#EXT-X-PART:DURATION=0.500000,URI=\"p\"\n";
-    let table = [
-        ("#EXT-X-ENDLIST\n", "0 0 0"),
-        ("#EXT-X-ENDLIST\r\n", "0 0 0"),
-        ("#EXT-X-ENDLIST", "BadLine 8"),
-        ("", "BadLine 8"),
-        ("#EXT-X-ENDLIST\nx", "BadLine 9"),
-        (
-            "#EXT-X-DATERANGE:ID=\"a\",X-A=1\n#EXT-X-DATERANGE:ID=\"b\"\n#EXT-X-ENDLIST\n",
-            "2 0 0",
-        ),
-        (
-            "#EXT-X-DATERANGE:ID=\"a\"\n#EXT-X-DATERANGE:ID=\"a\"\n#EXT-X-ENDLIST\n",
-            "BadLine 9",
-        ),
-        (
-            "#EXT-X-MAP:URI=\"i\"\n#EXT-X-PROGRAM-DATE-TIME:t\n#EXTINF:1.000000,\nu\n#EXT-X-ENDLIST\n",
-            "0 1 0",
-        ),
-        (
-            "#EXT-X-PROGRAM-DATE-TIME:t\n#EXTINF:1.000000,\nu\n#EXT-X-ENDLIST\n",
-            "BadLine 8",
-        ),
-        (
-            "#EXT-X-DISCONTINUITY\n#EXT-X-PROGRAM-DATE-TIME:t\n",
-            "BadLine 9",
-        ),
-        ("#EXT-X-MAP:URI=\"\"\n", "BadLine 8"),
-        ("#EXT-X-SKIP:SKIPPED-SEGMENTS=0\n", "BadLine 8"),
-        ("#EXT-X-SKIP:SKIPPED-SEGMENTS=02\n", "BadLine 8"),
-        (
-            "#EXT-X-SKIP:SKIPPED-SEGMENTS=2\n#EXT-X-ENDLIST\n",
-            "BadLine 9",
-        ),
-        (
-            "#EXT-X-SKIP:SKIPPED-SEGMENTS=2305843009213693952,RECENTLY-REMOVED-DATERANGES=\"\"\n#EXT-X-PROGRAM-DATE-TIME:t\n#EXTINF:999999999999.999999,\nu\n#EXT-X-PRELOAD-HINT:TYPE=PART,URI=\"p\"\n",
-            "0 1 0",
-        ),
-        (
-            "#EXT-X-SKIP:SKIPPED-SEGMENTS=2305843009213693953\n",
-            "BadLine 8",
-        ),
-        (
-            "#EXT-X-RENDITION-REPORT:URI=\"r\",LAST-MSN=3,LAST-PART=0\n#EXT-X-ENDLIST\n",
-            "0 0 1",
-        ),
-    ];
-    for (rest, answer) in table {
-        let found = told(&rt, HEADER, rest)?;
-        assert_eq!(rt; found.as_str(), answer, "behind the header: {rest}");
+/// Each row changes the full playlist in one place, and tells what it comes to then. Its lines are 24.
+fn expect(rt: &impl Abort, alloc: Global, table: &[(&str, &str, &str)]) -> Result<(), Fail> {
+    for (old, new, answer) in table {
+        let (before, after) = FULL.split_once(*old).ok_or("it stands in the playlist")?;
+        let text = format!(in alloc; "{before}{new}{after}")?;
+        let found = told(alloc, text.as_bytes())?;
+        assert_eq!(rt; found.as_str(), *answer, "with {new} for {old}");
     }
-    let open = format!(in rt.alloc();
-        "#EXT-X-DISCONTINUITY\n#EXT-X-MAP:URI=\"i\"\n{part}#EXT-X-ENDLIST\n"
-    )?;
-    let found = told(&rt, HEADER, open.as_str())?;
-    assert_eq!(rt; found.as_str(), "0 0 0");
     Ok(())
 }
 
 #[test]
-fn lines_of_the_header(rt: HostRuntime) -> Result<(), Fail> {
-    let table = [
-        ("", "NotPlaylist"),
-        ("#EXTM3U", "BadLine 1"),
-        ("#EXTM3U\n#EXT-X-VERSION:8\n", "BadLine 2"),
-        (
-            "#EXTM3U\r\n#EXT-X-VERSION:9\n#EXT-X-VERSION:9\n",
-            "BadLine 3",
-        ),
-        ("#EXTM3U\n#EXT-X-TARGETDURATION:4\n", "BadLine 2"),
-        ("#EXTM3U\n\n", "BadLine 2"),
-    ];
-    for (text, answer) in table {
-        let found = told(&rt, text, "")?;
-        assert_eq!(rt; found.as_str(), answer, "the header: {text}");
-    }
-    let none = read(rt.alloc(), &[0xff]);
-    assert_eq!(rt; none.err(), Some(ReadFault::NotPlaylist));
-    Ok(())
+fn numbers_at_their_limits(rt: HostRuntime) -> Result<(), Fail> {
+    expect(
+        &rt,
+        rt.alloc(),
+        &[
+            ("VERSION:10", "VERSION:9", "2 2 1"),
+            ("VERSION:10", "VERSION:8", "BadLine 2"),
+            ("VERSION:10", "VERSION:11", "BadLine 2"),
+            ("TION:4", "TION:2305843009213693952", "2 2 1"),
+            ("TION:4", "TION:2305843009213693953", "BadLine 3"),
+            ("TION:4", "TION:04", "BadLine 3"),
+            ("TION:4", "TION:+4", "BadLine 3"),
+            ("TION:4", "TION:", "BadLine 3"),
+            ("SEQUENCE:7", "SEQUENCE:2305843009213693952", "2 2 1"),
+            ("SEQUENCE:7", "SEQUENCE:2305843009213693953", "BadLine 6"),
+            ("SEQUENCE:7", "SEQUENCE:18446744073709551616", "BadLine 6"),
+            ("SEQUENCE:2", "SEQUENCE:2305843009213693952", "2 2 1"),
+            ("SEQUENCE:2", "SEQUENCE:2305843009213693953", "BadLine 7"),
+            ("MSN=9", "MSN=2305843009213693952", "2 2 1"),
+            ("MSN=9", "MSN=2305843009213693953", "BadLine 23"),
+            ("PART=3", "PART=2305843009213693952", "2 2 1"),
+            ("PART=3", "PART=2305843009213693953", "BadLine 23"),
+        ],
+    )
+}
+
+#[test]
+fn durations_at_their_limits(rt: HostRuntime) -> Result<(), Fail> {
+    expect(
+        &rt,
+        rt.alloc(),
+        &[
+            ("BACK=3.000000", "BACK=999999999999.999999", "2 2 1"),
+            ("BACK=3.000000", "BACK=1000000000000.000000", "BadLine 4"),
+            ("UNTIL=24.000000", "UNTIL=999999999999.999999", "2 2 1"),
+            ("UNTIL=24.000000", "UNTIL=1000000000000.000000", "BadLine 4"),
+            ("GET=1.000000", "GET=999999999999.999999", "2 2 1"),
+            ("GET=1.000000", "GET=9999999999999.999999", "BadLine 5"),
+            ("INF:1.500000", "INF:999999999999.999999", "2 2 1"),
+            ("INF:1.500000", "INF:9999999999999.999999", "BadLine 12"),
+            ("INF:1.500000", "INF:0.000000", "2 2 1"),
+            ("INF:1.500000", "INF:01.500000", "BadLine 12"),
+            ("INF:1.500000", "INF:1.5000000", "BadLine 12"),
+            ("INF:1.500000", "INF:1.50000", "BadLine 12"),
+            ("INF:1.500000", "INF:1", "BadLine 12"),
+            ("ION=0.500000", "ION=999999999999.999999", "2 2 1"),
+            ("ION=0.500000", "ION=1000000000000.000000", "BadLine 15"),
+        ],
+    )
+}
+
+#[test]
+fn texts_of_lines(rt: HostRuntime) -> Result<(), Fail> {
+    expect(
+        &rt,
+        rt.alloc(),
+        &[
+            ("#EXTM3U", "\u{feff}#EXTM3U", "NotPlaylist"),
+            ("#EXTM3U\n", "#EXTM3U\r\n", "2 2 1"),
+            ("#EXTM3U\n", "#EXTM3U \n", "NotPlaylist"),
+            ("RELOAD=YES", "RELOAD=NO", "BadLine 4"),
+            (",CAN-SKIP-DATERANGES=YES", "", "2 2 1"),
+            ("RANGES=YES", "RANGES=NO", "BadLine 4"),
+            ("\"ad 2\"", "\"ad 1\"", "BadLine 9"),
+            ("ID=\"ad 2\"", "X-A=1", "BadLine 9"),
+            ("\"ad 2\"", "\"ad 2\",X-A=1\r", "2 2 1"),
+            ("init0.mp4\"\n", "init0.mp4\"\r\n", "2 2 1"),
+            ("init0.mp4", "", "BadLine 10"),
+            ("init0.mp4\"", "init0.mp4\",BYTERANGE=\"1@0\"", "BadLine 10"),
+            ("1970-01-01T00:00:07.000Z", "", "BadLine 11"),
+            ("s7.m4s", "s\u{e9}7.m4s", "2 2 1"),
+            ("s7.m4s", "s7.m4s\r", "2 2 1"),
+            ("s7.m4s", "s7.m4s\r\r", "BadLine 13"),
+            ("s7.m4s", "", "BadLine 13"),
+            ("s7.m4s", "s7\".m4s", "BadLine 13"),
+            ("s7.m4s", "#s7.m4s", "BadLine 13"),
+            ("DENT=YES", "DENT=NO", "BadLine 15"),
+            ("TYPE=PART", "TYPE=MAP", "BadLine 24"),
+            ("s9.1.m4s\"\n", "s9.1.m4s\"", "BadLine 24"),
+            ("s9.1.m4s\"\n", "s9.1.m4s\"\n ", "BadLine 25"),
+            ("s9.1.m4s\"\n", "s9.1.m4s\"\n\n", "BadLine 25"),
+        ],
+    )
 }

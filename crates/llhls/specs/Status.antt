@@ -1,12 +1,32 @@
--- Exit statuses of a run that ended before its script.
+-- Exit statuses of a program that did not do what it was called to do.
 use Rattle.std.specs.Prelude.{ℕ}
+use Rattle.ll_apply.specs.declared.fault.ApplyFault.{ApplyFault}
+use Rattle.ll_apply.specs.declared.fault.ApplyFault.TheVariants as apply
 use Rattle.ll_replay.specs.declared.outcome.RunFault.{RunFault}
-use Rattle.ll_replay.specs.declared.outcome.RunFault.TheVariants.{Read, Write, BadLine, LineTooLong, Endless, Memory}
+use Rattle.ll_replay.specs.declared.outcome.RunFault.TheVariants as run
+use Rattle.llhls.specs.declared.fault.Fault.{Fault}
+use Rattle.llhls.specs.declared.fault.Fault.TheVariants.{Usage, Read, Write, Memory, Replay, Apply}
 
-abbrev pub status_of : RunFault → ℕ
-status_of (BadLine n) = 3
-status_of (LineTooLong n) = 3
+-- of a script
+abbrev pub replay_status : RunFault → ℕ
+replay_status (run.BadLine n) = 3
+replay_status (run.LineTooLong n) = 3
+replay_status run.Read = 4
+replay_status run.Write = 4
+replay_status run.Endless = 4
+replay_status run.Memory = 4
+
+-- of a delta update
+abbrev pub apply_status : ApplyFault → ℕ
+apply_status (apply.BadBase line) = 3
+apply_status (apply.BadDelta line) = 3
+apply_status (apply.NotRecent number) = 3
+apply_status apply.Memory = 4
+
+abbrev pub status_of : Fault → ℕ
+status_of Usage = 2
 status_of Read = 4
 status_of Write = 4
-status_of Endless = 4
 status_of Memory = 4
+status_of (Replay fault) = replay_status fault
+status_of (Apply fault) = apply_status fault

@@ -9,7 +9,13 @@ pub loop-line-preserved-in-Some-read_line : goal.loop-line-preserved-in-Some-rea
 loop-line-preserved-in-Some-read_line c =
     let is = c.with_line-outline.ensures in (
       search rules,
-      omega (arith, ap (λ (o : Outline). o.segments) is, one_at_most (meant c.in-Some-read_line.line) c.loop-line.outline, c.in-Some.ensures.shorter, c.loop-line.invariant.1),
+      omega (
+        arith,
+        ap (λ (o : Outline). o.segments) is,
+        one_at_most (meant c.in-Some-read_line.line) c.loop-line.outline,
+        c.in-Some.ensures.shorter,
+        c.loop-line.invariant.1,
+      ),
       λ p h. subst (λ o. IsLeft o c.in-Some.below.now p) (sym is)
           (line_more c.loop-line.outline c.loop-line.rest.now c.in-Some.line.now c.without_end.result.now c.in-Some.below.now p (meant c.in-Some-read_line.line)
           c.in-Some.ensures.parts c.without_end.ensures c.in-Some-read_line.ensures (c.loop-line.invariant.2 p h)),

@@ -1,0 +1,66 @@
+ghost use Rattle.std.specs.Prelude.{◌≡◌};
+ghost use Rattle.llhls.specs.Status.{status_of};
+ghost use Rattle.llhls.specs.Status as spec;
+
+use ll_apply::ApplyFault;
+use ll_replay::RunFault;
+use thiserror::Error;
+
+/// Why the program didn't do what it was called to do.
+#[derive(Clone, Copy, Debug, Error)]
+pub(crate) enum Fault {
+    /// It was called in another way than its usage.
+    #[error("usage")]
+    Usage,
+    /// A file could not be read.
+    #[error("Read")]
+    Read,
+    /// Standard output took no more.
+    #[error("Write")]
+    Write,
+    /// No memory was found for the arguments or a file.
+    #[error("Memory")]
+    Memory,
+    /// A script was not run to its end.
+    #[error("{0}")]
+    Replay(RunFault),
+    /// There is no full playlist.
+    #[error("{0}")]
+    Apply(ApplyFault),
+}
+
+impl Fault {
+    /// The exit status: 2 for a wrong use, 3 for input to blame, 4 for any other.
+    pub(crate) fn status(self) -> u8
+        ensures { result ≡ status_of self }
+    {
+        match self {
+            Fault::Usage => 2,
+            Fault::Read | Fault::Write | Fault::Memory => 4,
+            Fault::Replay(fault) => replay_status(fault),
+            Fault::Apply(fault) => apply_status(fault),
+        }
+    }
+}
+
+/// The exit status of a script: 3 for a line to blame, 4 for any other fault.
+fn replay_status(fault: RunFault) -> u8
+    ensures { result ≡ spec.replay_status fault }
+{
+    match fault {
+        RunFault::BadLine { .. } | RunFault::LineTooLong { .. } => 3,
+        RunFault::Read | RunFault::Write | RunFault::Endless | RunFault::Memory => 4,
+    }
+}
+
+/// The exit status of a delta update: 3 for a file to blame, 4 for want of memory.
+fn apply_status(fault: ApplyFault) -> u8
+    ensures { result ≡ spec.apply_status fault }
+{
+    match fault {
+        ApplyFault::BadBase { .. } | ApplyFault::BadDelta { .. } | ApplyFault::NotRecent { .. } => {
+            3
+        }
+        ApplyFault::Memory => 4,
+    }
+}
