@@ -4,7 +4,7 @@ use Rattle.ll_page.specs.Playlist.{Skip, Playlist}
 use Rattle.ll_page.specs.Spelling.{spelling}
 use Rattle.ll_read.specs.Outline.{outline_of}
 use Rattle.ll_read.specs.declared.fault.ReadFault.{ReadFault}
-use Rattle.ll_apply.specs.Applied.{applied, applied_by, put_upon, unless_missing}
+use Rattle.ll_apply.specs.Applied.{applied_by, put_upon, unless_missing}
 use Rattle.ll_apply.specs.Found.{IsAnswer, IsFound, missing_of, missing_by_skip, merged, merged_by}
 use Rattle.ll_apply.specs.Texts.{and_then, base_of, chain, delta_of, unless_skipping}
 use Rattle.ll_apply.specs.declared.fault.ApplyFault.{ApplyFault}

@@ -8,10 +8,11 @@ use Rattle.ll_page.specs.Playlist.{Playlist}
 use Rattle.ll_page.specs.Spelling.{spelling}
 use Rattle.ll_page.specs.View.{seen}
 use Rattle.ll_read.proofs.PlaylistBack.{reads-back}
+use Rattle.ll_read.proofs.SpelledAgain.{spelled-again}
 use Rattle.ll_read.specs.Reading.{playlist_in}
-use Rattle.ll_apply.specs.Applied.{applied}
+use Rattle.ll_apply.specs.Applied.{applied, applied_by}
 use Rattle.ll_apply.specs.Published.{ArePublished, TextLaw}
-use Rattle.ll_apply.specs.Texts.{applied_text, base_of, delta_of, unless_skipping, and_then}
+use Rattle.ll_apply.specs.Texts.{FullLaw, applied_text, base_of, chain, delta_of, unless_skipping, and_then}
 use Rattle.ll_apply.specs.declared.fault.ApplyFault.{ApplyFault}
 use Rattle.ll_apply.proofs.CompanionProof.{companion}
 use Rattle.ll_apply.proofs.RangeItems.{accepted}
@@ -42,3 +43,12 @@ text c items more r kind within is_one published recent =
     (reads-back u (readable c items r kind within is_one (first_published c [] items more published)).0) refl
     (reads-back d (readable c (items ++ more) r kind within is_one published).1)
     (companion c items more r kind is_one within.skip_low (accepted c [] (items ++ more) published) recent)
+
+-- a full playlist in the place of an update is written as it was read
+pub full : FullLaw
+full base delta b d read_base none read_delta no_skip =
+    ap (λ r. chain (base_of r) (delta_of (playlist_in delta))) read_base
+    ∙ ap (λ o. chain (unless_skipping o b) (delta_of (playlist_in delta))) none
+    ∙ ap (λ r. chain (Ok b) (delta_of r)) read_delta
+    ∙ ap (λ s. spelled (applied_by s b d)) no_skip
+    ∙ ap Ok (spelled-again delta d read_delta)

@@ -1,5 +1,5 @@
 -- How a fault is told.
-use Rattle.std.specs.Prelude.{ℕ, List, ◌++◌, Option, Some, None, codes, decimal}
+use Rattle.std.specs.Prelude.{ℕ, List, ◌++◌, Some, None, codes, decimal}
 use Rattle.ll_apply.specs.declared.fault.ApplyFault.{ApplyFault}
 use Rattle.ll_apply.specs.declared.fault.ApplyFault.TheVariants.{BadBase, BadDelta, NotRecent, Memory}
 

@@ -1,5 +1,5 @@
 -- The lines of segments, one after another, with the map that is in force.
-use Rattle.std.specs.Prelude.{ℕ, List, [], ◌∷◌, ◌++◌, Bool, true, false, ◌||◌, Option, Some, None, map, take, drop, flat_map}
+use Rattle.std.specs.Prelude.{ℕ, List, [], ◌∷◌, ◌++◌, Bool, true, false, ◌||◌, Option, None, map, take, drop, flat_map}
 use Rattle.ll_page.specs.Playlist.{Finished}
 use Rattle.ll_page.specs.Spelling.{segment_lines}
 use Rattle.ll_apply.specs.Applied.{in_force, mapped, or_else, with_map, without_parts}

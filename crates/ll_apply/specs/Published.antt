@@ -1,5 +1,5 @@
 -- What was published, and what its texts come to.
-use Rattle.std.specs.Prelude.{◌≡◌, ℕ, ◌+◌, ◌≤◌, ◌<◌, List, [], ◌∷◌, ◌++◌, Some, None, Ok, length, true}
+use Rattle.std.specs.Prelude.{◌≡◌, ℕ, ◌+◌, ◌≤◌, ◌<◌, List, [], ◌∷◌, ◌++◌, None, Ok, length, true}
 use Rattle.std.specs.Str.{is_utf8}
 use Rattle.ll_attr.specs.Attributes.{attributes_in}
 use Rattle.ll_attr.specs.Attributes as attributes

@@ -1,8 +1,8 @@
 -- What a delta update makes of an earlier playlist, both as texts.
-use Rattle.std.specs.Prelude.{ℕ, List, Option, Some, None, Result, Ok, Err}
+use Rattle.std.specs.Prelude.{◌≡◌, ℕ, List, Option, Some, None, Result, Ok, Err}
 use Rattle.ll_page.specs.Playlist.{Skip, Playlist}
 use Rattle.ll_page.specs.Spelling.{spelling}
-use Rattle.ll_read.specs.Reading.{playlist_in}
+use Rattle.ll_read.specs.Reading.{playlist_in, with_line_feeds}
 use Rattle.ll_read.specs.declared.fault.ReadFault.{ReadFault}
 use Rattle.ll_read.specs.declared.fault.ReadFault.TheVariants.{NotPlaylist, BadLine, Memory}
 use Rattle.ll_apply.specs.Applied.{applied}
@@ -40,3 +40,8 @@ chain base delta = and_then base (λ b. and_then delta (λ d. and_then (applied 
 -- missing; else there is one.
 abbrev pub applied_text : List ℕ → List ℕ → Result (List ℕ) ApplyFault
 applied_text base delta = chain (base_of (playlist_in base)) (delta_of (playlist_in delta))
+
+-- a full playlist in the place of an update comes back, with LF at the end of each line
+abbrev pub FullLaw : Type 0
+FullLaw = (base delta : List ℕ) (b d : Playlist) → playlist_in base ≡ Ok b → b.skipped ≡ None → playlist_in delta ≡ Ok d → d.skipped ≡ None
+    → applied_text base delta ≡ Ok (with_line_feeds delta)

@@ -1,13 +1,19 @@
--- The law holds of the definition; a fault of the earlier text is no want of memory.
+-- The laws hold of the definition; a fault of the earlier text is no want of memory.
 use Rattle.std.proofs.Common.{Err}
 use Rattle.ll_read.specs.Reading.{playlist_in}
 use Rattle.ll_apply.specs.Texts.{applied_text, base_of, delta_of}
 use Rattle.ll_apply.proofs.Chain.{answer-base, answer-memory, bad-base}
-use Rattle.ll_apply.proofs.TextProof.{text}
+use Rattle.ll_apply.proofs.TextProof.{full, text}
 use Rattle.ll_apply.proofs.applying.apply.Goals as goal
 
 pub returns-in-Ok-clause-companion : goal.returns-in-Ok-clause-companion
 returns-in-Ok-clause-companion c = text
+
+pub returns-in-Ok-clause-full : goal.returns-in-Ok-clause-full
+returns-in-Ok-clause-full c = full
+
+pub returns-in-Err-clause-full : goal.returns-in-Err-clause-full
+returns-in-Err-clause-full c = full
 
 pub returns-in-Err-clause-memory : goal.returns-in-Err-clause-memory
 returns-in-Err-clause-memory c =
