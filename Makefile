@@ -14,3 +14,4 @@ refused-memory:
 
 bench:
 	@$(HERE)bench/replay.sh
+	@$(HERE)bench/apply.sh

@@ -2,7 +2,9 @@
 # refused_memory.sh [ROW..]: for each row, refuses the Nth allocation of the program, for N from 1 until a run meets no
 # refusal. A run that meets one ends with status 4 and `llhls: Memory`, and has written a front of the row's output; or it
 # ends as the row does, where what was refused is not needed for the answer, as for a list that is refused anyway. The
-# last run ends as the row does. It tells how many N were tried. The last line, `N passed, M failed`, counts rows.
+# last run ends as the row does. A row of tests/apply is named apply/NAME. Where the texts of such a row have a fault, Memory
+# comes only of the program's arguments and of reading the files: no run ends in it behind one that ended in the fault. It
+# tells how many N were tried, and how the runs ended. The last line, `N passed, M failed`, counts rows.
 set -u
 here=$(cd "$(dirname "${BASH_SOURCE[0]}")" && pwd) || exit 2
 program=$("$here/program.sh") || exit 2
@@ -22,9 +24,36 @@ while read -r name ending; do
     endings[$name]=$ending
 done < <(grep -v '^#' "$here/endings")
 
+# find_row NAME: what the row's run is given, and how it ends: leaves input, words, output, wanted, fault, and in is_strict
+# whether Memory is wrong behind a run that ended in the fault.
+find_row() {
+    local at ending=0
+    is_strict=
+    if [[ $1 == apply/* ]]; then
+        at=$here/$1
+        input=/dev/null
+        words=(apply "$at/base" "$at/delta")
+        output=$at/stdout
+        if [ -e "$at/ending" ]; then
+            ending=$(<"$at/ending")
+            is_strict=yes
+        fi
+    else
+        at=$room/rows/$1
+        input=$at
+        words=(replay)
+        output=$at.stdout
+        if [ -e "$at.args" ]; then
+            mapfile -t -O 1 words <"$at.args"
+        fi
+        ending=${endings[$1]-0}
+    fi
+    read -r wanted fault <<<"$ending"
+}
+
 # Whether a run ended as its row does.
 is_whole() {
-    [ "$status" = "$wanted" ] && [ "$(<"$room/stderr")" = "$fault" ] && cmp -s "$room/stdout" "$1"
+    [ "$status" = "$wanted" ] && [ "$(<"$room/stderr")" = "$fault" ] && cmp -s "$room/stdout" "$output"
 }
 
 # Whether a run was cut by a refusal.
@@ -32,23 +61,22 @@ is_cut() {
     local size
     [ "$status" = 4 ] && [ "$(<"$room/stderr")" = 'llhls: Memory' ] || return 1
     size=$(stat -c %s "$room/stdout")
-    cmp -s -n "$size" "$room/stdout" "$1" && [ "$size" -le "$(stat -c %s "$1")" ]
+    cmp -s -n "$size" "$room/stdout" "$output" && [ "$size" -le "$(stat -c %s "$output")" ]
 }
 
-# sweep NAME: tries each N, and leaves in N the first that met no refusal.
+# sweep NAME: tries each N, and leaves in N the first that met no refusal, in cut and whole how many others ended each way.
 sweep() {
-    local script=$room/rows/$1 output=$room/rows/$1.stdout wanted fault words=(replay) status wrong=0
-    read -r wanted fault <<<"${endings[$1]-0}"
-    if [ -e "$script.args" ]; then
-        mapfile -t -O 1 words <"$script.args"
-    fi
+    local input words output wanted fault is_strict status wrong=0
+    cut=0
+    whole=0
+    find_row "$1"
     for ((N = 1; N <= most; N++)); do
         rm -f "$room/refused"
         timeout 60 env LD_PRELOAD="$room/refuse.so" REFUSE="$N" REFUSED="$room/refused" \
-            "$program" "${words[@]}" <"$script" >"$room/stdout" 2>"$room/stderr"
+            "$program" "${words[@]}" <"$input" >"$room/stdout" 2>"$room/stderr"
         status=$?
         if [ ! -e "$room/refused" ]; then
-            if ! is_whole "$output"; then
+            if ! is_whole; then
                 echo "FAILED $1: with no refusal it ended with status $status: $(head -c 2000 "$room/stderr")"
                 return 1
             fi
@@ -59,7 +87,11 @@ sweep() {
             return 0
         fi
         met=$((met + 1))
-        if ! is_cut "$output" && ! is_whole "$output"; then
+        if is_whole; then
+            whole=$((whole + 1))
+        elif is_cut && { [ -z "$is_strict" ] || [ "$whole" = 0 ]; }; then
+            cut=$((cut + 1))
+        else
             wrong=$((wrong + 1))
             # (a program that is wrong at each would fill the screen)
             if [ "$wrong" -le 3 ]; then
@@ -76,6 +108,10 @@ if [ "$#" = 0 ]; then
         name=${output##*/}
         set -- "$@" "${name%.stdout}"
     done
+    for output in "$here"/apply/*/stdout; do
+        name=${output%/stdout}
+        set -- "$@" "apply/${name##*/}"
+    done
 fi
 for name in "$@"; do
     if sweep "$name"; then
@@ -83,7 +119,7 @@ for name in "$@"; do
     else
         failed=$((failed + 1))
     fi
-    echo "$name: tried 1 to $N, of which the last met no refusal"
+    echo "$name: tried 1 to $N, of which the last met no refusal; $cut ended in Memory, $whole as the row does"
 done
 if [ "$met" = 0 ]; then
     echo "FAILED: no allocation was refused, so nothing was tried"

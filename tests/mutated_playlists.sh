@@ -1,0 +1,129 @@
+#!/usr/bin/env bash
+# mutated_playlists.sh PROGRAM: makes a thousand mutated playlists from the rows of tests/apply, in turn of the base and of
+# the delta, and puts each in its row's place. `apply` then ends with status 3, nothing written and one fault, which is of
+# the mutated playlist or NotRecent; or with status 0, no fault, and a text that, put upon itself, is itself. At least a
+# third end each way. The last line, `N passed, M failed`, counts playlists, and a third that was missed.
+set -u
+export LC_ALL=C
+here=$(cd "$(dirname "${BASH_SOURCE[0]}")" && pwd) || exit 2
+program=$(realpath -- "$1")
+room=$(mktemp -d) || exit 2
+trap 'rm -rf "$room"' EXIT
+passed=0
+failed=0
+most=1000
+# How many ended with a text, and with a fault.
+applied=0
+refused=0
+RANDOM=1
+
+if [ ! -x "$program" ]; then
+    echo "$1 is no program"
+    echo "0 passed, 1 failed"
+    exit 1
+fi
+
+# The rows whose playlists both can be read.
+rows=()
+for row in "$here"/apply/*/; do
+    if [ ! -e "$row/ending" ] || [[ $(<"$row/ending") == *NotRecent* ]]; then
+        rows+=("${row%/}")
+    fi
+done
+
+# change KIND: changes text, which may come out as it was. (Digits are changed more often than others: much else is refused.)
+bytes=(0 7 9 '"' ',' ':' $'\r' $'\n' $'\xff' x)
+kinds=(byte byte digit digit digit digit byte_out line_out line_twice line_exchanged cut)
+change() {
+    local at=$((RANDOM % ${#text})) lines line
+    mapfile lines <<<"$text"
+    # (this put an LF behind the last line)
+    lines[-1]=${lines[-1]%$'\n'}
+    line=$((RANDOM % ${#lines[@]}))
+    case $1 in
+    byte) text=${text:0:at}${bytes[RANDOM % ${#bytes[@]}]}${text:at+1} ;;
+    digit)
+        while [[ ${text:at:1} != [0-9] ]]; do
+            at=$((RANDOM % ${#text}))
+        done
+        text=${text:0:at}$((RANDOM % 10))${text:at+1}
+        ;;
+    byte_out) text=${text:0:at}${text:at+1} ;;
+    cut) text=${text:0:at} ;;
+    *)
+        case $1 in
+        line_out) lines[line]= ;;
+        line_twice) lines[line]+=${lines[line]} ;;
+        line_exchanged) lines[line]=${lines[line + 1]-}${lines[line]} lines[line + 1]= ;;
+        esac
+        printf -v text %s "${lines[@]}"
+        ;;
+    esac
+}
+
+# all_of FILE: leaves in said all that it holds. No text here holds a byte 0; where one does, this fails.
+all_of() {
+    ! IFS= read -r -d '' said <"$1"
+}
+
+# Whether the run ended as it may, with the mutated playlist in place of the row's SIDE.
+is_right() {
+    local side=$1 faults status
+    case $side in
+    base) faults='BadBase( [0-9]+)?|NotRecent [0-9]+' ;;
+    delta) faults='BadDelta( [0-9]+)?|NotRecent [0-9]+' ;;
+    esac
+    timeout 10 "$program" apply "$base" "$delta" </dev/null >"$room/stdout" 2>"$room/stderr"
+    status=$?
+    all_of "$room/stderr" || return 1
+    case $status in
+    0)
+        applied=$((applied + 1))
+        [ -z "$said" ] && [ -s "$room/stdout" ] || return 1
+        timeout 10 "$program" apply "$room/stdout" "$room/stdout" </dev/null >"$room/again" 2>"$room/stderr" &&
+            [ ! -s "$room/stderr" ] && cmp -s "$room/stdout" "$room/again"
+        ;;
+    3)
+        refused=$((refused + 1))
+        [ ! -s "$room/stdout" ] && [[ $said =~ ^llhls:\ ($faults)$'\n'$ ]]
+        ;;
+    *) return 1 ;;
+    esac
+}
+
+for ((number = 0; number < most; number++)); do
+    row=${rows[number / 2 % ${#rows[@]}]}
+    kind=${kinds[RANDOM % ${#kinds[@]}]}
+    base=$row/base
+    delta=$row/delta
+    if [ $((number % 2)) = 0 ]; then
+        side='base'
+        base=$room/base
+    else
+        side='delta'
+        delta=$room/delta
+    fi
+    all_of "$row/$side" || exit 2
+    text=$said
+    while [ "$text" = "$said" ]; do
+        change "$kind"
+    done
+    printf %s "$text" >"$room/$side"
+    if is_right "$side"; then
+        passed=$((passed + 1))
+    else
+        failed=$((failed + 1))
+        echo "FAILED ${row##*/}, its $side mutated ($kind, number $number): $(head -c 2000 "$room/stderr")"
+        # (a program that is wrong at each would fill the screen)
+        if [ "$failed" -le 3 ]; then
+            diff -a "$row/$side" "$room/$side"
+        fi
+    fi
+done
+echo "$applied ended with a text, $refused with a fault"
+if [ $((3 * applied)) -lt "$most" ] || [ $((3 * refused)) -lt "$most" ]; then
+    echo "FAILED: less than a third ended one way"
+    failed=$((failed + 1))
+fi
+echo "$passed passed, $failed failed"
+[ "$failed" = 0 ]
