@@ -4,7 +4,7 @@
 # it prints the bytes per second of `llhls apply`, the bytes of both files, and their ratio to the first number's; then the
 # peak memory, and the memory that a byte takes. Times are the median of RUNS runs (99 where it isn't set), less that of as
 # many runs that put a playlist without segments upon itself, which is the start of the program, each before one of the
-# others; behind them stand the slower and the faster quartile. Memory is a median too, and for a byte less that of the
+# others; after them stand the slower and the faster quartile. Memory is a median too, and for a byte less that of the
 # start. With few segments the start outweighs the rest, and the numbers say little. It judges nothing.
 set -eu
 here=$(cd "$(dirname "${BASH_SOURCE[0]}")" && pwd)
@@ -18,8 +18,8 @@ fi
 "${CC:-cc}" -O2 -Wall -o "$room/measure" "$here/measure.c"
 mkdir "$room/none" "$room/some"
 
-# make FOLDER SEGMENTS NEW WINDOW: makes base, delta and wanted there: a playlist behind so many segments, then the update and
-# the playlist behind so many new ones.
+# make FOLDER SEGMENTS NEW WINDOW: makes base, delta and wanted there: a playlist after so many segments, then the update and
+# the playlist after so many new ones.
 make() {
     awk -v segments="$2" -v new="$3" -v window="$4" '
         function publish(count) {

@@ -3,7 +3,7 @@
 # the playlist once, at the end, which shows the last nine segments. For each number it prints the events per second, and
 # their ratio to the first number's; then the peak memory, and the memory that a part takes, for which it leaves out the
 # request. Times are the median of RUNS runs (9 where it isn't set), less that of a script without parts, which is the start
-# of the program; behind them stand the slowest and the fastest run. Memory is a median too, and for a part less that of the
+# of the program; after them stand the slowest and the fastest run. Memory is a median too, and for a part less that of the
 # script without parts. With few parts the start outweighs the rest, and the numbers say little. It judges nothing.
 set -eu
 here=$(cd "$(dirname "${BASH_SOURCE[0]}")" && pwd)

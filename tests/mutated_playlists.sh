@@ -37,7 +37,7 @@ kinds=(byte byte digit digit digit digit byte_out line_out line_twice line_excha
 change() {
     local at=$((RANDOM % ${#text})) lines line
     mapfile lines <<<"$text"
-    # (this put an LF behind the last line)
+    # (this put an LF after the last line)
     lines[-1]=${lines[-1]%$'\n'}
     line=$((RANDOM % ${#lines[@]}))
     case $1 in

@@ -10,7 +10,7 @@ extern void *__libc_malloc(size_t size);
 extern void *__libc_calloc(size_t count, size_t size);
 extern void *__libc_realloc(void *at, size_t size);
 
-/* How many calls are left up to the refused one, and with it; 0 before the start and behind it. */
+/* How many calls are left up to the refused one, and with it; 0 before the start and after it. */
 static unsigned long left;
 static const char *mark;
 

@@ -3,7 +3,7 @@
 # refusal. A run that meets one ends with status 4 and `llhls: Memory`, and has written a front of the row's output; or it
 # ends as the row does, where what was refused is not needed for the answer, as for a list that is refused anyway. The
 # last run ends as the row does. A row of tests/apply is named apply/NAME. Where the texts of such a row have a fault, Memory
-# comes only of the program's arguments and of reading the files: no run ends in it behind one that ended in the fault. It
+# comes only of the program's arguments and of reading the files: no run ends in it after one that ended in the fault. It
 # tells how many N were tried, and how the runs ended. The last line, `N passed, M failed`, counts rows.
 set -u
 here=$(cd "$(dirname "${BASH_SOURCE[0]}")" && pwd) || exit 2
@@ -25,7 +25,7 @@ while read -r name ending; do
 done < <(grep -v '^#' "$here/endings")
 
 # find_row NAME: what the row's run is given, and how it ends: leaves input, words, output, wanted, fault, and in is_strict
-# whether Memory is wrong behind a run that ended in the fault.
+# whether Memory is wrong after a run that ended in the fault.
 find_row() {
     local at ending=0
     is_strict=

@@ -76,7 +76,7 @@ recent=$here/apply/applies_to_a_recent_base
 expect read_of_no_base /dev/null 4 'llhls: Read' apply "$room/none" "$recent/delta" </dev/null
 expect read_of_a_folder_as_the_base /dev/null 4 'llhls: Read' apply "$here" "$recent/delta" </dev/null
 expect read_of_no_delta /dev/null 4 'llhls: Read' apply "$recent/base" "$room/none" </dev/null
-expect read_of_no_delta_behind_a_bad_base /dev/null 4 'llhls: Read' apply /dev/null "$room/none" </dev/null
+expect read_of_no_delta_after_a_bad_base /dev/null 4 'llhls: Read' apply /dev/null "$room/none" </dev/null
 
 # What is written into a full device is lost, and a script without answers is run to its end.
 timeout 60 "$program" replay <"$first" >/dev/full 2>"$room/stderr"

@@ -80,16 +80,16 @@ item_step c before (item.End r) h none = end_step (compact c before).open_parts 
 item_step c before (item.Range r id attributes) h none = h
 item_step c before (item.Unrange r id) h none = h
 
-bounded_behind : (c : Configuration) (before items : List Item) → AreInOrder c before items → IsBounded (compact c before) → IsBounded (compact c (before ++ items))
-bounded_behind c before [] accepted h = rw (append-nil before) h
-bounded_behind c before (i ∷ items) accepted h =
+bounded_after : (c : Configuration) (before items : List Item) → AreInOrder c before items → IsBounded (compact c before) → IsBounded (compact c (before ++ items))
+bounded_after c before [] accepted h = rw (append-nil before) h
+bounded_after c before (i ∷ items) accepted h =
     let u = unended (ended before) (refusal_before_end c before i) accepted.0 in
     rw (append_assoc before (i ∷ []) items) at
-    (bounded_behind c (before ++ i ∷ []) items accepted.1 (subst IsBounded (sym (compact-snoc c before i u.0)) (item_step c before i h u.1)))
+    (bounded_after c (before ++ i ∷ []) items accepted.1 (subst IsBounded (sym (compact-snoc c before i u.0)) (item_step c before i h u.1)))
 
 -- what is kept of accepted items of one rendition is within bounds
 pub bounded : (c : Configuration) (items : List Item) → IsWithin c → AreInOrder c [] items → IsBounded (compact c items)
-bounded c items within accepted = bounded_behind c [] items accepted (record {
+bounded c items within accepted = bounded_after c [] items accepted (record {
   numbers = omega (arith, within.first_high);
   opens = λ some. absurd (omega arith);
   times = omega (arith, within.start_high);

@@ -1,4 +1,4 @@
--- The items of one rendition with more behind them: nothing follows an end, and later segments are the earlier ones and more.
+-- The items of one rendition with more after them: nothing follows an end, and later segments are the earlier ones and more.
 use Rattle.std.proofs.Common.{◌≡◌, ℕ, ◌+◌, ◌≤◌, ◌==◌, List, [], ◌∷◌, ◌++◌, Bool, true, false, cond, append-nil, append_assoc, None, refl, ap, sym, ◌∙◌, arith}
 use Rattle.std.proofs.lemmas.Bool.Decides.{nat_tests}
 use Rattle.std.proofs.lemmas.List.Elements.{filter-append}
@@ -12,7 +12,7 @@ use Rattle.ll_window.specs.Rows.{rows}
 use Rattle.ll_window.specs.Segments.{own, parts_from, parts, pending_after, ended, Split, split, finished_by, unfinished_by, closed, segments, open_segment, duration, end_time}
 use Rattle.ll_window.specs.Window.{skipped_in}
 use Rattle.ll_apply.specs.Law.{AreAccepted}
-use Rattle.ll_apply.proofs.SplitLemmas.{split-append, behind, duration-append, none-later, going-unfinished}
+use Rattle.ll_apply.proofs.SplitLemmas.{split-append, after, duration-append, none-later, going-unfinished}
 
 -- each of these items of one rendition may follow those before it
 abbrev pub AreInOrder : Configuration → List Item → List Item → Type 0
@@ -37,13 +37,13 @@ in_order-own c r before [] h = tt
 in_order-own c r before (i ∷ items) h =
     in_order_by c r before items i (rendition_of i == r) refl h.0 (in_order-own c r (before ++ i ∷ []) items h.1)
 
-accepted-behind : (c : Configuration) (before xs ys : List Item) → AreAccepted c before (xs ++ ys) → AreAccepted c (before ++ xs) ys
-accepted-behind c before [] ys h = rw (append-nil before) h
-accepted-behind c before (x ∷ xs) ys h = rw (append_assoc before (x ∷ []) xs) at (accepted-behind c (before ++ x ∷ []) xs ys h.1)
+accepted-after : (c : Configuration) (before xs ys : List Item) → AreAccepted c before (xs ++ ys) → AreAccepted c (before ++ xs) ys
+accepted-after c before [] ys h = rw (append-nil before) h
+accepted-after c before (x ∷ xs) ys h = rw (append_assoc before (x ∷ []) xs) at (accepted-after c (before ++ x ∷ []) xs ys h.1)
 
--- of all accepted items, those of one rendition that stand behind these
+-- of all accepted items, those of one rendition that stand after these
 pub in-order : (c : Configuration) (r : ℕ) (items more : List Item) → AreAccepted c [] (items ++ more) → AreInOrder c (own r items) (own r more)
-in-order c r items more h = in_order-own c r items more (accepted-behind c [] items more h)
+in-order c r items more h = in_order-own c r items more (accepted-after c [] items more h)
 
 parts-append : (b : Bool) (xs ys : List Item) → parts_from b (xs ++ ys) ≡ parts_from b xs ++ parts_from (pending_after b xs) ys
 parts-append b [] ys = refl
@@ -59,23 +59,23 @@ pub record IsLater (limit : ℕ) (before after : List Item) : Type 0 where
   pub longer : segments after ≡ segments before ++ more
   pub none : (n m t : ℕ) → skipped_in limit (duration (open_segment after)) (rows n m t more) ≡ 0
 
-finished_behind : (e : Bool) (gs : List (List Part)) (s : Split) → finished_by e (behind gs s) ≡ gs ++ finished_by e s
-finished_behind true gs s = append_assoc gs s.finished (closed s.unfinished)
-finished_behind false gs s = refl
+finished_after : (e : Bool) (gs : List (List Part)) (s : Split) → finished_by e (after gs s) ≡ gs ++ finished_by e s
+finished_after true gs s = append_assoc gs s.finished (closed s.unfinished)
+finished_after false gs s = refl
 
-unfinished_behind : (e : Bool) (gs : List (List Part)) (s : Split) → unfinished_by e (behind gs s) ≡ unfinished_by e s
-unfinished_behind true gs s = refl
-unfinished_behind false gs s = refl
+unfinished_after : (e : Bool) (gs : List (List Part)) (s : Split) → unfinished_by e (after gs s) ≡ unfinished_by e s
+unfinished_after true gs s = refl
+unfinished_after false gs s = refl
 
-nothing_behind : (c : Configuration) (xs ys : List Item) → ended xs ≡ true → AreInOrder c xs ys → ys ≡ []
-nothing_behind c xs [] e h = refl
-nothing_behind c xs (y ∷ ys) e h =
+nothing_after : (c : Configuration) (xs ys : List Item) → ended xs ≡ true → AreInOrder c xs ys → ys ≡ []
+nothing_after c xs [] e h = refl
+nothing_after c xs (y ∷ ys) e h =
     let k = sym (ap (λ b. refusal_by b (refusal_before_end c xs y)) e) ∙ h.0 in absurd (grind (arith, k))
 
 later_by : (c : Configuration) (limit : ℕ) (xs ys : List Item) (b : Bool) → ended xs ≡ b → AreInOrder c xs ys → end_time (xs ++ ys) ≤ end_time xs + limit
     → IsLater limit xs (xs ++ ys)
 later_by c limit xs ys true e h le =
-    rw (nothing_behind c xs ys e h) (rw (append-nil xs) (record { more = []; longer = sym (append-nil (segments xs)); none = λ n m t. refl }))
+    rw (nothing_after c xs ys e h) (rw (append-nil xs) (record { more = []; longer = sym (append-nil (segments xs)); none = λ n m t. refl }))
 later_by c limit xs ys false e h le =
     let ps = parts xs in
     let qs = parts_from (pending_after false xs) ys in
@@ -84,11 +84,11 @@ later_by c limit xs ys false e h le =
     let all = parts-append false xs ys ∙ refl in
     record {
       more = finished_by f (split (u ++ qs));
-      longer = ap (λ ps. finished_by f (split ps)) all ∙ ap (finished_by f) (split-append ps qs) ∙ finished_behind f (split ps).finished (split (u ++ qs))
+      longer = ap (λ ps. finished_by f (split ps)) all ∙ ap (finished_by f) (split-append ps qs) ∙ finished_after f (split ps).finished (split (u ++ qs))
           ∙ ap (λ b. finished_by b (split ps) ++ finished_by f (split (u ++ qs))) (sym e);
       none = λ n m t. ap (λ ps. skipped_in limit (duration (unfinished_by f (split ps))) (rows n m t (finished_by f (split (u ++ qs))))) all
           ∙ ap (λ (s : Split). skipped_in limit (duration (unfinished_by f s)) (rows n m t (finished_by f (split (u ++ qs))))) (split-append ps qs)
-          ∙ ap (λ ps. skipped_in limit (duration ps) (rows n m t (finished_by f (split (u ++ qs))))) (unfinished_behind f (split ps).finished (split (u ++ qs)))
+          ∙ ap (λ ps. skipped_in limit (duration ps) (rows n m t (finished_by f (split (u ++ qs))))) (unfinished_after f (split ps).finished (split (u ++ qs)))
           ∙ none-later limit n m t f u qs (going-unfinished ps)
           (let a = duration-append u qs in let b = duration-append ps qs in let d = ap duration all in omega arith);
     }

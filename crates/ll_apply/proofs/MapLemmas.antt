@@ -73,9 +73,9 @@ in_force-printed maps [] h = refl
 in_force-printed maps (r ∷ rs) h = ap (λ xs. finished_of true r ∷ xs) (force_more r.segment.map_number rs h.1)
 
 -- and so it is where the first segments have their maps
-pub in_force-behind : (maps k : ℕ) (rs : List Row) → AreCounted maps rs → in_force None (led (take (suc k) rs) ++ printed false (drop (suc k) rs)) ≡ led rs
-in_force-behind maps k [] h = refl
-in_force-behind maps k (r ∷ rs) h =
+pub in_force-after : (maps k : ℕ) (rs : List Row) → AreCounted maps rs → in_force None (led (take (suc k) rs) ++ printed false (drop (suc k) rs)) ≡ led rs
+in_force-after maps k [] h = refl
+in_force-after maps k (r ∷ rs) h =
     let whole = take-append-drop k rs in
     ap (λ xs. finished_of true r ∷ xs) (force_on r.segment.map_number (take k rs) (drop k rs) (rw whole h.1) ∙ ap led whole)
 

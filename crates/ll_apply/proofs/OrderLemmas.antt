@@ -4,7 +4,7 @@ use Rattle.std.proofs.Common.{◌≡◌, ℕ, zero, suc, List, [], ◌∷◌, �
 use Rattle.ll_page.specs.Playlist.{Finished}
 use Rattle.ll_page.specs.Spelling.{segment_lines}
 use Rattle.ll_apply.specs.Applied.{in_force, mapped, or_else, unless_broken, with_map, without_parts}
-use Rattle.ll_apply.specs.Order.{force_behind, lines_from, map_if}
+use Rattle.ll_apply.specs.Order.{force_after, lines_from, map_if}
 
 unless-map : (b : Bool) (uri : Option (List ℕ)) (s : Finished) → unless_broken b (with_map uri s) ≡ with_map (map_if b uri) s
 unless-map true uri s = refl
@@ -27,12 +27,12 @@ mapped-lines before (s ∷ more) =
 
 -- segments and then others
 pub lines-more : (leads : Bool) (before : Option (List ℕ)) (s : Finished) (ss rest : List Finished)
-    → lines_from leads before ((s ∷ ss) ++ rest) ≡ lines_from leads before (s ∷ ss) ++ lines_from false (force_behind before (s ∷ ss)) rest
+    → lines_from leads before ((s ∷ ss) ++ rest) ≡ lines_from leads before (s ∷ ss) ++ lines_from false (force_after before (s ∷ ss)) rest
 lines-more leads before s [] rest = sym (append_assoc _ [] (lines_from false (or_else s.block.map before) rest))
 lines-more leads before s (t ∷ ss) rest =
     let uri = or_else s.block.map before in
     let line = segment_lines (with_map (map_if (leads || s.block.broken) uri) s) in
-    ap (λ text. line ++ text) (lines-more false uri t ss rest) ∙ sym (append_assoc line (lines_from false uri (t ∷ ss)) (lines_from false (force_behind uri (t ∷ ss)) rest))
+    ap (λ text. line ++ text) (lines-more false uri t ss rest) ∙ sym (append_assoc line (lines_from false uri (t ∷ ss)) (lines_from false (force_after uri (t ∷ ss)) rest))
 
 twice : (own before : Option (List ℕ)) → or_else (or_else own before) before ≡ or_else own before
 twice None None = refl
@@ -63,7 +63,7 @@ in-force-first leads before s ss rest =
     ∙ ap (λ text. line ++ text) (in-force-again false uri ss rest)
 
 -- the maps in force at some of these segments
-pub drop-in-force : (n : ℕ) (before : Option (List ℕ)) (ss : List Finished) → drop n (in_force before ss) ≡ in_force (force_behind before (take n ss)) (drop n ss)
+pub drop-in-force : (n : ℕ) (before : Option (List ℕ)) (ss : List Finished) → drop n (in_force before ss) ≡ in_force (force_after before (take n ss)) (drop n ss)
 drop-in-force zero before ss = refl
 drop-in-force (suc n) before [] = refl
 drop-in-force (suc n) before (s ∷ ss) = drop-in-force n (or_else s.block.map before) ss
@@ -74,6 +74,6 @@ take-in-force (suc n) before [] = refl
 take-in-force (suc n) before (s ∷ ss) = ap (λ ts. with_map (or_else s.block.map before) s ∷ ts) (take-in-force n (or_else s.block.map before) ss)
 
 -- a map in force is that of the segments without their parts
-pub force-without : (before : Option (List ℕ)) (ss : List Finished) → force_behind before (map without_parts ss) ≡ force_behind before ss
+pub force-without : (before : Option (List ℕ)) (ss : List Finished) → force_after before (map without_parts ss) ≡ force_after before ss
 force-without before [] = refl
 force-without before (s ∷ ss) = force-without (or_else s.block.map before) ss

@@ -1,4 +1,4 @@
--- The last segment of a window is never skipped: the open parts behind it last less than the limit.
+-- The last segment of a window is never skipped: the open parts after it last less than the limit.
 use Rattle.std.proofs.Common.{◌≡◌, ℕ, zero, suc, ◌+◌, ◌*◌, ◌/◌, ◌≤◌, ◌<◌, List, [], ◌∷◌, ◌++◌, Bool, true, false, nat_lt, drop, length, append-nil, append_assoc, Option, Some, None, refl, ap, arith}
 use Rattle.std.proofs.lemmas.Bool.Decides.{nat_tests}
 use Rattle.std.proofs.lemmas.List.{length-drop}

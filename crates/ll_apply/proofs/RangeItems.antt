@@ -71,15 +71,15 @@ apart : (x y : Bool) → (not x && y) ≡ true → (x ≡ false) × (y ≡ true)
 apart true y h = cc
 apart false y h = (refl, h)
 
--- a new one behind the others
-apart_behind : (xs : List Listed) (x : Listed) → are_apart xs ≡ true → has x.id xs ≡ false → are_apart (xs ++ x ∷ []) ≡ true
-apart_behind [] x h none = refl
-apart_behind (y ∷ ys) x h none =
+-- a new one after the others
+apart_after : (xs : List Listed) (x : Listed) → are_apart xs ≡ true → has x.id xs ≡ false → are_apart (xs ++ x ∷ []) ≡ true
+apart_after [] x h none = refl
+apart_after (y ∷ ys) x h none =
     let p = apart (has y.id ys) (are_apart ys) h in
     let n = or_parts (bytes_eq x.id y.id) (has x.id ys) none in
     let other = or_from (bytes_eq y.id x.id) false (either_way x.id y.id (bytes_eq y.id x.id) refl n.0) refl in
     let fresh = list_any-append (λ (z : Listed). bytes_eq y.id z.id) ys (x ∷ []) ∙ or_from (has y.id ys) (bytes_eq y.id x.id || false) p.0 other in
-    and_from (not (has y.id (ys ++ x ∷ []))) (are_apart (ys ++ x ∷ [])) (ap not fresh) (apart_behind ys x p.1 n.1)
+    and_from (not (has y.id (ys ++ x ∷ []))) (are_apart (ys ++ x ∷ [])) (ap not fresh) (apart_after ys x p.1 n.1)
 
 has_by : (id : List ℕ) (b : Bool) (x : Listed) (xs : List Listed) → bytes_eq id x.id ≡ false → has id xs ≡ false → has id (cond b (x ∷ xs) xs) ≡ false
 has_by id true x xs e h = or_from (bytes_eq id x.id) (has id xs) e h
@@ -118,20 +118,20 @@ step c before (item.Range r id attributes) none texts h =
     let x : Listed = record { id = id; attributes = attributes; added = end_from 0 before } in
     let good : IsListable x = record { id = free.1; utf8 = texts.0; allowed = free.2; spelled = texts.1 } in
     subst AreListable (sym (listed-range 0 before r id attributes))
-    (record { each = each-append IsListable (listed before) (x ∷ []) h.each (good, tt); apart = apart_behind (listed before) x h.apart fresh.0 })
+    (record { each = each-append IsListable (listed before) (x ∷ []) h.each (good, tt); apart = apart_after (listed before) x h.apart fresh.0 })
 step c before (item.Unrange r id) none texts h =
     let keep : Listed → Bool = λ (x : Listed). not (bytes_eq id x.id) in
     subst AreListable (sym (listed-unrange 0 before r id))
     (record { each = each-filter IsListable keep (listed before) h.each; apart = apart_fewer keep (listed before) h.apart })
 
-listable_behind : (c : Configuration) (before items : List Item) → AreTold c before items → AreListable (listed before) → AreListable (listed (before ++ items))
-listable_behind c before [] told h = rw (append-nil before) h
-listable_behind c before (i ∷ items) told h =
-    rw (append_assoc before (i ∷ []) items) at (listable_behind c (before ++ i ∷ []) items told.2 (step c before i told.0 told.1 h))
+listable_after : (c : Configuration) (before items : List Item) → AreTold c before items → AreListable (listed before) → AreListable (listed (before ++ items))
+listable_after c before [] told h = rw (append-nil before) h
+listable_after c before (i ∷ items) told h =
+    rw (append_assoc before (i ∷ []) items) at (listable_after c (before ++ i ∷ []) items told.2 (step c before i told.0 told.1 h))
 
 -- date ranges that are listed of what was published
 pub listable : (c : Configuration) (items : List Item) (r : ℕ) → ArePublished c [] items → AreListable (listed (own r items))
-listable c items r published = listable_behind c [] (own r items) (told_own c r [] items published) (record { each = tt; apart = refl })
+listable c items r published = listable_after c [] (own r items) (told_own c r [] items published) (record { each = tt; apart = refl })
 
 -- and their lines
 

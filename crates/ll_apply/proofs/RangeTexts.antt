@@ -14,7 +14,7 @@ use Rattle.ll_attr.specs.declared.attributes.Attribute.{Attribute}
 use Rattle.ll_attr.specs.declared.attributes.AttrValue.{AttrValue}
 use Rattle.ll_attr.specs.declared.attributes.AttrValue.TheVariants.{Quoted}
 use Rattle.ll_attr.proofs.Spelled.{read_by, read_ok, then_ok}
-use Rattle.ll_page.specs.Spelling.{behind_comma}
+use Rattle.ll_page.specs.Spelling.{after_comma}
 use Rattle.ll_range.specs.Attributes.{is_id, is_id_byte, is_allowed, are_allowed}
 use Rattle.ll_apply.proofs.TextLemmas.{all-so}
 
@@ -69,9 +69,9 @@ one_more false few many name v a f h = cc
 one_more true true many name v a f h = cc
 one_more true false many name v a f h = rw (f refl) h
 
-attribute_behind : (names : List (List ℕ)) (name part : List ℕ) (a : Attribute) → bytes_eq a.name name ≡ false → attribute_in names part ≡ Ok a
+attribute_after : (names : List (List ℕ)) (name part : List ℕ) (a : Attribute) → bytes_eq a.name name ≡ false → attribute_in names part ≡ Ok a
     → attribute_in (names ++ name ∷ []) part ≡ Ok a
-attribute_behind names name part a other h =
+attribute_after names name part a other h =
     let is = (read_ok (is_named part) (list_any (bytes_eq (name_of part)) names) (name_of part) (value_in (after_first is_equals part)) a h).1 in
     one_more (is_named part) (list_any (bytes_eq (name_of part)) names) (list_any (bytes_eq (name_of part)) (names ++ name ∷ [])) (name_of part)
     (value_in (after_first is_equals part)) a
@@ -82,14 +82,14 @@ attribute_behind names name part a other h =
 abbrev is_called : List ℕ → Attribute → Bool
 is_called name a = bytes_eq a.name name
 
-read_behind : (names parts : List (List ℕ)) (name : List ℕ) (found : List Attribute) → attributes_of names parts ≡ Ok found → list_any (is_called name) found ≡ false
+read_after : (names parts : List (List ℕ)) (name : List ℕ) (found : List Attribute) → attributes_of names parts ≡ Ok found → list_any (is_called name) found ≡ false
     → attributes_of (names ++ name ∷ []) parts ≡ Ok found
-read_behind names [] name found h none = h
-read_behind names (part ∷ parts) name found h none =
+read_after names [] name found h none = h
+read_after names (part ∷ parts) name found h none =
     let p = then_ok (attribute_in names part) (λ (a : Attribute). attributes_of (a.name ∷ names) parts) found h in
     let others = or_parts (is_called name p.0) (list_any (is_called name) p.1) (ap (list_any (is_called name)) (sym p.4) ∙ none) in
-    ap (λ r. and_then r (λ (a : Attribute). attributes_of (a.name ∷ (names ++ name ∷ [])) parts)) (attribute_behind names name part p.0 others.0 p.2)
-    ∙ ap (in_front p.0) (read_behind (p.0.name ∷ names) parts name p.1 p.3 others.1)
+    ap (λ r. and_then r (λ (a : Attribute). attributes_of (a.name ∷ (names ++ name ∷ [])) parts)) (attribute_after names name part p.0 others.0 p.2)
+    ∙ ap (in_front p.0) (read_after (p.0.name ∷ names) parts name p.1 p.3 others.1)
     ∙ ap Ok (sym p.4)
 
 -- none of the attributes that a date range may have besides is called ID
@@ -107,17 +107,17 @@ none_called (a ∷ more) h =
     let p = and_parts (is_allowed a) (list_all is_allowed more) h in
     or_from (is_called (codes "ID") a) (list_any (is_called (codes "ID")) more) (no_id a (bytes_eq a.name (codes "ID")) refl p.0) (none_called more p.1)
 
--- the text of an ID and of an attribute list behind it is read as both
+-- the text of an ID and of an attribute list after it is read as both
 read_by_text : (id text : List ℕ) (list : List Attribute) → list_all is_quoted_byte id ≡ true → attributes_in text ≡ Ok list
-    → list_any (is_called (codes "ID")) list ≡ false → attributes_in (codes "ID=\"" ++ (id ++ (codes "\"" ++ behind_comma text))) ≡ Ok (id_of id ∷ list)
+    → list_any (is_called (codes "ID")) list ≡ false → attributes_in (codes "ID=\"" ++ (id ++ (codes "\"" ++ after_comma text))) ≡ Ok (id_of id ∷ list)
 read_by_text id [] list h read none = cc
 read_by_text id (b ∷ bs) list h read none =
     ap (attributes_of []) (id_part id (44 ∷ b ∷ bs) (parts_outside false (b ∷ bs)) h refl)
     ∙ ap (λ r. and_then r (λ (a : Attribute). attributes_of (a.name ∷ []) (parts_outside false (b ∷ bs)))) (id_read id h)
-    ∙ ap (in_front (id_of id)) (read_behind [] (parts_outside false (b ∷ bs)) (codes "ID") list read none)
+    ∙ ap (in_front (id_of id)) (read_after [] (parts_outside false (b ∷ bs)) (codes "ID") list read none)
 
 pub read-with_id : (id text : List ℕ) (list : List Attribute) → is_id id ≡ true → attributes_in text ≡ Ok list → are_allowed list ≡ true
-    → attributes_in (codes "ID=\"" ++ (id ++ (codes "\"" ++ behind_comma text))) ≡ Ok (id_of id ∷ list)
+    → attributes_in (codes "ID=\"" ++ (id ++ (codes "\"" ++ after_comma text))) ≡ Ok (id_of id ∷ list)
 read-with_id id text list is read allowed =
     read_by_text id text list (all-so is_id_byte is_quoted_byte id_byte id (and_parts _ (list_all is_id_byte id) is).1) read
     (none_called list (and_parts (list_all is_allowed list) _ allowed).0)

@@ -1,4 +1,4 @@
--- Segments with more behind them: which of them have left the window and which are skipped.
+-- Segments with more after them: which of them have left the window and which are skipped.
 use Rattle.std.proofs.Common.{◌≡◌, ℕ, zero, suc, ◌+◌, ◌-◌, ◌≤◌, List, [], ◌∷◌, ◌++◌, Bool, true, false, nat_le, nat_lt, cond, map, take, drop, length, refl, ap, sym, ◌∙◌, arith}
 use Rattle.std.proofs.lemmas.Bool.Decides.{nat_tests}
 use Rattle.std.proofs.lemmas.List.{drop-drop, drop-map, take-map, drop-append-le, take-append-le, length-append, length-drop}

@@ -5,7 +5,7 @@ use Rattle.ll_window.specs.Rows.{Row}
 use Rattle.ll_window.specs.Window.{window, listed, skipped_in}
 use Rattle.ll_page.specs.Full.{finished_of, printed}
 use Rattle.ll_apply.specs.Applied.{in_force, mapped, without_parts}
-use Rattle.ll_apply.proofs.MapLemmas.{AreCounted, led, counted-window, counted-listed, in_force-printed, in_force-behind, mapped-led, without_parts-led}
+use Rattle.ll_apply.proofs.MapLemmas.{AreCounted, led, counted-window, counted-listed, in_force-printed, in_force-after, mapped-led, without_parts-led}
 use Rattle.ll_apply.proofs.RowLemmas.{left, window-drop, skipped-within, skipped-bare, kept-rows}
 
 -- what is skipped stands in the first segments, where none of the others is
@@ -16,7 +16,7 @@ within limit least b k rs ss none some =
     let i = skipped-within limit b (left least (rs ++ ss)) rs ss none (omega (arith, some')) in
     omega (arith, i, some')
 
--- the first segments had another time of open parts behind them, and now the others stand behind them too
+-- the first segments had another time of open parts after them, and now the others stand after them too
 pub segments-law : (near limit least a b maps k : ℕ) (rs ss : List Row) → near ≤ limit → AreCounted maps rs → AreCounted maps (rs ++ ss)
     → skipped_in limit b ss ≡ 0 → skipped_in limit b (window least (rs ++ ss)) ≡ suc k
     → mapped (in_force None (map without_parts (take (suc k) (drop (left least (rs ++ ss) - left least rs) (in_force None (printed true (listed near a (window least rs))))))
@@ -35,5 +35,5 @@ segments-law near limit least a b maps k rs ss low before after none some =
     ∙ without_parts-led (take (suc k) (drop i earlier))
     ∙ ap led (kept-rows least near a (suc k) rs ss (within limit least b k rs ss none some)
     ∙ (rw some at (skipped-bare near limit b (window least (rs ++ ss)) low))))
-    ∙ ap mapped (in_force-behind n.0 k later (counted-listed near b n.0 (window least (rs ++ ss)) n.1))
+    ∙ ap mapped (in_force-after n.0 k later (counted-listed near b n.0 (window least (rs ++ ss)) n.1))
     ∙ mapped-led later

@@ -2,15 +2,15 @@
 use Rattle.std.proofs.Common.{◌≡◌, ◌==◌, ℕ, List, [], ◌∷◌, ◌++◌, true, false, length, arith, map, take, drop, Option, None, refl, ap, sym, ◌∙◌, append_assoc}
 use Rattle.ll_page.specs.Playlist.{Finished}
 use Rattle.ll_apply.specs.Applied.{in_force, kept, without_parts}
-use Rattle.ll_apply.specs.Order.{both, both_lines, force_behind, lines_from, shown}
+use Rattle.ll_apply.specs.Order.{both, both_lines, force_after, lines_from, shown}
 use Rattle.ll_apply.proofs.OrderLemmas.{mapped-lines, lines-more, in-force-first, drop-in-force, take-in-force, force-without}
 
 opened : (from count : ℕ) (base own : List Finished)
-    → both from count base own ≡ lines_from true None (map without_parts (in_force (force_behind None (take from base)) (take count (drop from base))) ++ own)
+    → both from count base own ≡ lines_from true None (map without_parts (in_force (force_after None (take from base)) (take count (drop from base))) ++ own)
 opened from count base own =
     mapped-lines None (map without_parts (take count (drop from (in_force None base))) ++ own)
     ∙ ap (λ ss. lines_from true None (map without_parts (take count ss) ++ own)) (drop-in-force from None base)
-    ∙ ap (λ ss. lines_from true None (map without_parts ss ++ own)) (take-in-force count (force_behind None (take from base)) (drop from base))
+    ∙ ap (λ ss. lines_from true None (map without_parts ss ++ own)) (take-in-force count (force_after None (take from base)) (drop from base))
 
 some_kept : (before : Option (List ℕ)) (s : Finished) (ss own : List Finished)
     → lines_from true None (map without_parts (in_force before (s ∷ ss)) ++ own) ≡ both_lines before (s ∷ ss) own
@@ -23,8 +23,8 @@ kept_by before [] own = refl
 kept_by before (s ∷ ss) own = some_kept before s ss own
 
 pub both-written : (from count : ℕ) (base own : List Finished)
-    → both from count base own ≡ both_lines (force_behind None (take from base)) (take count (drop from base)) own
-both-written from count base own = opened from count base own ∙ kept_by (force_behind None (take from base)) (take count (drop from base)) own
+    → both from count base own ≡ both_lines (force_after None (take from base)) (take count (drop from base)) own
+both-written from count base own = opened from count base own ∙ kept_by (force_after None (take from base)) (take count (drop from base)) own
 
 -- a segment with its parts is itself
 pub shown-all : (ss : List Finished) → map (shown true) ss ≡ ss
@@ -42,28 +42,28 @@ pushed-own old whole before kept own none is =
     is ∙ ap (λ ss. old ++ lines_from true None ss) (shown-all own) ∙ ap (λ ss. old ++ both_lines before ss own) (sym none)
 
 both_by : (before : Option (List ℕ)) (kept own : List Finished) → (kept ≡ [] → ⊥)
-    → both_lines before kept own ≡ lines_from true before (map without_parts kept) ++ lines_from false (force_behind before kept) own
+    → both_lines before kept own ≡ lines_from true before (map without_parts kept) ++ lines_from false (force_after before kept) own
 both_by before [] own some = absurd (some refl)
 both_by before (s ∷ kept) own some = refl
 
 -- a text with the kept segments, and then with the update's
 pub pushed-both : (old middle whole : List ℕ) (before : Option (List ℕ)) (kept own : List Finished) → (kept ≡ [] → ⊥)
     → middle ≡ old ++ lines_from true before (map (shown false) kept)
-    → whole ≡ middle ++ lines_from false (force_behind before kept) (map (shown true) own) → whole ≡ old ++ both_lines before kept own
+    → whole ≡ middle ++ lines_from false (force_after before kept) (map (shown true) own) → whole ≡ old ++ both_lines before kept own
 pushed-both old middle whole before kept own some first then =
-    let behind = lines_from false (force_behind before kept) own in
-    then ∙ ap (λ ss. middle ++ lines_from false (force_behind before kept) ss) (shown-all own)
-    ∙ ap (λ text. text ++ behind) (first ∙ ap (λ ss. old ++ lines_from true before ss) (shown-none kept))
-    ∙ append_assoc old (lines_from true before (map without_parts kept)) behind
+    let after = lines_from false (force_after before kept) own in
+    then ∙ ap (λ ss. middle ++ lines_from false (force_after before kept) ss) (shown-all own)
+    ∙ ap (λ text. text ++ after) (first ∙ ap (λ ss. old ++ lines_from true before ss) (shown-none kept))
+    ∙ append_assoc old (lines_from true before (map without_parts kept)) after
     ∙ ap (λ text. old ++ text) (sym (both_by before kept own some))
 
 -- a text with what was cut off and kept is the definition's
 pub pushed-kept : (old whole : List ℕ) (before : Option (List ℕ)) (from count : ℕ) (base gone kept own : List Finished)
-    → before ≡ force_behind None gone → gone ≡ take from base → kept ≡ take count (drop from base)
+    → before ≡ force_after None gone → gone ≡ take from base → kept ≡ take count (drop from base)
     → whole ≡ old ++ both_lines before kept own → whole ≡ old ++ both from count base own
 pushed-kept old whole before from count base gone kept own map-is gone-is kept-is is =
-    is ∙ ap (λ uri. old ++ both_lines uri kept own) (map-is ∙ ap (force_behind None) gone-is)
-    ∙ ap (λ ss. old ++ both_lines (force_behind None (take from base)) ss own) kept-is
+    is ∙ ap (λ uri. old ++ both_lines uri kept own) (map-is ∙ ap (force_after None) gone-is)
+    ∙ ap (λ ss. old ++ both_lines (force_after None (take from base)) ss own) kept-is
     ∙ ap (λ text. old ++ text) (sym (both-written from count base own))
 
 pub no-segments : (ss : List Finished) → (length ss == 0) ≡ true → ss ≡ []

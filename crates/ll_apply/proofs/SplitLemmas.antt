@@ -1,5 +1,5 @@
--- The parts of a rendition with more behind them: its segments go on, and none that lasts no longer than the limit with all
--- behind it is skipped.
+-- The parts of a rendition with more after them: its segments go on, and none that lasts no longer than the limit with all
+-- after it is skipped.
 use Rattle.std.proofs.Common.{◌≡◌, ℕ, ◌+◌, ◌≤◌, arith, List, [], ◌∷◌, ◌++◌, Bool, true, false, sum_by, refl, ap, sym, ◌∙◌}
 use Rattle.std.proofs.lemmas.List.Sums.{sum_by-append}
 use Rattle.ll_window.specs.declared.part.Part.{Part}
@@ -35,21 +35,21 @@ none-rows limit tail n m t g gs le =
 abbrev onto : Bool → Part → Split → Split
 onto a q s = put_by a q s.finished s.unfinished
 
--- what these parts and then what is behind them split into
-abbrev pub behind : List (List Part) → Split → Split
-behind gs s = record { finished = gs ++ s.finished; unfinished = s.unfinished }
+-- what these parts and then what is after them split into
+abbrev pub after : List (List Part) → Split → Split
+after gs s = record { finished = gs ++ s.finished; unfinished = s.unfinished }
 
-put_behind : (b : Bool) (p : Part) (gs : List (List Part)) (u qs : List Part) → p.finish ≡ b
-    → put_by b p (gs ++ (split (u ++ qs)).finished) (split (u ++ qs)).unfinished ≡ behind (put_by b p gs u).finished (split ((put_by b p gs u).unfinished ++ qs))
-put_behind true p gs u qs e = refl
-put_behind false p [] u qs e = sym (ap (λ b. put_by b p (split (u ++ qs)).finished (split (u ++ qs)).unfinished) e)
-put_behind false p (g ∷ gs) u qs e = refl
+put_after : (b : Bool) (p : Part) (gs : List (List Part)) (u qs : List Part) → p.finish ≡ b
+    → put_by b p (gs ++ (split (u ++ qs)).finished) (split (u ++ qs)).unfinished ≡ after (put_by b p gs u).finished (split ((put_by b p gs u).unfinished ++ qs))
+put_after true p gs u qs e = refl
+put_after false p [] u qs e = sym (ap (λ b. put_by b p (split (u ++ qs)).finished (split (u ++ qs)).unfinished) e)
+put_after false p (g ∷ gs) u qs e = refl
 
 -- the segments of a longer list begin with those of the shorter
-pub split-append : (ps qs : List Part) → split (ps ++ qs) ≡ behind (split ps).finished (split ((split ps).unfinished ++ qs))
+pub split-append : (ps qs : List Part) → split (ps ++ qs) ≡ after (split ps).finished (split ((split ps).unfinished ++ qs))
 split-append [] qs = refl
 split-append (p ∷ ps) qs =
-    ap (onto p.finish p) (split-append ps qs) ∙ put_behind p.finish p (split ps).finished (split ps).unfinished qs refl
+    ap (onto p.finish p) (split-append ps qs) ∙ put_after p.finish p (split ps).finished (split ps).unfinished qs refl
 
 -- none of these parts finishes a segment
 abbrev pub Going : List Part → Type 0
@@ -124,7 +124,7 @@ none_joined limit n m t true u (g ∷ gs) v le =
     none-rows limit 0 n m t (u ++ g) (gs ++ closed v)
     (let a = total-cons (u ++ g) gs in let b = duration-append u g in let d = total-append gs (closed v) in let f = total-closed v in omega arith)
 
--- no segment is skipped that the parts behind u complete, where they last no longer than the limit
+-- no segment is skipped that the parts after u complete, where they last no longer than the limit
 pub none-later : (limit n m t : ℕ) (e : Bool) (u qs : List Part) → Going u → duration (u ++ qs) ≤ duration u + limit
     → skipped_in limit (duration (unfinished_by e (split (u ++ qs)))) (rows n m t (finished_by e (split (u ++ qs)))) ≡ 0
 none-later limit n m t e u qs h le =

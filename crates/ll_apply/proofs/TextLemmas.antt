@@ -167,12 +167,12 @@ ends_none : (text : List ℕ) → ArePlain text → ends_no_line text ≡ true
 ends_none text h =
     ap (λ b. not b && bytes_eq (strip_carriage_return text) text) (no_feed text h) ∙ (bytes_eq-Decides (strip_carriage_return text) text).1 (plain_stripped text h)
 
-some_behind : (xs : List ℕ) (b : ℕ) (bs : List ℕ) → 1 ≤ length (xs ++ b ∷ bs)
-some_behind xs b bs = let e = length-append xs (b ∷ bs) in omega (arith, e)
+some_after : (xs : List ℕ) (b : ℕ) (bs : List ℕ) → 1 ≤ length (xs ++ b ∷ bs)
+some_after xs b bs = let e = length-append xs (b ∷ bs) in omega (arith, e)
 
 some_time_of : (date : CivilDate) (ms : ℕ) → 1 ≤ length (time_of date ms)
 unfolding time_of
-some_time_of date ms = some_behind (digits_4 date.year) 45 _
+some_time_of date ms = some_after (digits_4 date.year) 45 _
 
 some_time : (ms : ℕ) → 1 ≤ length (time_text ms)
 some_time ms = some_time_of (nth_date (ms / 86400000)) (ms % 86400000)

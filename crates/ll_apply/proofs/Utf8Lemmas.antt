@@ -12,7 +12,7 @@ use Rattle.ll_attr.specs.Attributes as attributes
 use Rattle.ll_range.specs.Announced.{Listed}
 use Rattle.ll_page.specs.Full.{range_line}
 use Rattle.ll_page.specs.Playlist.{Playlist}
-use Rattle.ll_page.specs.Spelling.{spelling, header_lines, sequence_line, discontinuity_line, date_range_line, behind_comma, skip_lines, segment_lines, open_lines, report_line, last_line, front_lines}
+use Rattle.ll_page.specs.Spelling.{spelling, header_lines, sequence_line, discontinuity_line, date_range_line, after_comma, skip_lines, segment_lines, open_lines, report_line, last_line, front_lines}
 use Rattle.ll_read.specs.Readable.{Each}
 use Rattle.ll_apply.proofs.AsciiLemmas.{AreAscii, ascii-append, ascii-header, ascii-sequence, ascii-discontinuity}
 use Rattle.ll_apply.proofs.RangeItems.{IsListable}
@@ -27,18 +27,18 @@ all_low (b ∷ bs) h = let p = and_parts (is_ascii b) (list_all is_ascii bs) h i
 utf8_ascii : (text : List ℕ) → AreAscii text → IsUtf8 text
 utf8_ascii text h = IsUtf8-from_ascii text (all_low text h)
 
-utf8_behind : (text : List ℕ) → is_utf8 text ≡ true → IsUtf8 (behind_comma text)
-utf8_behind [] h = IsUtf8-nil
-utf8_behind (b ∷ bs) h = IsUtf8-append (codes ",") (b ∷ bs) (utf8_ascii (codes ",") refl) (IsUtf8-from_is_utf8 (b ∷ bs) h)
+utf8_after : (text : List ℕ) → is_utf8 text ≡ true → IsUtf8 (after_comma text)
+utf8_after [] h = IsUtf8-nil
+utf8_after (b ∷ bs) h = IsUtf8-append (codes ",") (b ∷ bs) (utf8_ascii (codes ",") refl) (IsUtf8-from_is_utf8 (b ∷ bs) h)
 
 utf8_range : (x : Listed) → IsListable x → IsUtf8 (date_range_line (range_line x))
 unfolding date_range_line
 utf8_range x h =
     let text = attributes.spelling x.attributes in
-    IsUtf8-append (codes "#EXT-X-DATERANGE:ID=\"") (x.id ++ (codes "\"" ++ (behind_comma text ++ codes "\n"))) (utf8_ascii (codes "#EXT-X-DATERANGE:ID=\"") refl)
-    (IsUtf8-append x.id (codes "\"" ++ (behind_comma text ++ codes "\n")) (IsUtf8-from_is_utf8 x.id h.utf8)
-    (IsUtf8-append (codes "\"") (behind_comma text ++ codes "\n") (utf8_ascii (codes "\"") refl)
-    (IsUtf8-append (behind_comma text) (codes "\n") (utf8_behind text h.spelled.utf8) (utf8_ascii (codes "\n") refl))))
+    IsUtf8-append (codes "#EXT-X-DATERANGE:ID=\"") (x.id ++ (codes "\"" ++ (after_comma text ++ codes "\n"))) (utf8_ascii (codes "#EXT-X-DATERANGE:ID=\"") refl)
+    (IsUtf8-append x.id (codes "\"" ++ (after_comma text ++ codes "\n")) (IsUtf8-from_is_utf8 x.id h.utf8)
+    (IsUtf8-append (codes "\"") (after_comma text ++ codes "\n") (utf8_ascii (codes "\"") refl)
+    (IsUtf8-append (after_comma text) (codes "\n") (utf8_after text h.spelled.utf8) (utf8_ascii (codes "\n") refl))))
 
 pub utf8-ranges : (xs : List Listed) → Each IsListable xs → IsUtf8 (flat_map date_range_line (map range_line xs))
 utf8-ranges [] h = IsUtf8-nil

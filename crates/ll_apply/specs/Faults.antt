@@ -3,7 +3,7 @@ use Rattle.std.specs.Prelude.{ℕ, List, ◌++◌, Some, None, codes, decimal}
 use Rattle.ll_apply.specs.declared.fault.ApplyFault.{ApplyFault}
 use Rattle.ll_apply.specs.declared.fault.ApplyFault.TheVariants.{BadBase, BadDelta, NotRecent, Memory}
 
--- a name, and behind a space a number
+-- a name, and after a space a number
 unfoldable pub numbered : List ℕ → ℕ → List ℕ
 numbered name number = name ++ (codes " " ++ decimal number)
 

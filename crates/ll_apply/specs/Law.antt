@@ -19,7 +19,7 @@ abbrev pub AreAccepted : Configuration → List Item → List Item → Type 0
 AreAccepted c before [] = Unit
 AreAccepted c before (item ∷ items) = (refusal c (own (rendition_of item) before) item ≡ None) × AreAccepted c (before ++ item ∷ []) items
 
--- A delta update, put upon an earlier full playlist, is the full playlist of its own moment, where the parts behind the
+-- A delta update, put upon an earlier full playlist, is the full playlist of its own moment, where the parts after the
 -- earlier one last no longer than the skip limit.
 abbrev pub CompanionLaw : Type 0
 CompanionLaw = (c : Configuration) (items more : List Item) (rendition : ℕ) (kind : SkipKind)

@@ -4,10 +4,10 @@ use Rattle.ll_page.specs.Playlist.{Finished}
 use Rattle.ll_page.specs.Spelling.{segment_lines}
 use Rattle.ll_apply.specs.Applied.{in_force, mapped, or_else, with_map, without_parts}
 
--- the map in force behind these segments, where this one is in force before them
-abbrev pub force_behind : Option (List ℕ) → List Finished → Option (List ℕ)
-force_behind before [] = before
-force_behind before (s ∷ more) = force_behind (or_else s.block.map before) more
+-- the map in force after these segments, where this one is in force before them
+abbrev pub force_after : Option (List ℕ) → List Finished → Option (List ℕ)
+force_after before [] = before
+force_after before (s ∷ more) = force_after (or_else s.block.map before) more
 
 abbrev pub map_if : Bool → Option (List ℕ) → Option (List ℕ)
 map_if true uri = uri
@@ -18,17 +18,17 @@ abbrev pub shown : Bool → Finished → Finished
 shown true s = s
 shown false s = without_parts s
 
--- the lines of segments behind this map in force: a MAP line stands at the first one, where that leads, and at each broken one
+-- the lines of segments after this map in force: a MAP line stands at the first one, where that leads, and at each broken one
 abbrev pub lines_from : Bool → Option (List ℕ) → List Finished → List ℕ
 lines_from leads before [] = []
 lines_from leads before (s ∷ more) =
     segment_lines (with_map (map_if (leads || s.block.broken) (or_else s.block.map before)) s) ++ lines_from false (or_else s.block.map before) more
 
--- the lines of kept segments behind this map in force, without their parts, and then of others
+-- the lines of kept segments after this map in force, without their parts, and then of others
 abbrev pub both_lines : Option (List ℕ) → List Finished → List Finished → List ℕ
 both_lines before [] own = lines_from true None own
 both_lines before (s ∷ kept) own =
-    lines_from true before (map without_parts (s ∷ kept)) ++ lines_from false (force_behind before (s ∷ kept)) own
+    lines_from true before (map without_parts (s ∷ kept)) ++ lines_from false (force_after before (s ∷ kept)) own
 
 -- the lines of so many segments from this place on, without their parts, and then of others, as the definition has them
 abbrev pub both : ℕ → ℕ → List Finished → List Finished → List ℕ

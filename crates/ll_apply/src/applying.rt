@@ -25,7 +25,7 @@ use std::alloc::{AllocError, Global};
 /// ends each line.
 ///
 /// Where there is no such playlist the first reason is told; memory that isn't found comes after all others. Where both texts are
-/// of one rendition, and the parts behind the earlier one last no longer than the skip limit, there is one: the full playlist at
+/// of one rendition, and the parts after the earlier one last no longer than the skip limit, there is one: the full playlist at
 /// the moment of the update.
 pub fn apply(alloc: Global, base: &[u8], delta: &[u8]) -> Result<Text, ApplyFault>
     ensures value { IfOk result (λ text. applied_text base.now delta.now ≡ Ok text) }

@@ -20,7 +20,7 @@ pub enum ApplyFault {
     Memory,
 }
 
-/// Its name, and behind a space its number, where it has one.
+/// Its name, and after a space its number, where it has one.
 #[tactic(auto, unfolding(crate::specs::Faults::numbered))]
 impl fmt::Display for ApplyFault {
     ghost output = { λ fault. Some (fault_text fault) };

@@ -2,7 +2,7 @@
 ghost use Rattle.std.specs.Prelude.{◌≡◌, ◌++◌, OnOk, string_bytes, map, take, drop};
 ghost use Rattle.std.specs.Option.{option_map};
 ghost use Rattle.ll_apply.specs.Applied.{or_else, with_map};
-ghost use Rattle.ll_apply.specs.Order.{both, both_lines, force_behind, lines_from, shown};
+ghost use Rattle.ll_apply.specs.Order.{both, both_lines, force_after, lines_from, shown};
 ghost use Rattle.ll_page.specs.Spelling.{segment_lines};
 
 use ll_attr::Micros;
@@ -23,7 +23,7 @@ pub(crate) fn push_segments(
     ensures { OnOk result (string_bytes text.new ≡ string_bytes text.old ++ both from count base.now own.now) }
 {
     let (gone, kept) = split_kept(base, from, count);
-    push_both(text, map_behind(None, gone), kept, own)
+    push_both(text, map_after(None, gone), kept, own)
 }
 
 /// The segments before the kept ones, which begin at this place, and so many kept ones.
@@ -36,7 +36,7 @@ fn split_kept(segments: &[Finished], from: usize, count: usize) -> (&[Finished],
     (gone, kept)
 }
 
-/// Adds kept segments behind this map in force, without their parts, and then those of the update. The first of all leads.
+/// Adds kept segments after this map in force, without their parts, and then those of the update. The first of all leads.
 fn push_both(
     text: &mut String,
     before: Option<&str>,
@@ -50,12 +50,12 @@ fn push_both(
         return push_in_order(text, own, None, true, true);
     }
     push_in_order(text, kept, before, true, false)?;
-    push_in_order(text, own, map_behind(before, kept), false, true)
+    push_in_order(text, own, map_after(before, kept), false, true)
 }
 
-/// The map in force behind segments, where this one is in force before them.
-fn map_behind<'a>(before: Option<&'a str>, segments: &'a [Finished]) -> Option<&'a str>
-    ensures { option_map (λ uri. uri.now) result ≡ force_behind (option_map (λ uri. uri.now) before.entry) segments.now }
+/// The map in force after segments, where this one is in force before them.
+fn map_after<'a>(before: Option<&'a str>, segments: &'a [Finished]) -> Option<&'a str>
+    ensures { option_map (λ uri. uri.now) result ≡ force_after (option_map (λ uri. uri.now) before.entry) segments.now }
 {
     let mut map = before;
     for segment in segments {
@@ -74,7 +74,7 @@ fn map_at<'a>(before: Option<&'a str>, segment: &'a Finished) -> Option<&'a str>
     }
 }
 
-/// Adds segments behind this map in force, with their parts or without them. The first of them leads the playlist or doesn't.
+/// Adds segments after this map in force, with their parts or without them. The first of them leads the playlist or doesn't.
 fn push_in_order(
     text: &mut String,
     segments: &[Finished],

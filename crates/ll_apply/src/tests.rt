@@ -3,7 +3,7 @@ use std::alloc::Global;
 use std::ops::Range;
 use std::test::Fail;
 
-/// The segments 3 to 7 and what stands behind them.
+/// The segments 3 to 7 and what stands after them.
 const BASE: &str = "#EXTM3U\n\
     #EXT-X-VERSION:9\n\
     #EXT-X-TARGETDURATION:4\n\
@@ -63,7 +63,7 @@ const KEPT: &str = "#EXT-X-MAP:URI=\"init0.mp4\"\n\
     #EXTINF:1.000000,\n\
     s6.m4s\n";
 
-/// The segments 7 and 8 of the update, but for the break before them, and what stands behind them.
+/// The segments 7 and 8 of the update, but for the break before them, and what stands after them.
 const OWN: &str = "#EXT-X-PROGRAM-DATE-TIME:at 7\n\
     #EXT-X-PART:DURATION=0.750000,URI=\"s7.0.m4s\",INDEPENDENT=YES\n\
     #EXTINF:0.750000,\n\
@@ -96,7 +96,7 @@ fn told(alloc: Global, base: &str, delta: &str) -> Result<String, Fail> {
     Ok(told)
 }
 
-/// A playlist from this number on, of these lines behind the header.
+/// A playlist from this number on, of these lines after the header.
 fn playlist(alloc: Global, sequence: u64, rest: &str) -> Result<String, Fail> {
     let control = "CAN-BLOCK-RELOAD=YES,PART-HOLD-BACK=3.000000,CAN-SKIP-UNTIL=24.000000";
     let front = format!(in alloc;

@@ -4,14 +4,14 @@ use Rattle.std.proofs.lemmas.List.{take_more}
 use Rattle.std.specs.List.{list_any, after_first}
 use Rattle.std.specs.Result.{IsOk}
 use Rattle.ll_attr.specs.Attributes.{attributes_of, attribute_in, in_front, and_then, is_equals, value_in}
-use Rattle.ll_attr.specs.Reading.{name_of, is_named, names_of_parts, fault_of, fault_behind, fault_in, first_of}
+use Rattle.ll_attr.specs.Reading.{name_of, is_named, names_of_parts, fault_of, fault_after, fault_in, first_of}
 use Rattle.ll_attr.specs.declared.attributes.Attribute.{Attribute}
 use Rattle.ll_attr.specs.declared.attributes.AttrValue.{AttrValue}
 use Rattle.ll_attr.specs.declared.attributes.AttrFault.{AttrFault}
 use Rattle.ll_attr.proofs.ReadSoFar.{or_false, swap_or}
 use Rattle.ll_attr.proofs.Spelled.{read_by}
 
-outcome_by : (x y : Bool) (name : List ℕ) (v : Option AttrValue) → MatchOption (fault_behind x y v) ((a : Attribute) × (read_by x y name v ≡ Ok a) × (a.name ≡ name)) (λ fault. read_by x y name v ≡ Err fault)
+outcome_by : (x y : Bool) (name : List ℕ) (v : Option AttrValue) → MatchOption (fault_after x y v) ((a : Attribute) × (read_by x y name v ≡ Ok a) × (a.name ≡ name)) (λ fault. read_by x y name v ≡ Err fault)
 outcome_by false y name v = refl
 outcome_by true true name v = refl
 outcome_by true false name None = refl
@@ -100,11 +100,11 @@ some_ends names parts f e = is_err (fault_in names parts) f (attributes_of names
 -- the first fault of a part, by what was found of it
 pub checked : (part name : List ℕ) (parts : List (List ℕ)) (twice : Bool) (v : Option AttrValue) → is_named part ≡ true → name ≡ name_of part
     → list_any (λ part. bytes_eq name (name_of part)) parts ≡ twice → value_in (after_first is_equals part) ≡ v
-    → fault_behind true twice v ≡ fault_of (names_of_parts [] parts) part
+    → fault_after true twice v ≡ fault_of (names_of_parts [] parts) part
 checked part name parts twice v is named stands value =
     let before = names_of_parts [] parts in
     let among : list_any (bytes_eq (name_of part)) before ≡ twice =
     ap (λ n. list_any (bytes_eq n) before) (sym named) ∙ sym (named_before name parts) ∙ stands in
-    ap (λ b. fault_behind b twice v) (sym is)
-    ∙ ap (λ b. fault_behind (is_named part) b v) (sym among)
-    ∙ ap (λ w. fault_behind (is_named part) (list_any (bytes_eq (name_of part)) before) w) (sym value)
+    ap (λ b. fault_after b twice v) (sym is)
+    ∙ ap (λ b. fault_after (is_named part) b v) (sym among)
+    ∙ ap (λ w. fault_after (is_named part) (list_any (bytes_eq (name_of part)) before) w) (sym value)

@@ -8,7 +8,7 @@ use Rattle.ll_attr.specs.Words.{parts_at}
 use Rattle.ll_attr.specs.declared.attributes.Attribute.{Attribute}
 use Rattle.ll_attr.specs.declared.attributes.AttrValue.{AttrValue}
 use Rattle.ll_attr.specs.declared.attributes.AttrValue.TheVariants.{Quoted, Bare}
-use Rattle.ll_attr.proofs.PartsOutside.{first_part, parts_behind}
+use Rattle.ll_attr.proofs.PartsOutside.{first_part, parts_after}
 use Rattle.ll_attr.proofs.Spelled.{read_ok, then_ok, written_again}
 
 -- what is not quoted is a bare value
@@ -46,9 +46,9 @@ read_formed names part a h =
 pub first_formed : (text : List ℕ) (a : Attribute) (more : List Attribute) → attributes_in text ≡ Ok (a ∷ more) → (is_attribute_name a.name ≡ true) × (is_formed a.value ≡ true)
 first_formed text a more h =
     let part = take (part_len false text) text in
-    let behind = drop (part_len false text) text in
-    let cut : attributes_of [] (part ∷ parts_behind behind) ≡ Ok (a ∷ more) = ap (attributes_of []) (sym (first_part false text)) ∙ h in
-    let p = then_ok (attribute_in [] part) (λ (x : Attribute). attributes_of (x.name ∷ []) (parts_behind behind)) (a ∷ more) cut in
+    let after = drop (part_len false text) text in
+    let cut : attributes_of [] (part ∷ parts_after after) ≡ Ok (a ∷ more) = ap (attributes_of []) (sym (first_part false text)) ∙ h in
+    let p = then_ok (attribute_in [] part) (λ (x : Attribute). attributes_of (x.name ∷ []) (parts_after after)) (a ∷ more) cut in
     let is : p.0 ≡ a = cc in
     read_formed [] part a (p.2 ∙ ap Ok is)
 

@@ -1,4 +1,4 @@
--- Digits behind a point are less than a second: k of them are below 10 ^ k, and the scale is the 10 ^ (6 - k) that is left of a million.
+-- Digits after a point are less than a second: k of them are below 10 ^ k, and the scale is the 10 ^ (6 - k) that is left of a million.
 use Rattle.std.proofs.Common.{◌≡◌, ℕ, ◌+◌, ◌-◌, ◌*◌, ◌<◌, ◌^◌, List, length, ap, sym, ◌∙◌, arith, Option, Some, None, if◌then◌else◌}
 use Rattle.std.proofs.Math.Nat.{one-le-pow, mul-lt-mul_of_pos_right}
 use Rattle.std.proofs.lemmas.Bool.Decides.{nat_tests}
@@ -9,7 +9,7 @@ use Rattle.std.specs.Str.Parse.{digits_value}
 use Rattle.ll_attr.specs.Numbers.{is_digits, number_in}
 use Rattle.ll_attr.proofs.Digits.{digits_model, is_digits-parts, number_in-short, number_in_some}
 
--- the microseconds of 1 to 6 digits behind a point
+-- the microseconds of 1 to 6 digits after a point
 abbrev pub fraction_in : List ℕ → Option ℕ
 fraction_in text = if is_digits 6 text then Some (digits_value 10 text * 10 ^ (6 - length text)) else None
 

@@ -1,4 +1,4 @@
--- What a text of seconds means, by where its first point cuts it: nowhere, or in two. Behind that point a second one leaves no digits.
+-- What a text of seconds means, by where its first point cuts it: nowhere, or in two. After that point a second one leaves no digits.
 use Rattle.std.proofs.Common.{◌≡◌, ℕ, ◌+◌, ◌-◌, ◌*◌, ◌<◌, ◌^◌, ◌==◌, ◌++◌, Bool, true, false, List, [], ◌∷◌, length, refl, ap, sym, ◌∙◌, arith, Option, Some, None}
 use Rattle.std.proofs.lemmas.Bool.Decides.{nat_tests}
 use Rattle.std.proofs.lemmas.List.Splits.{slice_split_none, slice_split_at, join_with_byte-slice_split, length-slice_split}
@@ -26,7 +26,7 @@ no_fraction whole fraction [] e some bad = absurd (omega arith)
 no_fraction whole fraction (x ∷ []) e some bad = grind (arith, nat_tests)
 no_fraction whole fraction (x ∷ y ∷ more) e some bad = refl
 
--- a further point leaves the text no meaning, as it leaves no digits behind the first point
+-- a further point leaves the text no meaning, as it leaves no digits after the first point
 pub one_cut : (whole fraction : List ℕ) (b : Bool) → is_digits 6 fraction ≡ b → micros_of_parts (whole ∷ parts_at 46 fraction) ≡ micros_of_parts (whole ∷ fraction ∷ [])
 one_cut whole fraction true h =
     ap (λ ps. micros_of_parts (whole ∷ ps)) (slice_split_none is_point fraction (no_point fraction (is_digits-parts 6 fraction h).2))

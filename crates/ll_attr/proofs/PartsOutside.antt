@@ -16,31 +16,31 @@ cut_outside : (quoted : Bool) (b : ℕ) → is_cut quoted b ≡ true → quoted_
 cut_outside true b e = grind (arith, nat_tests)
 cut_outside false b e = grind (arith, nat_tests)
 
--- what is left behind the first part: nothing, or a comma and the other parts
-abbrev pub parts_behind : List ℕ → List (List ℕ)
-parts_behind [] = []
-parts_behind (comma ∷ bs) = parts_outside false bs
+-- what is left after the first part: nothing, or a comma and the other parts
+abbrev pub parts_after : List ℕ → List (List ℕ)
+parts_after [] = []
+parts_after (comma ∷ bs) = parts_outside false bs
 
-first_by : (x : Bool) (b n : ℕ) (bs : List ℕ) (parts : List (List ℕ)) → parts ≡ take n bs ∷ parts_behind (drop n bs) → (x ≡ true → parts ≡ parts_outside false bs)
-    → cut_by x b parts ≡ take (len_by x n) (b ∷ bs) ∷ parts_behind (drop (len_by x n) (b ∷ bs))
+first_by : (x : Bool) (b n : ℕ) (bs : List ℕ) (parts : List (List ℕ)) → parts ≡ take n bs ∷ parts_after (drop n bs) → (x ≡ true → parts ≡ parts_outside false bs)
+    → cut_by x b parts ≡ take (len_by x n) (b ∷ bs) ∷ parts_after (drop (len_by x n) (b ∷ bs))
 first_by true b n bs parts e outside = ap (λ ps. [] ∷ ps) (outside refl)
 first_by false b n bs parts e outside = ap (put_front b) e
 
-pub first_part : (quoted : Bool) (text : List ℕ) → parts_outside quoted text ≡ take (part_len quoted text) text ∷ parts_behind (drop (part_len quoted text) text)
+pub first_part : (quoted : Bool) (text : List ℕ) → parts_outside quoted text ≡ take (part_len quoted text) text ∷ parts_after (drop (part_len quoted text) text)
 first_part quoted [] = refl
 first_part quoted (b ∷ bs) =
     first_by (is_cut quoted b) b (part_len (quoted_after quoted b) bs) bs (parts_outside (quoted_after quoted b) bs) (first_part (quoted_after quoted b) bs)
     (λ e. ap (λ q. parts_outside q bs) (cut_outside quoted b e))
 
-behind_by : (x : Bool) (b n d : ℕ) (bs ds : List ℕ) → drop (len_by x n) (b ∷ bs) ≡ d ∷ ds → (x ≡ true → b ≡ 44) → (drop n bs ≡ d ∷ ds → d ≡ 44) → d ≡ 44
-behind_by true b n d bs ds e here more = let is = here refl in cc
-behind_by false b n d bs ds e here more = more e
+after_by : (x : Bool) (b n d : ℕ) (bs ds : List ℕ) → drop (len_by x n) (b ∷ bs) ≡ d ∷ ds → (x ≡ true → b ≡ 44) → (drop n bs ≡ d ∷ ds → d ≡ 44) → d ≡ 44
+after_by true b n d bs ds e here more = let is = here refl in cc
+after_by false b n d bs ds e here more = more e
 
--- behind the first part stands nothing or a comma
-pub behind_comma : (quoted : Bool) (text : List ℕ) (d : ℕ) (ds : List ℕ) → drop (part_len quoted text) text ≡ d ∷ ds → d ≡ 44
-behind_comma quoted [] d ds e = cc
-behind_comma quoted (b ∷ bs) d ds e =
-    behind_by (is_cut quoted b) b (part_len (quoted_after quoted b) bs) d bs ds e (cut_comma quoted b) (behind_comma (quoted_after quoted b) bs d ds)
+-- after the first part stands nothing or a comma
+pub after_comma : (quoted : Bool) (text : List ℕ) (d : ℕ) (ds : List ℕ) → drop (part_len quoted text) text ≡ d ∷ ds → d ≡ 44
+after_comma quoted [] d ds e = cc
+after_comma quoted (b ∷ bs) d ds e =
+    after_by (is_cut quoted b) b (part_len (quoted_after quoted b) bs) d bs ds e (cut_comma quoted b) (after_comma (quoted_after quoted b) bs d ds)
 
 len_by-le : (x : Bool) (n m : ℕ) → n ≤ m → len_by x n ≤ suc m
 len_by-le true n m h = omega arith
@@ -51,17 +51,17 @@ part_len-le quoted [] = omega arith
 part_len-le quoted (b ∷ bs) = len_by-le (is_cut quoted b) _ _ (part_len-le (quoted_after quoted b) bs)
 
 pub part_len-comma : (text : List ℕ) → part_len false text < length text → get_or text (part_len false text) 0 ≡ 44
-part_len-comma text h = behind_comma false text _ _ (drop-cons text (part_len false text) 0 h)
+part_len-comma text h = after_comma false text _ _ (drop-cons text (part_len false text) 0 h)
 
-pub cut_none : (text behind : List ℕ) → behind ≡ drop (part_len false text) text → ((rest : List ℕ) → behind ≢ 44 ∷ rest)
+pub cut_none : (text after : List ℕ) → after ≡ drop (part_len false text) text → ((rest : List ℕ) → after ≢ 44 ∷ rest)
     → parts_outside false text ≡ take (part_len false text) text ∷ []
-cut_none text [] e none = first_part false text ∙ ap (λ bs. take (part_len false text) text ∷ parts_behind bs) (sym e)
-cut_none text (d ∷ ds) e none = absurd (none ds (ap (λ b. b ∷ ds) (behind_comma false text d ds (sym e))))
+cut_none text [] e none = first_part false text ∙ ap (λ bs. take (part_len false text) text ∷ parts_after bs) (sym e)
+cut_none text (d ∷ ds) e none = absurd (none ds (ap (λ b. b ∷ ds) (after_comma false text d ds (sym e))))
 
-pub cut_some : (text behind rest : List ℕ) → behind ≡ drop (part_len false text) text → behind ≡ 44 ∷ rest
+pub cut_some : (text after rest : List ℕ) → after ≡ drop (part_len false text) text → after ≡ 44 ∷ rest
     → parts_outside false text ≡ take (part_len false text) text ∷ parts_outside false rest
-cut_some text behind rest e comma =
-    first_part false text ∙ ap (λ bs. take (part_len false text) text ∷ parts_behind bs) (sym e ∙ comma)
+cut_some text after rest e comma =
+    first_part false text ∙ ap (λ bs. take (part_len false text) text ∷ parts_after bs) (sym e ∙ comma)
 
 join_by : (x : Bool) (b : ℕ) (bs part : List ℕ) (parts : List (List ℕ)) → join_with_byte 44 (part ∷ parts) ≡ bs → (x ≡ true → b ≡ 44)
     → join_with_byte 44 (cut_by x b (part ∷ parts)) ≡ b ∷ bs

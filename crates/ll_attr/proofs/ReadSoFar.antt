@@ -28,7 +28,7 @@ names_push : (names : List (List ℕ)) (found : List Attribute) (a : Attribute) 
 names_push names [] a = refl
 names_push names (b ∷ found) a = names_push (b.name ∷ names) found a
 
--- what the parts mean behind these attributes
+-- what the parts mean after these attributes
 abbrev pub read_on : List Attribute → List (List ℕ) → Result (List Attribute) AttrFault
 read_on found parts = joined found (attributes_of (names_so_far [] found) parts)
 
@@ -51,9 +51,9 @@ read_last found a part whole r e h so_far =
 
 -- the first part and others
 pub with_others : (whole : List (List ℕ)) (part : List ℕ) (r : Option (Bor (List ℕ)))
-    → MatchOption r (whole ≡ part ∷ []) (λ behind. whole ≡ part ∷ parts_outside false behind.now) → (parts : List (List ℕ)) × (whole ≡ part ∷ parts)
+    → MatchOption r (whole ≡ part ∷ []) (λ after. whole ≡ part ∷ parts_outside false after.now) → (parts : List (List ℕ)) × (whole ≡ part ∷ parts)
 with_others whole part None h = ([], h)
-with_others whole part (Some behind) h = (parts_outside false behind.now, h)
+with_others whole part (Some after) h = (parts_outside false after.now, h)
 
 pub read_fault : (found : List Attribute) (part : List ℕ) (whole : List (List ℕ)) (r : Result (List Attribute) AttrFault) (fault : AttrFault)
     → (parts : List (List ℕ)) × (whole ≡ part ∷ parts) → attribute_in (names_so_far [] found) part ≡ Err fault → read_on found whole ≡ r → r ≡ Err fault

@@ -4,7 +4,7 @@ use Rattle.std.specs.List.{list_any, after_first}
 use Rattle.ll_attr.specs.Attributes.{attributes_in, attributes_of, attribute_in, spelling, value_in, and_then, in_front, parts_outside, is_equals}
 use Rattle.ll_attr.specs.Reading.{name_of, is_named, part_len}
 use Rattle.ll_attr.specs.declared.attributes.Attribute.{Attribute}
-use Rattle.ll_attr.proofs.PartsOutside.{parts_behind, first_part, join_outside}
+use Rattle.ll_attr.proofs.PartsOutside.{parts_after, first_part, join_outside}
 use Rattle.ll_attr.proofs.Spelled.{read_by, then_ok, parts_spelled}
 
 -- each name that stands among the first stands among the second
@@ -38,10 +38,10 @@ of_within few many (part ∷ parts) found f h =
     ∙ ap (in_front a) (of_within (a.name ∷ few) (a.name ∷ many) parts more (within_more few many a.name f) p.3)
     ∙ sym (ap Ok p.4)
 
-behind_read : (names : List (List ℕ)) (behind : List ℕ) (b : Attribute) (more : List Attribute) → attributes_of names (parts_behind behind) ≡ Ok (b ∷ more)
+after_read : (names : List (List ℕ)) (after : List ℕ) (b : Attribute) (more : List Attribute) → attributes_of names (parts_after after) ≡ Ok (b ∷ more)
     → attributes_in (spelling (b ∷ more)) ≡ Ok (b ∷ more)
-behind_read names [] b more h = cc
-behind_read names (comma ∷ text) b more h =
+after_read names [] b more h = cc
+after_read names (comma ∷ text) b more h =
     let parts = parts_outside false text in
     let spelled = (parts_spelled names parts (b ∷ more) h).1 ∙ join_outside false text in
     ap attributes_in spelled ∙ of_within [] names parts (b ∷ more) (λ name e. refl) h
@@ -50,11 +50,11 @@ tail_by : (a : Attribute) (more : List Attribute) (text : List ℕ) → attribut
 tail_by a [] text h some = absurd (some refl)
 tail_by a (b ∷ more) text h some =
     let part = take (part_len false text) text in
-    let behind = drop (part_len false text) text in
-    let cut : attributes_of [] (part ∷ parts_behind behind) ≡ Ok (a ∷ b ∷ more) = ap (attributes_of []) (sym (first_part false text)) ∙ h in
-    let p = then_ok (attribute_in [] part) (λ (x : Attribute). attributes_of (x.name ∷ []) (parts_behind behind)) (a ∷ b ∷ more) cut in
+    let after = drop (part_len false text) text in
+    let cut : attributes_of [] (part ∷ parts_after after) ≡ Ok (a ∷ b ∷ more) = ap (attributes_of []) (sym (first_part false text)) ∙ h in
+    let p = then_ok (attribute_in [] part) (λ (x : Attribute). attributes_of (x.name ∷ []) (parts_after after)) (a ∷ b ∷ more) cut in
     let is : b ∷ more ≡ p.1 = cc in
-    behind_read (p.0.name ∷ []) behind b more (p.3 ∙ ap Ok (sym is))
+    after_read (p.0.name ∷ []) after b more (p.3 ∙ ap Ok (sym is))
 
 -- what is left of a list that meets the invariant meets it
 pub left_read : (items left : List Attribute) → (items ≢ [] → attributes_in (spelling items) ≡ Ok items) → left ≡ take 0 items ++ drop 1 items → left ≢ [] → attributes_in (spelling left) ≡ Ok left

@@ -81,7 +81,7 @@ end_by false inner b parts h = front_part inner b parts
 some_left : (b : ℕ) (bs : List ℕ) → (length (b ∷ bs) == 0) ≡ false
 some_left b bs = grind (arith, nat_tests)
 
--- what stands between two marks, by what stands before the first and behind the second
+-- what stands between two marks, by what stands before the first and after the second
 pub inner_by_cut : (before inner end : List ℕ) → inner_of (before ∷ inner ∷ parts_at 34 end)
     ≡ inner_if (length before == 0 && (length end == 0 && list_all is_quoted_byte inner)) inner
 inner_by_cut (b ∷ bs) inner end =
@@ -91,9 +91,9 @@ inner_by_cut [] inner (b ∷ bs) =
     end_by (is_mark b) inner b (parts_at 34 bs) (omega (arith, length-slice_split is_mark bs))
     ∙ sym (ap (λ x. inner_if (x && list_all is_quoted_byte inner) inner) (some_left b bs))
 
-pub inner_in_cut : (text before behind inner end : List ℕ) (b : Bool) → parts_at 34 text ≡ before ∷ parts_at 34 behind → parts_at 34 behind ≡ inner ∷ parts_at 34 end
+pub inner_in_cut : (text before after inner end : List ℕ) (b : Bool) → parts_at 34 text ≡ before ∷ parts_at 34 after → parts_at 34 after ≡ inner ∷ parts_at 34 end
     → (length before == 0 && (length end == 0 && list_all is_quoted_byte inner)) ≡ b → inner_of (parts_at 34 text) ≡ inner_if b inner
-inner_in_cut text before behind inner end b e d h =
+inner_in_cut text before after inner end b e d h =
     ap inner_of (e ∙ ap (λ parts. before ∷ parts) d) ∙ inner_by_cut before inner end ∙ ap (λ x. inner_if x inner) h
 
 pub first_fails : (x y z : Bool) → false ≡ x → (x && (y && z)) ≡ false
@@ -109,9 +109,9 @@ third_fails true false z e = refl
 third_fails false y z e = refl
 
 -- with one mark there is nothing between two
-pub inner_one_mark : (text before behind : List ℕ) → parts_at 34 text ≡ before ∷ parts_at 34 behind → parts_at 34 behind ≡ behind ∷ [] → inner_of (parts_at 34 text) ≡ None
-inner_one_mark text [] behind e d = ap inner_of (e ∙ ap (λ parts. [] ∷ parts) d)
-inner_one_mark text (b ∷ bs) behind e d = ap inner_of e
+pub inner_one_mark : (text before after : List ℕ) → parts_at 34 text ≡ before ∷ parts_at 34 after → parts_at 34 after ≡ after ∷ [] → inner_of (parts_at 34 text) ≡ None
+inner_one_mark text [] after e d = ap inner_of (e ∙ ap (λ parts. [] ∷ parts) d)
+inner_one_mark text (b ∷ bs) after e d = ap inner_of e
 
 no_inner : (text : List ℕ) → inner_of (text ∷ []) ≡ None
 no_inner [] = refl

@@ -61,8 +61,8 @@ abbrev pub valued : List ℕ → Option AttrValue → Result Attribute AttrFault
 valued name None = Err BadValue
 valued name (Some value) = Ok (record { name = name; value = value })
 
--- the attribute that a part spells behind attributes of these names, or its first fault: what stands before the first
--- equals sign is no name, the name stands before, or what stands behind the equals sign is no value
+-- the attribute that a part spells after attributes of these names, or its first fault: what stands before the first
+-- equals sign is no name, the name stands before, or what stands after the equals sign is no value
 abbrev pub attribute_in : List (List ℕ) → List ℕ → Result Attribute AttrFault
 attribute_in names part =
     if not (list_any is_equals part && is_attribute_name (before_first is_equals part)) then Err BadName
@@ -77,7 +77,7 @@ abbrev pub and_then : Result Attribute AttrFault → (Attribute → Result (List
 and_then (Err fault) more = Err fault
 and_then (Ok attribute) more = in_front attribute (more attribute)
 
--- the attributes of these parts, behind attributes of these names, or the first fault from the left
+-- the attributes of these parts, after attributes of these names, or the first fault from the left
 abbrev pub attributes_of : List (List ℕ) → List (List ℕ) → Result (List Attribute) AttrFault
 attributes_of names [] = Ok []
 attributes_of names (part ∷ parts) = and_then (attribute_in names part) (λ a. attributes_of (a.name ∷ names) parts)

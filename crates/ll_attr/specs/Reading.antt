@@ -48,20 +48,20 @@ abbrev pub fault_of_value : Option AttrValue → Option AttrFault
 fault_of_value None = Some BadValue
 fault_of_value (Some value) = None
 
-abbrev pub fault_behind : Bool → Bool → Option AttrValue → Option AttrFault
-fault_behind false twice value = Some BadName
-fault_behind true true value = Some Twice
-fault_behind true false value = fault_of_value value
+abbrev pub fault_after : Bool → Bool → Option AttrValue → Option AttrFault
+fault_after false twice value = Some BadName
+fault_after true true value = Some Twice
+fault_after true false value = fault_of_value value
 
--- the first fault of a part behind these names
+-- the first fault of a part after these names
 abbrev pub fault_of : List (List ℕ) → List ℕ → Option AttrFault
-fault_of names part = fault_behind (is_named part) (list_any (bytes_eq (name_of part)) names) (value_in (after_first is_equals part))
+fault_of names part = fault_after (is_named part) (list_any (bytes_eq (name_of part)) names) (value_in (after_first is_equals part))
 
 abbrev pub first_of : Option AttrFault → Option AttrFault → Option AttrFault
 first_of None later = later
 first_of (Some fault) later = Some fault
 
--- the first fault of these parts behind these names
+-- the first fault of these parts after these names
 abbrev pub fault_in : List (List ℕ) → List (List ℕ) → Option AttrFault
 fault_in names [] = None
 fault_in names (part ∷ parts) = first_of (fault_of names part) (fault_in (name_of part ∷ names) parts)

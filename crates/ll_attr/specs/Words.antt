@@ -1,4 +1,4 @@
--- The words of a line, and what stands behind a key.
+-- The words of a line, and what stands after a key.
 use Rattle.std.specs.Prelude.{ℕ, List, Option, Some, None, ◌==◌, drop, length, nat_eq, if◌then◌else◌}
 use Rattle.std.specs.List.{join_with_byte, slice_split, starts_with}
 
@@ -14,6 +14,6 @@ words text = parts_at 32 text
 abbrev pub joined : List (List ℕ) → List ℕ
 joined words = join_with_byte 32 words
 
--- what stands behind a key, where a text begins with it
-abbrev pub behind : List ℕ → List ℕ → Option (List ℕ)
-behind key text = if starts_with nat_eq text key then Some (drop (length key) text) else None
+-- what stands after a key, where a text begins with it
+abbrev pub after : List ℕ → List ℕ → Option (List ℕ)
+after key text = if starts_with nat_eq text key then Some (drop (length key) text) else None

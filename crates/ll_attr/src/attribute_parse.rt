@@ -36,12 +36,12 @@ impl AttrList {
         let mut count: usize = 0;
         let mut rest = text;
         loop {
-            let (part, behind) = first_part(rest);
+            let (part, after) = first_part(rest);
             if let Some(fault) = part_fault(text, count, part) {
                 return Some(fault);
             }
-            match behind {
-                Some(behind) => rest = behind,
+            match after {
+                Some(after) => rest = after,
                 None => return None,
             }
             count += 1;
@@ -57,19 +57,19 @@ fn read(alloc: Global, text: &str) -> Result<Vec<Attribute>, AttrFault>
     let mut attributes = Vec::new(alloc);
     let mut rest = text;
     loop {
-        let (part, behind) = first_part(rest);
+        let (part, after) = first_part(rest);
         let attribute = read_part(alloc, &attributes, part)?;
         if attributes.push(attribute).is_err() {
             return Err(AttrFault::Memory);
         }
-        match behind {
-            Some(behind) => rest = behind,
+        match after {
+            Some(after) => rest = after,
             None => return Ok(attributes),
         }
     }
 }
 
-/// The attribute that a part spells behind these attributes, or its first fault.
+/// The attribute that a part spells after these attributes, or its first fault.
 fn read_part(alloc: Global, attributes: &[Attribute], part: &str) -> Result<Attribute, AttrFault>
     ensures value { IfOk result (λ a. attribute_in (names_so_far [] attributes.now) part.now ≡ Ok a) }
     ensures refused { IfErr result (λ fault. fault ≢ AttrFault.Memory → attribute_in (names_so_far [] attributes.now) part.now ≡ Err fault) }
@@ -112,7 +112,7 @@ fn stands_in(attributes: &[Attribute], name: &str) -> bool
         .any(|attribute| name == attribute.name.as_str())
 }
 
-/// The first fault of a part behind so many parts of a text.
+/// The first fault of a part after so many parts of a text.
 fn part_fault(text: &str, count: usize, part: &str) -> Option<AttrFault>
     ensures { result ≡ fault_of (names_of_parts [] (take count (parts_outside false text.now))) part.now }
 {
@@ -135,14 +135,14 @@ fn stands_before(text: &str, count: usize, name: &str) -> bool
     let mut left = count;
     let mut rest = text;
     while 0 < left {
-        let (part, behind) = first_part(rest);
+        let (part, after) = first_part(rest);
         if name == name_of(part) {
             return true;
         }
-        let Some(behind) = behind else {
+        let Some(after) = after else {
             return false;
         };
-        rest = behind;
+        rest = after;
         left -= 1;
     }
     false

@@ -9,14 +9,14 @@ ghost use Rattle.ll_attr.specs.Words.{parts_at};
 
 use crate::parts::cut;
 
-/// The text before the first comma outside quotes, and what stands behind that comma, where there is one.
+/// The text before the first comma outside quotes, and what stands after that comma, where there is one.
 pub(crate) fn first_part(text: &str) -> (&str, Option<&str>)
     ensures parts { MatchOption result.1 (parts_outside false text.now ≡ result.0.now ∷ [])
-        (λ behind. parts_outside false text.now ≡ result.0.now ∷ parts_outside false behind.now) }
-    ensures shorter { IfSome result.1 (λ behind. length behind.now < length text.now) }
+        (λ after. parts_outside false text.now ≡ result.0.now ∷ parts_outside false after.now) }
+    ensures shorter { IfSome result.1 (λ after. length after.now < length text.now) }
 {
-    let (part, behind) = text.split_at(part_len(text));
-    (part, behind.strip_prefix(','))
+    let (part, after) = text.split_at(part_len(text));
+    (part, after.strip_prefix(','))
 }
 
 /// How many bytes stand before the first comma outside quotes.
@@ -45,7 +45,7 @@ pub(crate) fn name_of(part: &str) -> &str
     }
 }
 
-/// The name in front of a part's first equals sign and what stands behind it, where there is one.
+/// The name in front of a part's first equals sign and what stands after it, where there is one.
 pub(crate) fn name_and_value(part: &str) -> Option<(&str, &str)>
     ensures { MatchOption result (is_named part.now ≡ false)
         (λ p. (is_named part.now ≡ true) × (p.0.now ≡ reading.name_of part.now) × (p.1.now ≡ after_first is_equals part.now)) }
@@ -94,8 +94,8 @@ fn is_bare(text: &str) -> bool
 fn quoted_text(text: &str) -> Option<&str>
     ensures { MatchOption result (inner_of (parts_at 34 text.now) ≡ None) (λ inner. inner_of (parts_at 34 text.now) ≡ Some inner.now) }
 {
-    let (before, behind) = cut(text, '"')?;
-    let (inner, end) = cut(behind, '"')?;
+    let (before, after) = cut(text, '"')?;
+    let (inner, end) = cut(after, '"')?;
     if before.is_empty() && end.is_empty() && is_quoted(inner) {
         Some(inner)
     } else {

@@ -21,7 +21,7 @@ pub enum AttrValue {
 pub struct Attribute {
     /// One or more characters A-Z, 0-9 and `-`, compared byte by byte.
     pub name: Text,
-    /// What stands behind the equals sign.
+    /// What stands after the equals sign.
     pub value: AttrValue,
 }
 
@@ -29,7 +29,7 @@ pub struct Attribute {
 /// in this order. Memory that isn't found comes after all of them.
 #[derive(Clone, Copy, Debug, PartialEq, Eq, Error)]
 pub enum AttrFault {
-    /// A name is empty, has a character outside A-Z, 0-9 and `-`, or no equals sign stands behind it.
+    /// A name is empty, has a character outside A-Z, 0-9 and `-`, or no equals sign stands after it.
     #[error("BadName")]
     BadName,
     /// A value is no quoted string and no bare value.

@@ -12,7 +12,7 @@ mod text;
 pub use attributes::{AttrFault, AttrList, AttrValue, Attribute};
 pub use micros::{Micros, micros_text, parse_micros};
 pub use number::parse_number;
-pub use parts::{behind, cut};
+pub use parts::{after, cut};
 pub use text::Text;
 
 #[cfg(test)]

@@ -53,7 +53,7 @@ pub fn parse_micros(text: &str) -> Option<u64>
     }
 }
 
-/// The microseconds that 1 to 6 digits behind a point mean.
+/// The microseconds that 1 to 6 digits after a point mean.
 fn parse_fraction(text: &str) -> Option<u64>
     ensures { result
         ≡ (if is_digits 6 text.now then Some (digits_value 10 text.now * 10 ^ (6 - length text.now)) else None) }

@@ -12,9 +12,9 @@ pub fn cut(text: &str, separator: char) -> Option<(&str, &str)>
     text.split_once(separator)
 }
 
-/// What stands behind a key, where the text begins with it.
-pub fn behind<'a>(text: &'a str, key: &str) -> Option<&'a str>
-    ensures { MatchOption result (spec.behind key.now text.now ≡ None) (λ rest. spec.behind key.now text.now ≡ Some rest.now) }
+/// What stands after a key, where the text begins with it.
+pub fn after<'a>(text: &'a str, key: &str) -> Option<&'a str>
+    ensures { MatchOption result (spec.after key.now text.now ≡ None) (λ rest. spec.after key.now text.now ≡ Some rest.now) }
 {
     text.strip_prefix(key)
 }

@@ -82,7 +82,7 @@ fn keys_are_taken_off(rt: HostRuntime) {
         ("key", None),
         ("a key=", None),
     ] {
-        assert_eq!(rt; behind(text, "key="), rest, "at {text}");
+        assert_eq!(rt; after(text, "key="), rest, "at {text}");
     }
 }
 

@@ -1,10 +1,10 @@
--- What stands behind the name on the line of a date range, and what its list begins with.
+-- What stands after the name on the line of a date range, and what its list begins with.
 use Rattle.std.proofs.Common.{◌≡◌, ℕ, ◌&&◌, Bool, true, false, List, [], ◌∷◌, ◌++◌, refl, ap, sym, ◌∙◌, arith, bytes_eq, codes, nat_eq, Some, None, Result, Ok, Err, if◌then◌else◌}
 use Rattle.std.proofs.lemmas.Bool.Decides.{nat_tests}
 use Rattle.std.specs.List.{starts_with}
 use Rattle.std.specs.Result.{IsOk}
 use Rattle.ll_attr.specs.Attributes.{attributes_in, is_attribute_name, value_spelling}
-use Rattle.ll_attr.specs.Words.{words, joined, behind}
+use Rattle.ll_attr.specs.Words.{words, joined, after}
 use Rattle.ll_attr.specs.declared.attributes.Attribute.{Attribute}
 use Rattle.ll_attr.specs.declared.attributes.AttrFault.{AttrFault}
 use Rattle.ll_attr.specs.declared.attributes.AttrValue.{AttrValue}
@@ -22,7 +22,7 @@ range_by : (c : Configuration) (name : List ℕ) (ws : List (List ℕ)) → (wor
     → range_in c (name ∷ ws) ≡ range_at (named c name) (joined ws)
 range_by c name ws p = rw p.2 refl
 
--- the list of a date range is what stands behind the name
+-- the list of a date range is what stands after the name
 pub range_words : (c : Configuration) (name text : List ℕ) → range_in c (name ∷ words text) ≡ range_at (named c name) text
 range_words c name text = range_by c name (words text) (some_word text) ∙ ap (range_at (named c name)) (joined_words text)
 
@@ -92,10 +92,10 @@ no_key_stands : (b : Bool) (left : List ℕ) → (if b then Some left else None)
 no_key_stands true left h = cc
 no_key_stands false left h = refl
 
-pub begins_with_id : (r : ℕ) (text rest : List ℕ) → IsOk (attributes_in text) → behind (codes "ID=\"") text ≡ Some rest → IsOk (range_of r (attributes_in text))
+pub begins_with_id : (r : ℕ) (text rest : List ℕ) → IsOk (attributes_in text) → after (codes "ID=\"") text ≡ Some rest → IsOk (range_of r (attributes_in text))
 begins_with_id r text rest ok h =
     (by_list r text (attributes_in text) refl ok).0 (key_stands (starts_with nat_eq text (codes "ID=\"")) _ rest h)
 
-pub begins_otherwise : (r : ℕ) (text : List ℕ) → IsOk (attributes_in text) → behind (codes "ID=\"") text ≡ None → range_of r (attributes_in text) ≡ Err BadAttribute
+pub begins_otherwise : (r : ℕ) (text : List ℕ) → IsOk (attributes_in text) → after (codes "ID=\"") text ≡ None → range_of r (attributes_in text) ≡ Err BadAttribute
 begins_otherwise r text ok h =
     (by_list r text (attributes_in text) refl ok).1 (no_key_stands (starts_with nat_eq text (codes "ID=\"")) _ h)

@@ -54,7 +54,7 @@ pub record IsWithin (c : Configuration) : Type 0 where
   pub part_target_high : c.part_target ≤ c.target * 1000000
   -- section 4.4.3.8
   pub skip_low : 6 * c.target ≤ c.skip
-  -- three target durations stand behind what may be skipped
+  -- three target durations stand after what may be skipped
   pub window_low : c.skip + 3 * c.target ≤ c.window
   pub window_high : c.window ≤ 86400
   pub channel_named : is_name c.channel ≡ true
@@ -76,11 +76,11 @@ unless_broken (Some fault) c = Err fault
 abbrev pub settings_of : Configuration → Result Configuration SettingsFault
 settings_of c = unless_broken (limit_broken c) c
 
--- what stands behind a key and its equals sign, where the word begins with them
+-- what stands after a key and its equals sign, where the word begins with them
 abbrev pub value_of : List ℕ → List ℕ → Option (List ℕ)
 value_of key word = if starts_with nat_eq word key then Some (drop (length key) word) else None
 
--- the number below 2^64 of 1 to 20 digits behind a key
+-- the number below 2^64 of 1 to 20 digits after a key
 abbrev pub number_of : List ℕ → List ℕ → Option ℕ
 number_of key word = option_and_then (number_in 20) (value_of key word)
 

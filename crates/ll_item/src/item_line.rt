@@ -10,7 +10,7 @@ use crate::item::{Item, ItemFault};
 use crate::name::is_name;
 use crate::settings::Settings;
 use crate::words::one_word;
-use ll_attr::{AttrFault, AttrList, AttrValue, Attribute, Text, behind, cut, parse_number};
+use ll_attr::{AttrFault, AttrList, AttrValue, Attribute, Text, after, cut, parse_number};
 use std::alloc::{AllocError, Global};
 
 impl Item {
@@ -118,7 +118,7 @@ fn range_from(alloc: Global, rendition: usize, text: &str) -> Result<Item, ItemF
     match AttrList::parse(alloc, text) {
         Ok(list) => range_of(rendition, list),
         // The text is a list, and its first bytes tell whether it begins with a quoted ID.
-        Err(AttrFault::Memory) => match behind(text, "ID=\"") {
+        Err(AttrFault::Memory) => match after(text, "ID=\"") {
             Some(_) => Err(ItemFault::Memory),
             None => Err(ItemFault::BadAttribute),
         },

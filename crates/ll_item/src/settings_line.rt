@@ -122,14 +122,14 @@ fn fields_of_words(w: Words<'_>) -> Option<Fields<'_>>
     })
 }
 
-/// What stands behind a key, where the word begins with it.
+/// What stands after a key, where the word begins with it.
 fn value<'a>(word: &'a str, key: &str) -> Option<&'a str>
     ensures { MatchOption result (spec.value_of key.now word.now ≡ None) (λ v. spec.value_of key.now word.now ≡ Some v.now) }
 {
     word.strip_prefix(key)
 }
 
-/// The number behind a key, where the word begins with it.
+/// The number after a key, where the word begins with it.
 fn number(word: &str, key: &str) -> Option<u64>
     ensures { result ≡ spec.number_of key.now word.now }
 {

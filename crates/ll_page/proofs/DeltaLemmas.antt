@@ -17,9 +17,9 @@ text_by leads v n =
     ++ (flat_map report_line (reports_of v)
     ++ last_line (hint_of (asked v).window)))))
 
-behind : (n : ℕ) → (suc n == 0) ≡ false
-behind n = grind (arith, nat_tests)
+after : (n : ℕ) → (suc n == 0) ≡ false
+after n = grind (arith, nat_tests)
 
 pub spelled : (v : Seen) (n : ℕ) → text_by (n == 0) v n ≡ spelling (delta_by n v)
 spelled v zero = refl
-spelled v (suc n) = ap (λ leads. text_by leads v (suc n)) (behind n)
+spelled v (suc n) = ap (λ leads. text_by leads v (suc n)) (after n)

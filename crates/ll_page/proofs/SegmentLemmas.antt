@@ -21,8 +21,8 @@ rest_from (row ∷ rows) zero s ps e f =
     ap (λ x. (record { segment = x; parts = row.parts }) ∷ rows) (sym same) ∙ ap (λ x. (record { segment = s; parts = x }) ∷ rows) (sym f)
 rest_from (row ∷ rows) (suc i) s ps e f = rest_from rows i s ps e f
 
-behind_first : (i : ℕ) → (i + 1 == 0) ≡ false
-behind_first i = grind (arith, nat_tests)
+after_first : (i : ℕ) → (i + 1 == 0) ≡ false
+after_first i = grind (arith, nat_tests)
 
 -- the text so far and the lines from this place on stay the whole text when this segment's are added
 pub next-place : (old new whole : List ℕ) (rows : List Row) (i : ℕ) (s : Segment) (ps : List Part) → Some s ≡ segment_at rows i → ps ≡ parts_at rows i
@@ -31,7 +31,7 @@ pub next-place : (old new whole : List ℕ) (rows : List Row) (i : ℕ) (s : Seg
 next-place old new whole rows i s ps e f added h =
     let next : suc i ≡ i + 1 = omega arith in
     let block = segment_lines (finished_of (i == 0) (record { segment = s; parts = ps })) in
-    ap (λ b. new ++ lines b (drop (i + 1) rows)) (behind_first i)
+    ap (λ b. new ++ lines b (drop (i + 1) rows)) (after_first i)
     ∙ ap (λ t. t ++ lines false (drop (i + 1) rows)) added
     ∙ append_assoc old block (lines false (drop (i + 1) rows))
     ∙ ap (λ j. old ++ (block ++ lines false (drop j rows))) (sym next)

@@ -85,7 +85,7 @@ abbrev pub hint_by : Bool → List ℕ → Option (List ℕ)
 hint_by true uri = None
 hint_by false uri = Some uri
 
--- the part behind the last of the open segment, or the first of the next
+-- the part after the last of the open segment, or the first of the next
 abbrev pub hint_of : Compact → Option (List ℕ)
 hint_of k = hint_by k.ended (part_uri k.next_number (length k.open_parts))
 

@@ -37,16 +37,16 @@ unfoldable pub discontinuity_line : ℕ → List ℕ
 discontinuity_line number = codes "#EXT-X-DISCONTINUITY-SEQUENCE:" ++ (decimal number ++ codes "\n")
 
 -- a comma stands before attributes, where there are any
-abbrev pub behind_comma : List ℕ → List ℕ
-behind_comma [] = []
-behind_comma (b ∷ bs) = codes "," ++ (b ∷ bs)
+abbrev pub after_comma : List ℕ → List ℕ
+after_comma [] = []
+after_comma (b ∷ bs) = codes "," ++ (b ∷ bs)
 
 -- section 4.4.5.1
 unfoldable pub date_range_line : DateRangeLine → List ℕ
-date_range_line r = codes "#EXT-X-DATERANGE:ID=\"" ++ (r.id ++ (codes "\"" ++ (behind_comma r.attributes ++ codes "\n")))
+date_range_line r = codes "#EXT-X-DATERANGE:ID=\"" ++ (r.id ++ (codes "\"" ++ (after_comma r.attributes ++ codes "\n")))
 
-abbrev pub behind_tab : List ℕ → List ℕ
-behind_tab id = 9 ∷ id
+abbrev pub after_tab : List ℕ → List ℕ
+after_tab id = 9 ∷ id
 
 abbrev pub removed_text : Option (List (List ℕ)) → List ℕ
 removed_text None = []
@@ -131,7 +131,7 @@ abbrev pub front_lines : Playlist → List ℕ
 front_lines p =
     header_lines p.header ++ (sequence_line p.sequence ++ (discontinuity_line p.discontinuity ++ flat_map date_range_line p.ranges))
 
--- the lines behind all finished segments
+-- the lines after all finished segments
 abbrev pub tail_lines : Playlist → List ℕ
 tail_lines p = open_lines p.open_block ++ (flat_map report_line p.reports ++ last_line p.hint)
 

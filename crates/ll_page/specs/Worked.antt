@@ -73,7 +73,7 @@ ranges_and_part =
     item.Range 0 (codes "x") (start_date ∷ []) ∷ item.Range 0 (codes "b c") (start_date ∷ one_second ∷ []) ∷ item.Part 0 1000000 true true
     ∷ item.Unrange 0 (codes "x") ∷ item.Range 0 (codes "a") (one_second ∷ start_date ∷ []) ∷ []
 
--- parts of both renditions, three of them of the second, which go on with a break behind a finished segment
+-- parts of both renditions, three of them of the second, which go on with a break after a finished segment
 abbrev pub mixed_parts : List Item
 mixed_parts =
     item.Part 1 334000 true false ∷ item.Part 0 300000 true true ∷ item.Part 1 333999 false true ∷ item.Break 1 ∷ item.Break 0
@@ -152,7 +152,7 @@ ended_text =
     ++ codes "#EXT-X-RENDITION-REPORT:URI=\"../hi/live.m3u8\",LAST-MSN=8,LAST-PART=0\n"
     ++ codes "#EXT-X-ENDLIST\n"
 
--- behind the first segment seven seconds stand, behind the second one six, which is the limit
+-- after the first segment seven seconds stand, after the second one six, which is the limit
 abbrev pub delta_update_text : List ℕ
 delta_update_text =
     codes "#EXTM3U\n"

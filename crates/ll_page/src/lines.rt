@@ -2,7 +2,7 @@
 ghost use Rattle.std.specs.Prelude.{◌≡◌, ◌++◌, ◌*◌, OnOk, flat_map, string_bytes};
 ghost use Rattle.std.specs.List.{join_with_byte};
 ghost use Rattle.std.specs.Option.{option_map};
-ghost use Rattle.ll_page.specs.Spelling.{first_lines, target_line, control_line, part_target_line, sequence_line, discontinuity_line, date_range_line, skip_front, skip_line, broken_line, map_line, time_line, behind_comma, behind_tab, part_line, report_line, hint_line, end_line, finished_lines};
+ghost use Rattle.ll_page.specs.Spelling.{first_lines, target_line, control_line, part_target_line, sequence_line, discontinuity_line, date_range_line, skip_front, skip_line, broken_line, map_line, time_line, after_comma, after_tab, part_line, report_line, hint_line, end_line, finished_lines};
 ghost use Rattle.ll_page.specs.Spelling as spec;
 ghost use Rattle.ll_page.specs.Uris.{uri_text};
 ghost use Rattle.ll_time.specs.Times.{time_text};
@@ -95,7 +95,7 @@ pub fn push_discontinuity_line(text: &mut String, number: u64) -> Result<(), All
 
 /// The comma that stands before attributes, where there are any.
 fn comma_before(attributes: &str) -> &'static str
-    ensures { result.now ++ attributes.now ≡ behind_comma attributes.now }
+    ensures { result.now ++ attributes.now ≡ after_comma attributes.now }
 {
     if attributes.is_empty() { "" } else { "," }
 }
@@ -143,15 +143,15 @@ fn push_ids(text: &mut String, ids: &[Text]) -> Result<(), AllocError>
     match ids.split_first() {
         Some((first, more)) => {
             text.push_str(first.as_str())?;
-            push_behind_tabs(text, more)
+            push_after_tabs(text, more)
         }
         None => Ok(()),
     }
 }
 
 /// Ids with a tab before each of them.
-fn push_behind_tabs(text: &mut String, ids: &[Text]) -> Result<(), AllocError>
-    ensures { OnOk result (string_bytes text.new ≡ string_bytes text.old ++ flat_map behind_tab ids.now) }
+fn push_after_tabs(text: &mut String, ids: &[Text]) -> Result<(), AllocError>
+    ensures { OnOk result (string_bytes text.new ≡ string_bytes text.old ++ flat_map after_tab ids.now) }
 {
     for id in ids {
         text.push('\t')?;

@@ -18,7 +18,7 @@ const ENDED: &str = "#EXTM3U\n\
     #EXT-X-RENDITION-REPORT:URI=\"../lo/live.m3u8\",LAST-MSN=1,LAST-PART=0\n\
     #EXT-X-ENDLIST\n";
 
-/// The playlist of a segment of one part and, behind a break, an open segment of one part.
+/// The playlist of a segment of one part and, after a break, an open segment of one part.
 const BROKEN: &str = "#EXTM3U\n\
     #EXT-X-VERSION:9\n\
     #EXT-X-TARGETDURATION:4\n\

@@ -67,7 +67,7 @@ module _ {A : Type 0} (id : List ℕ) where
   put_at_id (x ∷ es) k v same e =
       put_by (string_eq k x.0) x es k v (list_any (λ (range : Listed). bytes_eq (string_bytes k) range.id) (map listed_at es)) e (put_at_id es k v same)
 
-  -- a date range of a new id is put behind the others
+  -- a date range of a new id is put after the others
   pub put_last : (es : List (String A × Stored)) (k : String A) (v : Stored) → string_bytes k ≡ id → list_any (λ (range : Listed). bytes_eq id range.id) (map listed_at es) ≡ false
       → map listed_at (insert_entry string_eq es k v) ≡ map listed_at es ++ (record { id = id; attributes = v.attributes; added = v.added }) ∷ []
   put_last es k v same e =

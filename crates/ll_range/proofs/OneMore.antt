@@ -13,7 +13,7 @@ use Rattle.ll_window.specs.declared.part.Part.{Part}
 use Rattle.ll_range.specs.Announced.{Listed, Removal, removes, listed_by, listed_from, removals_from}
 use Rattle.ll_range.specs.Kept.{others, last_time}
 
--- the time behind these items, which begin at this time
+-- the time after these items, which begin at this time
 abbrev pub end_from : ℕ → List Item → ℕ
 end_from time [] = time
 end_from time (item.Part rendition duration independent finish ∷ items) = end_from (time + duration) items

@@ -1,4 +1,4 @@
--- A number of seconds by where its first point cuts it: behind that point a second one leaves no digits.
+-- A number of seconds by where its first point cuts it: after that point a second one leaves no digits.
 use Rattle.std.proofs.Common.{◌≡◌, ℕ, ◌&&◌, Bool, true, false, List, ◌∷◌, refl, ap, sym, ◌∙◌, length, nat_le}
 use Rattle.std.specs.Str.{all_ascii_digits}
 use Rattle.ll_attr.proofs.Digits.{list_all-is_ascii_digit}

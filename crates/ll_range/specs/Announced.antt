@@ -37,7 +37,7 @@ abbrev pub listed_by : Bool → Listed → List Listed → List Listed
 listed_by true range more = more
 listed_by false range more = range ∷ more
 
--- the date ranges that no item behind them takes away, in order of adding; the parts before these items last so long
+-- the date ranges that no item after them takes away, in order of adding; the parts before these items last so long
 abbrev pub listed_from : ℕ → List Item → List Listed
 listed_from time [] = []
 listed_from time (item.Part rendition duration independent finish ∷ items) = listed_from (time + duration) items
@@ -59,7 +59,7 @@ removals_from time (item.End rendition ∷ items) = removals_from time items
 removals_from time (item.Range rendition id attributes ∷ items) = removals_from time items
 removals_from time (item.Unrange rendition id ∷ items) = (record { id = id; removed = time }) ∷ removals_from time items
 
--- a removal is recent while the parts behind it last no longer than the limit, where all parts last until now
+-- a removal is recent while the parts after it last no longer than the limit, where all parts last until now
 abbrev pub is_recent : ℕ → ℕ → Removal → Bool
 is_recent limit now removal = nat_le now (removal.removed + limit)
 
@@ -104,6 +104,6 @@ refusal_after a (item.Part rendition duration independent finish) = None
 refusal_after a (item.Break rendition) = None
 refusal_after a (item.End rendition) = None
 
--- the first reason for which date ranges refuse an item behind these items of its rendition, or none
+-- the first reason for which date ranges refuse an item after these items of its rendition, or none
 abbrev pub refusal : Configuration → List Item → Item → Option RangeFault
 refusal c before item = refusal_after (announced c before) item

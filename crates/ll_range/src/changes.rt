@@ -133,7 +133,7 @@ impl Ranges {
     }
 }
 
-/// Puts a date range behind the others.
+/// Puts a date range after the others.
 fn put(listed: &mut IndexMap<String, Stored>, id: &str, stored: Stored) -> Result<(), AllocError>
     requires { list_any (λ (range : Listed). bytes_eq id.now range.id) (map listed_at listed.old.entries) ≡ false }
     ensures ok { OnOk result (map listed_at listed.new.entries ≡ map listed_at listed.old.entries

@@ -84,7 +84,7 @@ impl Clone for Removal {
 }
 
 /// The date ranges of one rendition: those that are listed, in order of adding, and those that were taken away lately, in
-/// order of removal. A removal is recent while the parts behind it last no longer than the skip limit (section 4.4.5.2).
+/// order of removal. A removal is recent while the parts after it last no longer than the skip limit (section 4.4.5.2).
 #[derive(Debug, Drop)]
 pub struct Ranges {
     pub(crate) limit: u64,
@@ -123,7 +123,7 @@ impl Ranges {
         self.listed.len()
     }
 
-    /// The date range at this place, 0 being the first that was added of those that are listed; none behind the last.
+    /// The date range at this place, 0 being the first that was added of those that are listed; none after the last.
     pub fn listed(&self, place: usize) -> Option<DateRange<'_>>
         ensures { MatchOption result (length self.now.listed ≤ place)
             (λ r. slice_get self.now.listed place ≡ Some (record { id = r.id.now; attributes = r.attributes.now; added = r.added })) }

@@ -15,7 +15,7 @@ fn ranges(alloc: Global) -> Result<Ranges, Fail> {
     Ok(Ranges::new(alloc, &settings))
 }
 
-/// Adds a date range of each of these ids: the first before all parts, the others behind one second of them.
+/// Adds a date range of each of these ids: the first before all parts, the others after one second of them.
 fn add_all(alloc: Global, ranges: &mut Ranges, ids: &[&str]) -> Result<(), Fail> {
     let mut end = 0;
     for id in ids {
@@ -68,7 +68,7 @@ fn an_id_is_taken_while_it_is_listed_or_its_removal_recent(rt: HostRuntime) -> R
     Ok(())
 }
 
-/// A date range of these attributes, with START-DATE behind them, may be added or not; without it, it may not.
+/// A date range of these attributes, with START-DATE after them, may be added or not; without it, it may not.
 fn expect_checked(
     rt: &impl Abort,
     alloc: Global,

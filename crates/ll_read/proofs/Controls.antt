@@ -3,7 +3,7 @@ use Rattle.std.proofs.Common.{◌≡◌, ℕ, ◌<◌, ◌==◌, Bool, true, fal
 use Rattle.std.proofs.lemmas.List.Splits.{length-slice_split, join_with_byte-slice_split}
 use Rattle.std.specs.List.{join_with_byte}
 use Rattle.ll_attr.specs.Words.{parts_at}
-use Rattle.ll_read.specs.Lines.{Line, control_of, control_by, skips_in, duration_behind, skipped_of}
+use Rattle.ll_read.specs.Lines.{Line, control_of, control_by, skips_in, duration_after, skipped_of}
 use Rattle.ll_read.specs.Pieces.{three_of}
 
 by_false : (b : Bool) (o : Option Line) → b ≡ false → None ≡ (if b then o else None)
@@ -44,13 +44,13 @@ wrong_flag flag (p ∷ []) e some h = flag_by (bytes_eq p (codes "CAN-SKIP-DATER
 wrong_flag flag (p ∷ q ∷ more) e some h = refl
 
 -- another word stands last
-pub not_flagged : (text blocks hold_back until flag : List ℕ) (rest behind : List ℕ) → parts_at 44 text ≡ blocks ∷ parts_at 44 rest → parts_at 44 rest ≡ hold_back ∷ parts_at 44 behind
-    → parts_at 44 behind ≡ until ∷ parts_at 44 flag → true ≡ not (bytes_eq flag (codes "CAN-SKIP-DATERANGES=YES")) → None ≡ control_of (parts_at 44 text)
-not_flagged text blocks hold_back until flag rest behind e f g h =
+pub not_flagged : (text blocks hold_back until flag : List ℕ) (rest after : List ℕ) → parts_at 44 text ≡ blocks ∷ parts_at 44 rest → parts_at 44 rest ≡ hold_back ∷ parts_at 44 after
+    → parts_at 44 after ≡ until ∷ parts_at 44 flag → true ≡ not (bytes_eq flag (codes "CAN-SKIP-DATERANGES=YES")) → None ≡ control_of (parts_at 44 text)
+not_flagged text blocks hold_back until flag rest after e f g h =
     let none = wrong_flag flag (parts_at 44 flag) (join_with_byte-slice_split 44 flag) (omega (arith, length-slice_split (λ b. b == 44) flag)) (flip _ h) in
-    either_none (bytes_eq blocks (codes "CAN-BLOCK-RELOAD=YES")) (control_by (duration_behind (codes "PART-HOLD-BACK=") hold_back) (duration_behind (codes "CAN-SKIP-UNTIL=") until) (skips_in (parts_at 44 flag)))
-    (no_flag (duration_behind (codes "PART-HOLD-BACK=") hold_back) (duration_behind (codes "CAN-SKIP-UNTIL=") until)
-    ∙ ap (control_by (duration_behind (codes "PART-HOLD-BACK=") hold_back) (duration_behind (codes "CAN-SKIP-UNTIL=") until)) (sym none))
+    either_none (bytes_eq blocks (codes "CAN-BLOCK-RELOAD=YES")) (control_by (duration_after (codes "PART-HOLD-BACK=") hold_back) (duration_after (codes "CAN-SKIP-UNTIL=") until) (skips_in (parts_at 44 flag)))
+    (no_flag (duration_after (codes "PART-HOLD-BACK=") hold_back) (duration_after (codes "CAN-SKIP-UNTIL=") until)
+    ∙ ap (control_by (duration_after (codes "PART-HOLD-BACK=") hold_back) (duration_after (codes "CAN-SKIP-UNTIL=") until)) (sym none))
     ∙ ap (λ ps. control_of (blocks ∷ hold_back ∷ ps)) (sym g) ∙ ap (λ ps. control_of (blocks ∷ ps)) (sym f) ∙ ap control_of (sym e)
 
 not_skipped : (a : List ℕ) (ps : List (List ℕ)) → 0 < length ps → three_of (a ∷ ps) ≡ None → None ≡ skipped_of (a ∷ ps)

@@ -60,13 +60,13 @@ cut_keyed c key value rest k v =
 pub uncut_keyed : (c : ℕ) (key value : List ℕ) → lacks c key ≡ true → lacks c value ≡ true → parts_at c (key ++ value) ≡ (key ++ value) ∷ []
 uncut_keyed c key value k v = uncut c (key ++ value) (all_in_both (is_other c) key value k v)
 
--- two values behind keys
+-- two values after keys
 pub in_two_keyed : (c : ℕ) (key value second more : List ℕ) → lacks c key ≡ true → lacks c value ≡ true → lacks c second ≡ true → lacks c more ≡ true
     → parts_at c (key ++ (value ++ c ∷ (second ++ more))) ≡ (key ++ value) ∷ (second ++ more) ∷ []
 in_two_keyed c key value second more k v s m =
     cut_keyed c key value (second ++ more) k v ∙ ap (λ parts. (key ++ value) ∷ parts) (uncut_keyed c second more s m)
 
--- what stands in quotes behind a key, a value and another key
+-- what stands in quotes after a key, a value and another key
 pub in_three_keyed : (c : ℕ) (key value second inner end : List ℕ) → lacks c key ≡ true → lacks c value ≡ true → lacks c second ≡ true
     → lacks c inner ≡ true → lacks c end ≡ true
     → parts_at c (key ++ (value ++ (second ++ c ∷ (inner ++ c ∷ end)))) ≡ (key ++ (value ++ second)) ∷ inner ∷ end ∷ []

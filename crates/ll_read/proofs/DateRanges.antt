@@ -8,17 +8,17 @@ use Rattle.std.proofs.lemmas.Slice.Eq.{bytes_eq-Decides}
 use Rattle.std.specs.List.{list_all, AllByRecursion, join_with_byte, after_first}
 use Rattle.ll_attr.specs.Attributes.{attributes_in, attributes_of, attribute_in, spelling, value_spelling, value_by, value_in, is_attribute_name, is_bare, is_quoted_byte, is_equals}
 use Rattle.ll_attr.specs.Reading.{name_of, is_named, part_len}
-use Rattle.ll_attr.specs.Words.{parts_at, behind}
+use Rattle.ll_attr.specs.Words.{parts_at, after}
 use Rattle.ll_attr.specs.declared.attributes.Attribute.{Attribute}
 use Rattle.ll_attr.specs.declared.attributes.AttrFault.{AttrFault}
 use Rattle.ll_attr.specs.declared.attributes.AttrValue.{AttrValue}
 use Rattle.ll_attr.specs.declared.attributes.AttrValue.TheVariants.{Quoted, Bare}
 use Rattle.ll_attr.proofs.Firsts.{first_formed, is_formed}
-use Rattle.ll_attr.proofs.PartsOutside.{first_part, parts_behind}
+use Rattle.ll_attr.proofs.PartsOutside.{first_part, parts_after}
 use Rattle.ll_attr.proofs.Spelled.{read_ok, then_ok, written_again}
 use Rattle.ll_read.specs.Pieces.{or_nothing}
 use Rattle.ll_read.specs.Lines.{Line, DateRange, date_range_in, date_range_of, date_range_with}
-use Rattle.ll_read.proofs.PiecesAgain.{behind-again}
+use Rattle.ll_read.proofs.PiecesAgain.{after-again}
 
 -- whether a value holds only bytes that may stand in it
 abbrev pub is_whole : AttrValue → Bool
@@ -46,8 +46,8 @@ first_whole : (text : List ℕ) (a : Attribute) (more : List Attribute) → attr
 first_whole text a more h =
     let part = take (part_len false text) text in
     let rest = drop (part_len false text) text in
-    let cut : attributes_of [] (part ∷ parts_behind rest) ≡ Ok (a ∷ more) = ap (attributes_of []) (sym (first_part false text)) ∙ h in
-    let p = then_ok (attribute_in [] part) (λ (x : Attribute). attributes_of (x.name ∷ []) (parts_behind rest)) (a ∷ more) cut in
+    let cut : attributes_of [] (part ∷ parts_after rest) ≡ Ok (a ∷ more) = ap (attributes_of []) (sym (first_part false text)) ∙ h in
+    let p = then_ok (attribute_in [] part) (λ (x : Attribute). attributes_of (x.name ∷ []) (parts_after rest)) (a ∷ more) cut in
     let is : p.0 ≡ a = cc in
     let q = read_ok (is_named part) false (name_of part) (value_in (after_first is_equals part)) a (p.2 ∙ ap Ok is) in
     whole_by (after_first is_equals part) (parts_at 34 (after_first is_equals part)) a.value q.2
@@ -55,7 +55,7 @@ first_whole text a more h =
 abbrev key : List ℕ
 key = codes "ID=\""
 
--- what stands behind the first attribute
+-- what stands after the first attribute
 abbrev pub tail : List Attribute → List ℕ
 tail [] = []
 tail (b ∷ more) = 44 ∷ spelling (b ∷ more)
@@ -73,8 +73,8 @@ key_cut (x ∷ []) rest more h e = let wrong : ◌≡◌ {A = ℕ} 61 68 = cc in
 key_cut (x ∷ y ∷ []) rest more h e = (cc, cc)
 key_cut (x ∷ y ∷ z ∷ name) rest more h e = let wrong : z ≡ 61 = cc in absurd (grind (arith, nat_tests))
 
-behind_some : (text more : List ℕ) → behind key text ≡ Some more → text ≡ key ++ more
-behind_some text more e = sym (behind-again key text more e)
+after_some : (text more : List ℕ) → after key text ≡ Some more → text ≡ key ++ more
+after_some text more e = sym (after-again key text more e)
 
 -- the id and the attributes of the first, by its value
 value_cut : (v : AttrValue) (rest more : List ℕ) → is_formed v ≡ true → value_spelling v ++ rest ≡ 34 ∷ more → (id : List ℕ) × (v ≡ Quoted id) × (more ≡ id ++ (34 ∷ rest))
@@ -90,11 +90,11 @@ id_parts : (id rest : List ℕ) → list_all is_quoted_byte id ≡ true → part
 id_parts id rest h = slice_split_at (λ b. b == 34) id 34 rest (All-from_recursion (λ b. (b == 34) ≡ false) id (no_mark_by_recursion id h)) refl
 
 -- what a date range consists of whose text begins with the key
-marked : (text more : List ℕ) (a : Attribute) (others : List Attribute) → attributes_in text ≡ Ok (a ∷ others) → behind key text ≡ Some more
+marked : (text more : List ℕ) (a : Attribute) (others : List Attribute) → attributes_in text ≡ Ok (a ∷ others) → after key text ≡ Some more
     → (id : List ℕ) × (date_range_in text ≡ Some (DateRange (record { id = id; attributes = spelling others }))) × (parts_at 34 more ≡ id ∷ parts_at 34 (tail others))
 marked text more a others h e =
     let formed = first_formed text a others h in
-    let text_is = sym (spelled a others) ∙ written_again text (a ∷ others) h ∙ behind_some text more e in
+    let text_is = sym (spelled a others) ∙ written_again text (a ∷ others) h ∙ after_some text more e in
     let k = key_cut a.name (value_spelling a.value ++ tail others) more formed.0 text_is in
     let v = value_cut a.value (tail others) more formed.1 k.1 in
     let whole = sym (ap is_whole v.1) ∙ first_whole text a others h in
@@ -104,21 +104,21 @@ nothing_marked : (b : Bool) (name id : List ℕ) (others : List Attribute) → b
 nothing_marked true name id others h other = absurd (other ((bytes_eq-Decides name (codes "ID")).0 h))
 nothing_marked false name id others h other = ap (λ x. let o : Option Line = if x then Some (DateRange (record { id = id; attributes = spelling others })) else None in o) h
 
-unmarked_by : (text : List ℕ) (name : List ℕ) (v : AttrValue) (others : List Attribute) → text ≡ name ++ (61 ∷ (value_spelling v ++ tail others)) → behind key text ≡ None → date_range_with name v others ≡ None
+unmarked_by : (text : List ℕ) (name : List ℕ) (v : AttrValue) (others : List Attribute) → text ≡ name ++ (61 ∷ (value_spelling v ++ tail others)) → after key text ≡ None → date_range_with name v others ≡ None
 unmarked_by text name (Bare t) others e none = refl
 unmarked_by text name (Quoted id) others e none =
     nothing_marked (bytes_eq name (codes "ID")) name id others refl
-    (λ is. let some : behind key text ≡ Some ((id ++ (34 ∷ [])) ++ tail others) = ap (behind key) (e ∙ ap (λ n. n ++ (61 ∷ (value_spelling (Quoted id) ++ tail others))) is) in cc)
+    (λ is. let some : after key text ≡ Some ((id ++ (34 ∷ [])) ++ tail others) = ap (after key) (e ∙ ap (λ n. n ++ (61 ∷ (value_spelling (Quoted id) ++ tail others))) is) in cc)
 
-none_of : (text : List ℕ) (r : Result (List Attribute) AttrFault) → attributes_in text ≡ r → behind key text ≡ None → date_range_of r ≡ None
+none_of : (text : List ℕ) (r : Result (List Attribute) AttrFault) → attributes_in text ≡ r → after key text ≡ None → date_range_of r ≡ None
 none_of text (Err fault) h none = refl
 none_of text (Ok []) h none = refl
 none_of text (Ok (a ∷ others)) h none = unmarked_by text a.name a.value others (sym (written_again text (a ∷ others) h) ∙ spelled a others) none
 
-pub unmarked : (text : List ℕ) → behind key text ≡ None → None ≡ date_range_in text
+pub unmarked : (text : List ℕ) → after key text ≡ None → None ≡ date_range_in text
 unmarked text none = sym (none_of text (attributes_in text) refl none)
 
-uncut_of : (text more : List ℕ) (r : Result (List Attribute) AttrFault) → attributes_in text ≡ r → behind key text ≡ Some more → parts_at 34 more ≡ more ∷ [] → None ≡ date_range_of r
+uncut_of : (text more : List ℕ) (r : Result (List Attribute) AttrFault) → attributes_in text ≡ r → after key text ≡ Some more → parts_at 34 more ≡ more ∷ [] → None ≡ date_range_of r
 uncut_of text more (Err fault) h e alone = refl
 uncut_of text more (Ok []) h e alone = refl
 uncut_of text more (Ok (a ∷ others)) h e alone =
@@ -127,26 +127,26 @@ uncut_of text more (Ok (a ∷ others)) h e alone =
     let short = ap length two in
     absurd (omega (arith, short, length-slice_split (λ b. b == 34) (tail others)))
 
-pub uncut : (text more : List ℕ) → behind key text ≡ Some more → parts_at 34 more ≡ more ∷ [] → None ≡ date_range_in text
+pub uncut : (text more : List ℕ) → after key text ≡ Some more → parts_at 34 more ≡ more ∷ [] → None ≡ date_range_in text
 uncut text more e alone = uncut_of text more (attributes_in text) refl e alone
 
-tail_is : (others : List Attribute) → or_nothing (behind (codes ",") (tail others)) ≡ spelling others
+tail_is : (others : List Attribute) → or_nothing (after (codes ",") (tail others)) ≡ spelling others
 tail_is [] = refl
 tail_is (b ∷ more) = refl
 
-cut_of : (text more id rest : List ℕ) (r : Result (List Attribute) AttrFault) → attributes_in text ≡ r → IsOk r → behind key text ≡ Some more → parts_at 34 more ≡ id ∷ parts_at 34 rest
-    → Some (DateRange (record { id = id; attributes = or_nothing (behind (codes ",") rest) })) ≡ date_range_of r
+cut_of : (text more id rest : List ℕ) (r : Result (List Attribute) AttrFault) → attributes_in text ≡ r → IsOk r → after key text ≡ Some more → parts_at 34 more ≡ id ∷ parts_at 34 rest
+    → Some (DateRange (record { id = id; attributes = or_nothing (after (codes ",") rest) })) ≡ date_range_of r
 cut_of text more id rest (Err fault) h good e cut = cc
-cut_of text more id rest (Ok []) h good e cut = let empty : [] ≡ key ++ more = written_again text [] h ∙ behind_some text more e in cc
+cut_of text more id rest (Ok []) h good e cut = let empty : [] ≡ key ++ more = written_again text [] h ∙ after_some text more e in cc
 cut_of text more id rest (Ok (a ∷ others)) h good e cut =
     let m = marked text more a others h e in
     let both : m.0 ∷ parts_at 34 (tail others) ≡ id ∷ parts_at 34 rest = sym m.2 ∙ cut in
     let same : m.0 ≡ id = cc in
     let parts : parts_at 34 (tail others) ≡ parts_at 34 rest = cc in
-    let behind_it : tail others ≡ rest = sym (join_with_byte-slice_split 34 (tail others)) ∙ ap (join_with_byte 34) parts ∙ join_with_byte-slice_split 34 rest in
+    let after_it : tail others ≡ rest = sym (join_with_byte-slice_split 34 (tail others)) ∙ ap (join_with_byte 34) parts ∙ join_with_byte-slice_split 34 rest in
     sym (sym (ap date_range_of h) ∙ m.1 ∙ ap (λ i. Some (DateRange (record { id = i; attributes = spelling others }))) same
-    ∙ ap (λ t. Some (DateRange (record { id = id; attributes = t }))) (sym (tail_is others) ∙ ap (λ t. or_nothing (behind (codes ",") t)) behind_it))
+    ∙ ap (λ t. Some (DateRange (record { id = id; attributes = t }))) (sym (tail_is others) ∙ ap (λ t. or_nothing (after (codes ",") t)) after_it))
 
-pub cut_out : (text more id rest : List ℕ) → IsOk (attributes_in text) → behind key text ≡ Some more → parts_at 34 more ≡ id ∷ parts_at 34 rest
-    → Some (DateRange (record { id = id; attributes = or_nothing (behind (codes ",") rest) })) ≡ date_range_in text
+pub cut_out : (text more id rest : List ℕ) → IsOk (attributes_in text) → after key text ≡ Some more → parts_at 34 more ≡ id ∷ parts_at 34 rest
+    → Some (DateRange (record { id = id; attributes = or_nothing (after (codes ",") rest) })) ≡ date_range_in text
 cut_out text more id rest ok e cut = cut_of text more id rest (attributes_in text) refl ok e cut

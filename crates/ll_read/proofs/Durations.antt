@@ -1,4 +1,4 @@
--- A duration that is read is spelled so where its seconds are and six digits stand behind the point.
+-- A duration that is read is spelled so where its seconds are and six digits stand after the point.
 use Rattle.std.proofs.Common.{◌≡◌, ℕ, ◌+◌, ◌-◌, ◌*◌, ◌/◌, ◌%◌, ◌^◌, ◌<◌, ◌≤◌, ◌++◌, ◌&&◌, Bool, true, false, List, [], ◌∷◌, length, refl, ap, sym, ◌∙◌, arith, decimal, Some, None, bytes_eq, if◌then◌else◌}
 use Rattle.std.proofs.lemmas.Bool.Decides.{nat_tests}
 use Rattle.std.proofs.lemmas.Fmt.{digits_decimal}
@@ -111,7 +111,7 @@ module _ (text whole fraction : List ℕ) (n : ℕ) (e : micros_in text ≡ Some
   pub duration_none : (decimal (n / 1000000) ≡ whole → length fraction ≡ 6 → ⊥) → None ≡ duration_in text
   duration_none other = none_by (bytes_eq (seconds n) text) refl other
 
--- a text without a point has no six digits behind one
+-- a text without a point has no six digits after one
 uncut : (text : List ℕ) (n : ℕ) (b : Bool) → micros_in text ≡ Some n → parts_at 46 text ≡ text ∷ [] → n < 2 ^ 64 → bytes_eq (seconds n) text ≡ b → None ≡ duration_in text
 uncut text n false e p small h = ap (λ x. if x then Some n else None) (sym h) ∙ sym (ap (λ o. spelled_by o seconds text) e)
 uncut text n true e p small h =

@@ -31,7 +31,7 @@ module _ {A : Type 0} (id : List ℕ) where
   put_at_id (x ∷ es) k v same e =
       put_by (string_eq k x.0) x es k v (has_id (string_bytes k) (map range_at es)) e (put_at_id es k v same)
 
-  -- a date range of a new id is put behind the others
+  -- a date range of a new id is put after the others
   pub put_last : (es : List (String A × List ℕ)) (k : String A) (v : List ℕ) → string_bytes k ≡ id → has_id id (map range_at es) ≡ false
       → map range_at (insert_entry string_eq es k v) ≡ map range_at es ++ (record { id = id; attributes = v }) ∷ []
   put_last es k v same e =

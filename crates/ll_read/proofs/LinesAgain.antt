@@ -9,24 +9,24 @@ use Rattle.ll_attr.specs.declared.attributes.AttrFault.{AttrFault}
 use Rattle.ll_attr.specs.declared.attributes.AttrValue.{AttrValue}
 use Rattle.ll_attr.specs.declared.attributes.AttrValue.TheVariants.{Quoted, Bare}
 use Rattle.ll_attr.proofs.Spelled.{written_again}
-use Rattle.ll_page.specs.Spelling.{behind_comma}
-use Rattle.ll_read.specs.Lines.{Line, First, Version, TargetDuration, PartTarget, MediaSequence, DiscontinuitySequence, DateRange, Discontinuity, Map, Time, Uri, Hint, EndList, count_in, duration_behind, uri_behind, date_range_in, date_range_of, date_range_with, time_in, tagged, alone, is_colon, is_tag, is_uri, line_in}
+use Rattle.ll_page.specs.Spelling.{after_comma}
+use Rattle.ll_read.specs.Lines.{Line, First, Version, TargetDuration, PartTarget, MediaSequence, DiscontinuitySequence, DateRange, Discontinuity, Map, Time, Uri, Hint, EndList, count_in, duration_after, uri_after, date_range_in, date_range_of, date_range_with, time_in, tagged, alone, is_colon, is_tag, is_uri, line_in}
 use Rattle.ll_read.proofs.Again.{IsAgain, none, some, either, when, mapped}
 use Rattle.ll_read.proofs.Colons.{place}
 use Rattle.ll_read.proofs.DateRanges.{tail, spelled}
 use Rattle.ll_read.proofs.ListsAgain.{segment_duration-again, part-again, report-again, control-again, skipped-again}
-use Rattle.ll_read.proofs.PiecesAgain.{same_bytes, count-again, duration_behind-again, uri_behind-again}
+use Rattle.ll_read.proofs.PiecesAgain.{same_bytes, count-again, duration_after-again, uri_after-again}
 
-some_front : (name text : List ℕ) → behind_comma (name ++ (61 ∷ text)) ≡ 44 ∷ (name ++ (61 ∷ text))
+some_front : (name text : List ℕ) → after_comma (name ++ (61 ∷ text)) ≡ 44 ∷ (name ++ (61 ∷ text))
 some_front [] text = refl
 some_front (b ∷ bs) text = refl
 
--- attributes behind the first stand behind a comma
-tail_is : (more : List Attribute) → behind_comma (spelling more) ≡ tail more
+-- attributes after the first stand after a comma
+tail_is : (more : List Attribute) → after_comma (spelling more) ≡ tail more
 tail_is [] = refl
 tail_is (a ∷ more) =
     let text = value_spelling a.value ++ tail more in
-    ap behind_comma (spelled a more) ∙ some_front a.name text ∙ ap (λ t. 44 ∷ t) (sym (spelled a more))
+    ap after_comma (spelled a more) ∙ some_front a.name text ∙ ap (λ t. 44 ∷ t) (sym (spelled a more))
 
 abbrev range_line : List ℕ → List ℕ
 range_line text = codes "#EXT-X-DATERANGE:" ++ text
@@ -56,7 +56,7 @@ time-again text =
     let whole = codes "#EXT-X-PROGRAM-DATE-TIME:" ++ text in
     when (nat_le 1 (length text)) whole (Some (Time text)) (λ long. some whole (Time text) refl)
 
--- by the next tag or by those behind it
+-- by the next tag or by those after it
 tag-again : (tag this text : List ℕ) (x y : Option Line) → IsAgain (this ++ 58 ∷ text) x → IsAgain (tag ++ 58 ∷ text) y
     → IsAgain (tag ++ 58 ∷ text) (if bytes_eq tag this then x else y)
 tag-again tag this text x y one others =
@@ -72,8 +72,8 @@ tagged-again tag text =
     (λ n h. ap (λ t. codes "#EXT-X-TARGETDURATION:" ++ t) (count-again text n h)))
     (tag-again tag (codes "#EXT-X-SERVER-CONTROL") text _ _ (control-again text)
     (tag-again tag (codes "#EXT-X-PART-INF") text _ _
-    (mapped (codes "#EXT-X-PART-INF:" ++ text) PartTarget (duration_behind (codes "PART-TARGET=") text)
-    (λ n h. ap (λ t. codes "#EXT-X-PART-INF:" ++ t) (duration_behind-again (codes "PART-TARGET=") text n h)))
+    (mapped (codes "#EXT-X-PART-INF:" ++ text) PartTarget (duration_after (codes "PART-TARGET=") text)
+    (λ n h. ap (λ t. codes "#EXT-X-PART-INF:" ++ t) (duration_after-again (codes "PART-TARGET=") text n h)))
     (tag-again tag (codes "#EXT-X-MEDIA-SEQUENCE") text _ _
     (mapped (codes "#EXT-X-MEDIA-SEQUENCE:" ++ text) MediaSequence (count_in text)
     (λ n h. ap (λ t. codes "#EXT-X-MEDIA-SEQUENCE:" ++ t) (count-again text n h)))
@@ -83,15 +83,15 @@ tagged-again tag text =
     (tag-again tag (codes "#EXT-X-DATERANGE") text _ _ (range-again text)
     (tag-again tag (codes "#EXT-X-SKIP") text _ _ (skipped-again text)
     (tag-again tag (codes "#EXT-X-MAP") text _ _
-    (mapped (codes "#EXT-X-MAP:" ++ text) Map (uri_behind (codes "URI=") text)
-    (λ uri h. ap (λ t. codes "#EXT-X-MAP:" ++ t) (uri_behind-again (codes "URI=") text uri h)))
+    (mapped (codes "#EXT-X-MAP:" ++ text) Map (uri_after (codes "URI=") text)
+    (λ uri h. ap (λ t. codes "#EXT-X-MAP:" ++ t) (uri_after-again (codes "URI=") text uri h)))
     (tag-again tag (codes "#EXT-X-PROGRAM-DATE-TIME") text _ _ (time-again text)
     (tag-again tag (codes "#EXT-X-PART") text _ _ (part-again text)
     (tag-again tag (codes "#EXTINF") text _ _ (segment_duration-again text)
     (tag-again tag (codes "#EXT-X-RENDITION-REPORT") text _ _ (report-again text)
     (tag-again tag (codes "#EXT-X-PRELOAD-HINT") text _ _
-    (mapped (codes "#EXT-X-PRELOAD-HINT:" ++ text) Hint (uri_behind (codes "TYPE=PART,URI=") text)
-    (λ uri h. ap (λ t. codes "#EXT-X-PRELOAD-HINT:" ++ t) (uri_behind-again (codes "TYPE=PART,URI=") text uri h)))
+    (mapped (codes "#EXT-X-PRELOAD-HINT:" ++ text) Hint (uri_after (codes "TYPE=PART,URI=") text)
+    (λ uri h. ap (λ t. codes "#EXT-X-PRELOAD-HINT:" ++ t) (uri_after-again (codes "TYPE=PART,URI=") text uri h)))
     (none (tag ++ 58 ∷ text)))))))))))))))
 
 alone-again : (text : List ℕ) → IsAgain text (alone text)

@@ -13,7 +13,7 @@ use Rattle.ll_read.proofs.NumbersBack.{count_inside, seconds_inside, seconds_lac
 use Rattle.ll_read.proofs.RangesBack.{range-back}
 use Rattle.ll_read.proofs.Readability.{CanBeRead, IsLine}
 use Rattle.ll_read.proofs.UrisBack.{quoted_bytes, quoted_inside, quoted_before, uri_back}
-use Rattle.ll_read.proofs.WholeLines.{is_inside, whole, whole_behind}
+use Rattle.ll_read.proofs.WholeLines.{is_inside, whole, whole_after}
 
 version-back : (n : ℕ) → n ≤ number_end → IsLine (Version n)
 version-back n small = record { read = ap (option_map Version) (count_back n small); whole = whole (line_text (Version n)) (count_inside n small) }
@@ -75,7 +75,7 @@ time_by false time h = cc
 time-back : (time : List ℕ) → (nat_le 1 (length time) && ends_no_line time) ≡ true → IsLine (Time time)
 time-back time can = record {
   read = time_by (nat_le 1 (length time)) time (and_parts (nat_le 1 (length time)) (ends_no_line time) can).0;
-  whole = whole_behind (codes "#EXT-X-PROGRAM-DATE-TIME:") time refl can;
+  whole = whole_after (codes "#EXT-X-PROGRAM-DATE-TIME:") time refl can;
 }
 
 pub line-back : (line : Line) → CanBeRead line → IsLine line

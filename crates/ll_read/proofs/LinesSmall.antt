@@ -5,12 +5,12 @@ use Rattle.std.specs.List.{list_any, before_first, after_first}
 use Rattle.std.specs.Option.{option_map}
 use Rattle.ll_attr.specs.Attributes.{attributes_in}
 use Rattle.ll_attr.specs.Numbers.{number_in}
-use Rattle.ll_attr.specs.Words.{parts_at, behind}
+use Rattle.ll_attr.specs.Words.{parts_at, after}
 use Rattle.ll_attr.specs.declared.attributes.Attribute.{Attribute}
 use Rattle.ll_attr.specs.declared.attributes.AttrFault.{AttrFault}
 use Rattle.ll_attr.specs.declared.attributes.AttrValue.{AttrValue}
 use Rattle.ll_attr.specs.declared.attributes.AttrValue.TheVariants.{Quoted, Bare}
-use Rattle.ll_read.specs.Lines.{Line, First, Version, TargetDuration, PartTarget, MediaSequence, DiscontinuitySequence, Skipped, Discontinuity, Map, Duration, Uri, Hint, EndList, number_end, at_most, spelled_by, count_in, count_by, count_behind, duration_in, duration_behind, skips_in, control_of, control_by, date_range_of, date_range_with, skipped_of, skipped_by, removed_by, removed_if, independent_in, part_of, part_by, part_if, segment_duration_of, report_of, report_by, report_if, time_in, tagged, uri_behind, is_uri, alone, is_colon, is_tag, line_in}
+use Rattle.ll_read.specs.Lines.{Line, First, Version, TargetDuration, PartTarget, MediaSequence, DiscontinuitySequence, Skipped, Discontinuity, Map, Duration, Uri, Hint, EndList, number_end, at_most, spelled_by, count_in, count_by, count_after, duration_in, duration_after, skips_in, control_of, control_by, date_range_of, date_range_with, skipped_of, skipped_by, removed_by, removed_if, independent_in, part_of, part_by, part_if, segment_duration_of, report_of, report_by, report_if, time_in, tagged, uri_after, is_uri, alone, is_colon, is_tag, line_in}
 use Rattle.ll_read.specs.Readable.{Where}
 
 -- a number within bounds
@@ -67,7 +67,7 @@ control_by_small hold_back skip_until skips = record { line = tt }
 control_small : (parts : List (List ℕ)) → IsSmall (control_of parts)
 control_small (blocks ∷ hold_back ∷ skip_until ∷ more) =
     small_if (bytes_eq blocks (codes "CAN-BLOCK-RELOAD=YES"))
-    (control_by_small (duration_behind (codes "PART-HOLD-BACK=") hold_back) (duration_behind (codes "CAN-SKIP-UNTIL=") skip_until) (skips_in more))
+    (control_by_small (duration_after (codes "PART-HOLD-BACK=") hold_back) (duration_after (codes "CAN-SKIP-UNTIL=") skip_until) (skips_in more))
     (record { line = tt })
 control_small other = record { line = tt }
 
@@ -88,7 +88,7 @@ abbrev skip_key : List ℕ
 skip_key = codes "SKIPPED-SEGMENTS="
 
 removed_by_small : (parts : List (List ℕ)) (ids end : List ℕ) → IsSmall (removed_by parts ids end)
-removed_by_small (count ∷ key ∷ []) ids end = removed_if_small _ ids (count_behind skip_key count) (count_by_small (behind skip_key count))
+removed_by_small (count ∷ key ∷ []) ids end = removed_if_small _ ids (count_after skip_key count) (count_by_small (after skip_key count))
 removed_by_small other ids end = record { line = tt }
 
 skipped_by_small : (o : Option ℕ) → Where IsNumber o → IsSmall (skipped_by o)
@@ -96,7 +96,7 @@ skipped_by_small None h = record { line = tt }
 skipped_by_small (Some n) h = record { line = h }
 
 skipped_small : (parts : List (List ℕ)) → IsSmall (skipped_of parts)
-skipped_small (text ∷ []) = skipped_by_small (count_behind skip_key text) (count_by_small (behind skip_key text))
+skipped_small (text ∷ []) = skipped_by_small (count_after skip_key text) (count_by_small (after skip_key text))
 skipped_small (front ∷ ids ∷ end ∷ []) = removed_by_small (parts_at 44 front) ids end
 skipped_small other = record { line = tt }
 
@@ -105,7 +105,7 @@ part_if_small true (Some duration) uri (Some independent) = record { line = tt }
 part_if_small b duration uri independent = record { line = tt }
 
 part_by_small : (parts : List (List ℕ)) (uri end : List ℕ) → IsSmall (part_by parts uri end)
-part_by_small (duration ∷ key ∷ []) uri end = part_if_small _ (duration_behind (codes "DURATION=") duration) uri (independent_in end)
+part_by_small (duration ∷ key ∷ []) uri end = part_if_small _ (duration_after (codes "DURATION=") duration) uri (independent_in end)
 part_by_small other uri end = record { line = tt }
 
 part_small : (parts : List (List ℕ)) → IsSmall (part_of parts)
@@ -122,7 +122,7 @@ report_if_small b uri number index = record { line = tt }
 
 report_by_small : (front uri : List ℕ) (parts : List (List ℕ)) → IsSmall (report_by front uri parts)
 report_by_small front uri (gap ∷ number ∷ index ∷ []) =
-    report_if_small _ uri (count_behind (codes "LAST-MSN=") number) (count_behind (codes "LAST-PART=") index)
+    report_if_small _ uri (count_after (codes "LAST-MSN=") number) (count_after (codes "LAST-PART=") index)
 report_by_small front uri other = record { line = tt }
 
 report_small : (parts : List (List ℕ)) → IsSmall (report_of parts)
@@ -137,17 +137,17 @@ tagged_small tag text =
     small_if (bytes_eq tag (codes "#EXT-X-VERSION")) (mapped Version (count_in text) (λ n. tt))
     (small_if (bytes_eq tag (codes "#EXT-X-TARGETDURATION")) (mapped TargetDuration (count_in text) (λ n. tt))
     (small_if (bytes_eq tag (codes "#EXT-X-SERVER-CONTROL")) (control_small (parts_at 44 text))
-    (small_if (bytes_eq tag (codes "#EXT-X-PART-INF")) (mapped PartTarget (duration_behind (codes "PART-TARGET=") text) (λ n. tt))
+    (small_if (bytes_eq tag (codes "#EXT-X-PART-INF")) (mapped PartTarget (duration_after (codes "PART-TARGET=") text) (λ n. tt))
     (small_if (bytes_eq tag (codes "#EXT-X-MEDIA-SEQUENCE")) (sequence_small (count_in text) (count_small text))
     (small_if (bytes_eq tag (codes "#EXT-X-DISCONTINUITY-SEQUENCE")) (mapped DiscontinuitySequence (count_in text) (λ n. tt))
     (small_if (bytes_eq tag (codes "#EXT-X-DATERANGE")) (range_small (attributes_in text))
     (small_if (bytes_eq tag (codes "#EXT-X-SKIP")) (skipped_small (parts_at 34 text))
-    (small_if (bytes_eq tag (codes "#EXT-X-MAP")) (mapped Map (uri_behind (codes "URI=") text) (λ uri. tt))
+    (small_if (bytes_eq tag (codes "#EXT-X-MAP")) (mapped Map (uri_after (codes "URI=") text) (λ uri. tt))
     (small_if (bytes_eq tag (codes "#EXT-X-PROGRAM-DATE-TIME")) (time_small text)
     (small_if (bytes_eq tag (codes "#EXT-X-PART")) (part_small (parts_at 34 text))
     (small_if (bytes_eq tag (codes "#EXTINF")) (segment_small (parts_at 44 text))
     (small_if (bytes_eq tag (codes "#EXT-X-RENDITION-REPORT")) (report_small (parts_at 34 text))
-    (small_if (bytes_eq tag (codes "#EXT-X-PRELOAD-HINT")) (mapped Hint (uri_behind (codes "TYPE=PART,URI=") text) (λ uri. tt))
+    (small_if (bytes_eq tag (codes "#EXT-X-PRELOAD-HINT")) (mapped Hint (uri_after (codes "TYPE=PART,URI=") text) (λ uri. tt))
     (other None tt))))))))))))))
 
 alone_small : (text : List ℕ) → IsSmall (alone text)

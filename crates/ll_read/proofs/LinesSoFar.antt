@@ -3,7 +3,7 @@ use Rattle.std.proofs.Common.{◌≡◌, List, [], ◌∷◌, ◌++◌, map, Non
 use Rattle.std.specs.List.{flat_map}
 use Rattle.ll_page.specs.Playlist.{Playlist}
 use Rattle.ll_read.specs.Lines.{Line, First, Version, TargetDuration, Control, MediaSequence, DiscontinuitySequence, DateRange, Discontinuity, Map, Duration, ReportOf}
-use Rattle.ll_read.specs.Shape.{Reading, Place, AtStart, BehindFirst, BehindVersion, BehindTargetDuration, BehindControl, BehindPartTarget, BehindMediaSequence, InRanges, BetweenSegments, BehindDiscontinuity, BehindMap, InSegment, BehindDuration, InReports, AtEnd}
+use Rattle.ll_read.specs.Shape.{Reading, Place, AtStart, AfterFirst, AfterVersion, AfterTargetDuration, AfterControl, AfterPartTarget, AfterMediaSequence, InRanges, BetweenSegments, AfterDiscontinuity, AfterMap, InSegment, AfterDuration, InReports, AtEnd}
 use Rattle.ll_read.specs.Written.{lines_of_header, lines_of_skip, lines_of_break, lines_of_block, lines_of_segment, lines_of_open, lines_of}
 
 -- the header's lines and those of date ranges
@@ -20,20 +20,20 @@ reported p = segmented p ++ (lines_of_open p.open_block ++ map ReportOf p.report
 
 abbrev pub so_far_at : Place → Playlist → List Line
 so_far_at AtStart p = []
-so_far_at BehindFirst p = First ∷ []
-so_far_at BehindVersion p = First ∷ Version p.header.version ∷ []
-so_far_at BehindTargetDuration p = First ∷ Version p.header.version ∷ TargetDuration p.header.target ∷ []
-so_far_at BehindControl p =
+so_far_at AfterFirst p = First ∷ []
+so_far_at AfterVersion p = First ∷ Version p.header.version ∷ []
+so_far_at AfterTargetDuration p = First ∷ Version p.header.version ∷ TargetDuration p.header.target ∷ []
+so_far_at AfterControl p =
     First ∷ Version p.header.version ∷ TargetDuration p.header.target
     ∷ Control p.header.hold_back p.header.skip_until p.header.skips_date_ranges ∷ []
-so_far_at BehindPartTarget p = lines_of_header p.header
-so_far_at BehindMediaSequence p = lines_of_header p.header ++ MediaSequence p.sequence ∷ []
+so_far_at AfterPartTarget p = lines_of_header p.header
+so_far_at AfterMediaSequence p = lines_of_header p.header ++ MediaSequence p.sequence ∷ []
 so_far_at InRanges p = ranged p
 so_far_at BetweenSegments p = segmented p
-so_far_at BehindDiscontinuity p = segmented p ++ Discontinuity ∷ []
-so_far_at (BehindMap broken uri) p = segmented p ++ (lines_of_break broken ++ Map uri ∷ [])
+so_far_at AfterDiscontinuity p = segmented p ++ Discontinuity ∷ []
+so_far_at (AfterMap broken uri) p = segmented p ++ (lines_of_break broken ++ Map uri ∷ [])
 so_far_at (InSegment b) p = segmented p ++ lines_of_block b
-so_far_at (BehindDuration b d) p = segmented p ++ (lines_of_block b ++ Duration d ∷ [])
+so_far_at (AfterDuration b d) p = segmented p ++ (lines_of_block b ++ Duration d ∷ [])
 so_far_at InReports p = reported p
 so_far_at AtEnd p = lines_of p
 
@@ -41,29 +41,29 @@ so_far_at AtEnd p = lines_of p
 abbrev pub so_far : Reading → List Line
 so_far r = so_far_at r.place r.playlist
 
--- nothing stands behind the segments
-abbrev pub NothingBehindSegments : Playlist → Type 0
-NothingBehindSegments p = (p.open_block ≡ None) × (p.reports ≡ []) × (p.hint ≡ None)
+-- nothing stands after the segments
+abbrev pub NothingAfterSegments : Playlist → Type 0
+NothingAfterSegments p = (p.open_block ≡ None) × (p.reports ≡ []) × (p.hint ≡ None)
 
--- nor behind the date ranges
-abbrev pub NothingBehindRanges : Playlist → Type 0
-NothingBehindRanges p = (p.skipped ≡ None) × (p.segments ≡ []) × NothingBehindSegments p
+-- nor after the date ranges
+abbrev pub NothingAfterRanges : Playlist → Type 0
+NothingAfterRanges p = (p.skipped ≡ None) × (p.segments ≡ []) × NothingAfterSegments p
 
--- nor behind the header
-abbrev pub NothingBehindHeader : Playlist → Type 0
-NothingBehindHeader p = (p.ranges ≡ []) × NothingBehindRanges p
+-- nor after the header
+abbrev pub NothingAfterHeader : Playlist → Type 0
+NothingAfterHeader p = (p.ranges ≡ []) × NothingAfterRanges p
 
 -- what is empty where a reading stands
 abbrev pub IsEarlyAt : Place → Playlist → Type 0
-IsEarlyAt InRanges p = NothingBehindRanges p
-IsEarlyAt BetweenSegments p = NothingBehindSegments p
-IsEarlyAt BehindDiscontinuity p = NothingBehindSegments p
-IsEarlyAt (BehindMap broken uri) p = NothingBehindSegments p
-IsEarlyAt (InSegment b) p = NothingBehindSegments p
-IsEarlyAt (BehindDuration b d) p = NothingBehindSegments p
+IsEarlyAt InRanges p = NothingAfterRanges p
+IsEarlyAt BetweenSegments p = NothingAfterSegments p
+IsEarlyAt AfterDiscontinuity p = NothingAfterSegments p
+IsEarlyAt (AfterMap broken uri) p = NothingAfterSegments p
+IsEarlyAt (InSegment b) p = NothingAfterSegments p
+IsEarlyAt (AfterDuration b d) p = NothingAfterSegments p
 IsEarlyAt InReports p = p.hint ≡ None
 IsEarlyAt AtEnd p = Unit {0}
-IsEarlyAt place p = NothingBehindHeader p
+IsEarlyAt place p = NothingAfterHeader p
 
 abbrev pub IsEarly : Reading → Type 0
 IsEarly r = IsEarlyAt r.place r.playlist

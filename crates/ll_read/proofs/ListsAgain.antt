@@ -8,10 +8,10 @@ use Rattle.ll_attr.specs.Attributes.{is_quoted_byte}
 use Rattle.ll_attr.specs.Durations.{seconds}
 use Rattle.ll_attr.specs.Words.{parts_at}
 use Rattle.ll_page.specs.Spelling.{independent_flag}
-use Rattle.ll_read.specs.Lines.{Control, Part, ReportOf, Skipped, Duration, is_uri, ids_in, count_behind, duration_in, duration_behind, control_of, control_by, control_in, skips_in, independent_in, part_of, part_by, part_if, part_in, report_of, report_by, report_if, report_in, skipped_of, skipped_by, skipped_in, removed_by, removed_if, segment_duration_of, segment_duration_in}
+use Rattle.ll_read.specs.Lines.{Control, Part, ReportOf, Skipped, Duration, is_uri, ids_in, count_after, duration_in, duration_after, control_of, control_by, control_in, skips_in, independent_in, part_of, part_by, part_if, part_in, report_of, report_by, report_if, report_in, skipped_of, skipped_by, skipped_in, removed_by, removed_if, segment_duration_of, segment_duration_in}
 use Rattle.ll_read.specs.Written.{line_text, skips_text}
 use Rattle.ll_read.proofs.Again.{IsAgain, none, some, when, mapped}
-use Rattle.ll_read.proofs.PiecesAgain.{if_some, same_bytes, count_behind-again, duration-again, duration_behind-again}
+use Rattle.ll_read.proofs.PiecesAgain.{if_some, same_bytes, count_after-again, duration-again, duration_after-again}
 
 abbrev segment_text : List ℕ → List ℕ
 segment_text text = codes "#EXTINF:" ++ text
@@ -56,11 +56,11 @@ part_if-again text false o uri q each = none text
 part_by-again : (text front : List ℕ) (parts : List (List ℕ)) (uri end : List ℕ) → join_with_byte 44 parts ≡ front
     → front ++ 34 ∷ (uri ++ 34 ∷ end) ≡ text → IsAgain (part_text text) (part_by parts uri end)
 part_by-again text front (duration ∷ key ∷ []) uri end f e =
-    part_if-again (part_text text) (bytes_eq key (codes "URI=") && is_uri uri) (duration_behind (codes "DURATION=") duration) uri (independent_in end)
+    part_if-again (part_text text) (bytes_eq key (codes "URI=") && is_uri uri) (duration_after (codes "DURATION=") duration) uri (independent_in end)
     (λ d b fits lasts flag.
     let is_key = same_bytes key (codes "URI=") (and_parts (bytes_eq key (codes "URI=")) (is_uri uri) fits).0 in
     ap part_text
-    (ap (λ t. t ++ (codes ",URI=\"" ++ (uri ++ (codes "\"" ++ independent_flag b)))) (duration_behind-again (codes "DURATION=") duration d lasts)
+    (ap (λ t. t ++ (codes ",URI=\"" ++ (uri ++ (codes "\"" ++ independent_flag b)))) (duration_after-again (codes "DURATION=") duration d lasts)
     ∙ ap (λ t. duration ++ 44 ∷ (t ++ 34 ∷ (uri ++ 34 ∷ independent_flag b))) (sym is_key)
     ∙ ap (λ t. duration ++ 44 ∷ (key ++ 34 ∷ (uri ++ 34 ∷ t))) (independent-again end b flag)
     ∙ sym (append_assoc duration (44 ∷ key) (34 ∷ (uri ++ 34 ∷ end)))
@@ -95,13 +95,13 @@ report_by-again : (text front uri end : List ℕ) (parts : List (List ℕ)) → 
     → IsAgain (report_text text) (report_by front uri parts)
 report_by-again text front uri end (gap ∷ number ∷ index ∷ []) f e =
     report_if-again (report_text text) (bytes_eq front (codes "URI=") && is_uri uri && bytes_eq gap []) uri
-    (count_behind (codes "LAST-MSN=") number) (count_behind (codes "LAST-PART=") index)
+    (count_after (codes "LAST-MSN=") number) (count_after (codes "LAST-PART=") index)
     (λ n i fits first second.
     let p = and_parts (bytes_eq front (codes "URI=") && is_uri uri) (bytes_eq gap []) fits in
     let is_front = same_bytes front (codes "URI=") (and_parts (bytes_eq front (codes "URI=")) (is_uri uri) p.0).0 in
     ap report_text
-    (ap (λ t. codes "URI=\"" ++ (uri ++ 34 ∷ 44 ∷ (t ++ (codes ",LAST-PART=" ++ decimal i)))) (count_behind-again (codes "LAST-MSN=") number n first)
-    ∙ ap (λ t. codes "URI=\"" ++ (uri ++ 34 ∷ 44 ∷ (number ++ 44 ∷ t))) (count_behind-again (codes "LAST-PART=") index i second)
+    (ap (λ t. codes "URI=\"" ++ (uri ++ 34 ∷ 44 ∷ (t ++ (codes ",LAST-PART=" ++ decimal i)))) (count_after-again (codes "LAST-MSN=") number n first)
+    ∙ ap (λ t. codes "URI=\"" ++ (uri ++ 34 ∷ 44 ∷ (number ++ 44 ∷ t))) (count_after-again (codes "LAST-PART=") index i second)
     ∙ ap (λ t. codes "URI=\"" ++ (uri ++ 34 ∷ (t ++ 44 ∷ (number ++ 44 ∷ index)))) (sym (same_bytes gap [] p.1))
     ∙ ap (λ t. codes "URI=\"" ++ (uri ++ 34 ∷ t)) f
     ∙ ap (λ t. t ++ 34 ∷ (uri ++ 34 ∷ end)) (sym is_front)
@@ -124,7 +124,7 @@ report-again text = report_of-again text (parts_at 34 text) (join_with_byte-slic
 abbrev control_text : List ℕ → List ℕ
 control_text text = codes "#EXT-X-SERVER-CONTROL:" ++ text
 
--- the last of a control line's durations and what stands behind it
+-- the last of a control line's durations and what stands after it
 skips-again : (until : List ℕ) (more : List (List ℕ)) (b : Bool) → skips_in more ≡ Some b
     → until ++ skips_text b ≡ join_with_byte 44 (until ∷ more)
 skips-again until [] b h =
@@ -145,13 +145,13 @@ control_by-again text None p q each = none text
 control_of-again : (text : List ℕ) (parts : List (List ℕ)) → join_with_byte 44 parts ≡ text → IsAgain (control_text text) (control_of parts)
 control_of-again text (blocks ∷ hold_back ∷ until ∷ more) e =
     when (bytes_eq blocks (codes "CAN-BLOCK-RELOAD=YES")) (control_text text) _
-    (λ can. control_by-again (control_text text) (duration_behind (codes "PART-HOLD-BACK=") hold_back)
-    (duration_behind (codes "CAN-SKIP-UNTIL=") until) (skips_in more)
+    (λ can. control_by-again (control_text text) (duration_after (codes "PART-HOLD-BACK=") hold_back)
+    (duration_after (codes "CAN-SKIP-UNTIL=") until) (skips_in more)
     (λ a u b first second skips.
     ap control_text
     (ap (λ t. codes "CAN-BLOCK-RELOAD=YES," ++ (t ++ (codes ",CAN-SKIP-UNTIL=" ++ (seconds u ++ skips_text b))))
-    (duration_behind-again (codes "PART-HOLD-BACK=") hold_back a first)
-    ∙ ap (λ t. codes "CAN-BLOCK-RELOAD=YES," ++ (hold_back ++ 44 ∷ (t ++ skips_text b))) (duration_behind-again (codes "CAN-SKIP-UNTIL=") until u second)
+    (duration_after-again (codes "PART-HOLD-BACK=") hold_back a first)
+    ∙ ap (λ t. codes "CAN-BLOCK-RELOAD=YES," ++ (hold_back ++ 44 ∷ (t ++ skips_text b))) (duration_after-again (codes "CAN-SKIP-UNTIL=") until u second)
     ∙ ap (λ t. codes "CAN-BLOCK-RELOAD=YES," ++ (hold_back ++ 44 ∷ t)) (skips-again until more b skips)
     ∙ ap (λ t. t ++ 44 ∷ (hold_back ++ 44 ∷ join_with_byte 44 (until ∷ more))) (sym (same_bytes blocks (codes "CAN-BLOCK-RELOAD=YES") can))
     ∙ e)))
@@ -180,13 +180,13 @@ removed_by-again : (text front : List ℕ) (parts : List (List ℕ)) (ids end : 
     → front ++ 34 ∷ (ids ++ 34 ∷ end) ≡ text → IsAgain (skip_text text) (removed_by parts ids end)
 removed_by-again text front (count ∷ key ∷ []) ids end f e =
     removed_if-again (skip_text text) (bytes_eq key (codes "RECENTLY-REMOVED-DATERANGES=") && bytes_eq end [] && list_all is_quoted_byte ids) ids
-    (count_behind (codes "SKIPPED-SEGMENTS=") count)
+    (count_after (codes "SKIPPED-SEGMENTS=") count)
     (λ n fits counts.
     let p = and_parts (bytes_eq key (codes "RECENTLY-REMOVED-DATERANGES=")) (bytes_eq end [])
     (and_parts (bytes_eq key (codes "RECENTLY-REMOVED-DATERANGES=") && bytes_eq end []) (list_all is_quoted_byte ids) fits).0 in
     ap skip_text
     (ap (λ t. t ++ (codes ",RECENTLY-REMOVED-DATERANGES=\"" ++ (join_with_byte 9 (ids_in ids) ++ codes "\"")))
-    (count_behind-again (codes "SKIPPED-SEGMENTS=") count n counts)
+    (count_after-again (codes "SKIPPED-SEGMENTS=") count n counts)
     ∙ ap (λ t. count ++ 44 ∷ (codes "RECENTLY-REMOVED-DATERANGES=" ++ 34 ∷ (t ++ 34 ∷ []))) (ids-again ids)
     ∙ ap (λ t. count ++ 44 ∷ (t ++ 34 ∷ (ids ++ 34 ∷ []))) (sym (same_bytes key (codes "RECENTLY-REMOVED-DATERANGES=") p.0))
     ∙ ap (λ t. count ++ 44 ∷ (key ++ 34 ∷ (ids ++ 34 ∷ t))) (sym (same_bytes end [] p.1))
@@ -204,9 +204,9 @@ skipped_by-again text (Some n) each = some text (Skipped (record { count = n; re
 
 skipped_of-again : (text : List ℕ) (parts : List (List ℕ)) → join_with_byte 34 parts ≡ text → IsAgain (skip_text text) (skipped_of parts)
 skipped_of-again text (front ∷ []) e =
-    skipped_by-again (skip_text text) (count_behind (codes "SKIPPED-SEGMENTS=") front)
+    skipped_by-again (skip_text text) (count_after (codes "SKIPPED-SEGMENTS=") front)
     (λ n counts. ap skip_text
-    (ap (λ t. codes "SKIPPED-SEGMENTS=" ++ t) (append-nil (decimal n)) ∙ count_behind-again (codes "SKIPPED-SEGMENTS=") front n counts ∙ e))
+    (ap (λ t. codes "SKIPPED-SEGMENTS=" ++ t) (append-nil (decimal n)) ∙ count_after-again (codes "SKIPPED-SEGMENTS=") front n counts ∙ e))
 skipped_of-again text (front ∷ ids ∷ end ∷ []) e = removed_by-again text front (parts_at 44 front) ids end (join_with_byte-slice_split 44 front) e
 skipped_of-again text [] e = none (skip_text text)
 skipped_of-again text (a ∷ b ∷ []) e = none (skip_text text)

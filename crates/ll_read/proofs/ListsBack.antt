@@ -59,7 +59,7 @@ part-back p can = record {
       (quoted_before p.uri (codes "\"" ++ independent_flag p.independent) (quoted_bytes p.uri can.uri) (independent_inside p.independent)));
 }
 
--- what stands behind a report's URI
+-- what stands after a report's URI
 abbrev report_end : ℕ → ℕ → List ℕ
 report_end number index = codes ",LAST-MSN=" ++ (decimal number ++ (codes ",LAST-PART=" ++ decimal index))
 
@@ -89,7 +89,7 @@ report-back r can = record {
       (all_in_both is_inside (decimal r.number) (codes ",LAST-PART=" ++ decimal r.index) (count_inside r.number can.number) (count_inside r.index can.index)));
 }
 
--- the last of a control line's durations and what stands behind it
+-- the last of a control line's durations and what stands after it
 control_end : (skips : Bool) (until : ℕ) → until < duration_end
     → (more : List (List ℕ))
     × (parts_at 44 (codes "CAN-SKIP-UNTIL=" ++ (seconds until ++ skips_text skips)) ≡ (codes "CAN-SKIP-UNTIL=" ++ seconds until) ∷ more)

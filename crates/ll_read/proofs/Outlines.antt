@@ -7,26 +7,26 @@ use Rattle.ll_read.specs.Draft.{Draft, put, with_open, draft_at, draft_of}
 use Rattle.ll_read.specs.Lines.{Line, Uri, ReportOf, Hint, EndList, line_in}
 use Rattle.ll_read.specs.Outline.{outline_of, with_line}
 use Rattle.ll_read.specs.Reading.{ended, next_line, read_from}
-use Rattle.ll_read.specs.Shape.{Reading, Place, InRanges, BetweenSegments, BehindDiscontinuity, BehindMap, InSegment, BehindDuration, AtEnd, behind_segments_if, next_at, next, may_end}
+use Rattle.ll_read.specs.Shape.{Reading, Place, InRanges, BetweenSegments, AfterDiscontinuity, AfterMap, InSegment, AfterDuration, AtEnd, after_segments_if, next_at, next, may_end}
 use Rattle.ll_read.specs.declared.outline.Outline.{Outline}
 use Rattle.ll_read.proofs.Onward.{bad_here, goes_on}
 use Rattle.ll_read.proofs.Steps.{step}
 
 playlist_at : (place : Place) (p : Playlist) → (draft_at place p).playlist ≡ p
-playlist_at BehindDiscontinuity p = refl
-playlist_at (BehindMap broken uri) p = refl
+playlist_at AfterDiscontinuity p = refl
+playlist_at (AfterMap broken uri) p = refl
 playlist_at (InSegment b) p = refl
-playlist_at (BehindDuration b d) p = refl
+playlist_at (AfterDuration b d) p = refl
 playlist_at place p = refl
 
-not_if : (x : Bool) (uri : List ℕ) (p : Playlist) (q : Reading) → behind_segments_if x (Uri uri) p ≡ Some q → ⊥
+not_if : (x : Bool) (uri : List ℕ) (p : Playlist) (q : Reading) → after_segments_if x (Uri uri) p ≡ Some q → ⊥
 not_if true uri p q h = cc
 not_if false uri p q h = cc
 
--- a URI stands behind a segment's duration alone
+-- a URI stands after a segment's duration alone
 some_segment : (place : Place) (uri : List ℕ) (p : Playlist) (q : Reading)
     → next_at place (Uri uri) p ≡ Some q → (b : Block) × ((draft_at place p).segment ≡ Some b)
-some_segment (BehindDuration b d) uri p q h = (b, refl)
+some_segment (AfterDuration b d) uri p q h = (b, refl)
 some_segment InRanges uri p q h = absurd (not_if (may_end p) uri p q h)
 some_segment BetweenSegments uri p q h = absurd (not_if (may_end p) uri p q h)
 some_segment (InSegment b) uri p q h = absurd (not_if _ uri (record p { open_block = Some b }) q h)

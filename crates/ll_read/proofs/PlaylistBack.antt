@@ -31,13 +31,13 @@ whole_run p can =
     let ranged : Playlist = record begin { ranges = p.ranges } in
     let skipping : Playlist = record ranged { skipped = p.skipped } in
     let last_lines = end_lines p.reports p.hint in
-    let behind_segments = lines_of_open p.open_block ++ last_lines in
-    let behind_skip = flat_map lines_of_segment p.segments ++ behind_segments in
-    let behind_ranges = lines_of_skip p.skipped ++ behind_skip in
-    let told = segments (is_none p.skipped) p.segments (is_some p.skipped) skipping behind_segments (first_leads p.skipped) can.segments in
-    header p.header p.sequence p.discontinuity start.playlist (map DateRange p.ranges ++ behind_ranges) can.header.version
-    ∙ ranges p.ranges begin behind_ranges can.distinct
-    ∙ skip p.skipped ranged behind_skip can.skipped
+    let after_segments = lines_of_open p.open_block ++ last_lines in
+    let after_skip = flat_map lines_of_segment p.segments ++ after_segments in
+    let after_ranges = lines_of_skip p.skipped ++ after_skip in
+    let told = segments (is_none p.skipped) p.segments (is_some p.skipped) skipping after_segments (first_leads p.skipped) can.segments in
+    header p.header p.sequence p.discontinuity start.playlist (map DateRange p.ranges ++ after_ranges) can.header.version
+    ∙ ranges p.ranges begin after_ranges can.distinct
+    ∙ skip p.skipped ranged after_skip can.skipped
     ∙ told.1
     ∙ to_end p.open_block p.reports p.hint told.0 (record skipping { segments = p.segments }) can.own_segment can.open_block
 

@@ -39,7 +39,7 @@ parts text h = and_parts (not (list_any is_line_feed text)) (bytes_eq (strip_car
 pub kept : (text : List ℕ) → ends_no_line text ≡ true → text ≡ strip_carriage_return text
 kept text h = sym ((bytes_eq-Decides (strip_carriage_return text) text).0 (parts text h).1)
 
--- and is cut off at the LF behind it
+-- and is cut off at the LF after it
 pub cut : (text more : List ℕ) → ends_no_line text ≡ true → parts_at 10 ((text ++ 10 ∷ []) ++ more) ≡ text ∷ parts_at 10 more
 cut text more h =
     let none = no_feed text (not-true (list_any is_line_feed text) (parts text h).0) in

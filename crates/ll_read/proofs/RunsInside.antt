@@ -1,4 +1,4 @@
--- The lines of each piece of a playlist come to that piece, put behind what stands before it.
+-- The lines of each piece of a playlist come to that piece, put after what stands before it.
 use Rattle.std.proofs.Common.{◌≡◌, ℕ, ◌||◌, ◌==◌, Bool, true, false, not, List, [], ◌∷◌, ◌++◌, map, refl, ap, sym, ◌∙◌, append_assoc, Option, Some, None, is_none}
 use Rattle.std.proofs.lemmas.Bool.{and_right, not-true}
 use Rattle.std.proofs.lemmas.List.{append-nil}
@@ -6,7 +6,7 @@ use Rattle.std.specs.List.{flat_map}
 use Rattle.ll_page.specs.Playlist.{PartLine, Block, Finished, Header, Playlist}
 use Rattle.ll_read.specs.Lines.{Line, TargetDuration, Control, PartTarget, MediaSequence, DiscontinuitySequence, Time, Part, Duration, Uri}
 use Rattle.ll_read.specs.Readable.{has_map, IsReadableBlock, IsReadableSegment, AreReadableSegments}
-use Rattle.ll_read.specs.Shape.{Place, AtStart, BehindVersion, InRanges, BetweenSegments, BehindMap, InSegment, at, at_if, with_header, is_empty, leads, new_block}
+use Rattle.ll_read.specs.Shape.{Place, AtStart, AfterVersion, InRanges, BetweenSegments, AfterMap, InSegment, at, at_if, with_header, is_empty, leads, new_block}
 use Rattle.ll_read.specs.Written.{lines_of_header, lines_of_break, lines_of_map, lines_of_block, lines_of_segment}
 use Rattle.ll_read.proofs.LineTexts.{in_three}
 use Rattle.ll_read.proofs.Runs.{run}
@@ -20,11 +20,11 @@ pub header : (h : Header) (sequence discontinuity : ℕ) (p : Playlist) (more : 
     → run (at AtStart p) (lines_of_header h ++ (MediaSequence sequence ∷ DiscontinuitySequence discontinuity ∷ more))
     ≡ run (at InRanges (record p { header = h; sequence = sequence; discontinuity = discontinuity })) more
 header h sequence discontinuity p more known =
-    let behind_control = PartTarget h.part_target ∷ MediaSequence sequence ∷ DiscontinuitySequence discontinuity ∷ more in
-    allowed (h.version == 9 || h.version == 10) BehindVersion (with_header (record (p.header) { version = h.version }) p)
-    (TargetDuration h.target ∷ Control h.hold_back h.skip_until h.skips_date_ranges ∷ behind_control) known
+    let after_control = PartTarget h.part_target ∷ MediaSequence sequence ∷ DiscontinuitySequence discontinuity ∷ more in
+    allowed (h.version == 9 || h.version == 10) AfterVersion (with_header (record (p.header) { version = h.version }) p)
+    (TargetDuration h.target ∷ Control h.hold_back h.skip_until h.skips_date_ranges ∷ after_control) known
 
--- where a segment may begin: behind date ranges, or behind a skip line or a segment
+-- where a segment may begin: after date ranges, or after a skip line or a segment
 abbrev pub between : Bool → Place
 between false = InRanges
 between true = BetweenSegments
@@ -41,8 +41,8 @@ begun : (leading broken : Bool) (map : Option (List ℕ)) (time : List ℕ) (pla
     → run (at (between place) p) (lines_of_break broken ++ (lines_of_map map ++ Time time ∷ more)) ≡ run (at (InSegment (new_block broken map time)) p) more
 begun leading true (Some uri) time false p more is h = refl
 begun leading true (Some uri) time true p more is h = refl
-begun true false (Some uri) time false p more is h = allowed (leads p) (BehindMap false uri) p (Time time ∷ more) is
-begun true false (Some uri) time true p more is h = allowed (leads p) (BehindMap false uri) p (Time time ∷ more) is
+begun true false (Some uri) time false p more is h = allowed (leads p) (AfterMap false uri) p (Time time ∷ more) is
+begun true false (Some uri) time true p more is h = allowed (leads p) (AfterMap false uri) p (Time time ∷ more) is
 begun false false None time false p more is h = allowed (not (leads p)) (InSegment (new_block false None time)) p more (ap not is)
 begun false false None time true p more is h = allowed (not (leads p)) (InSegment (new_block false None time)) p more (ap not is)
 begun leading true None time place p more is h = cc
@@ -62,7 +62,7 @@ segment leading s place p more is can =
     ap (run (at (between place) p)) (append_assoc (lines_of_block s.block) (Duration s.duration ∷ Uri s.uri ∷ []) more)
     ∙ block leading s.block place p (Duration s.duration ∷ Uri s.uri ∷ more) is can.block
 
--- behind a segment none leads
+-- after a segment none leads
 pub segments : (leading : Bool) (ss : List Finished) (place : Bool) (p : Playlist) (more : List Line) → leads p ≡ leading → AreReadableSegments leading ss
     → (last : Bool)
     × (run (at (between place) p) (flat_map lines_of_segment ss ++ more) ≡ run (at (between last) (record p { segments = p.segments ++ ss })) more)

@@ -18,15 +18,15 @@ other_way a b h =
     false_from_ne_true (bytes_eq b a) (λ e. both_ways (bytes_eq a b) h ((bytes_eq-Decides a b).1 (sym ((bytes_eq-Decides b a).0 e))))
 
 -- among distinct date ranges none has an id of those before it
-is_other : (before : List DateRangeLine) (r : DateRangeLine) (behind : List DateRangeLine) → are_distinct (before ++ r ∷ behind) ≡ true
+is_other : (before : List DateRangeLine) (r : DateRangeLine) (after : List DateRangeLine) → are_distinct (before ++ r ∷ after) ≡ true
     → has_id r.id before ≡ false
-is_other [] r behind h = refl
-is_other (x ∷ xs) r behind h =
-    let both = and_parts (not (has_id x.id (xs ++ r ∷ behind))) (are_distinct (xs ++ r ∷ behind)) h in
-    let none : (has_id x.id xs || has_id x.id (r ∷ behind)) ≡ false =
-    sym (list_any-append (λ (range : DateRangeLine). bytes_eq x.id range.id) xs (r ∷ behind)) ∙ not-true (has_id x.id (xs ++ r ∷ behind)) both.0 in
-    let apart = or_parts (bytes_eq x.id r.id) (has_id x.id behind) (or_parts (has_id x.id xs) (has_id x.id (r ∷ behind)) none).1 in
-    or_from (bytes_eq r.id x.id) (has_id r.id xs) (other_way x.id r.id apart.0) (is_other xs r behind both.1)
+is_other [] r after h = refl
+is_other (x ∷ xs) r after h =
+    let both = and_parts (not (has_id x.id (xs ++ r ∷ after))) (are_distinct (xs ++ r ∷ after)) h in
+    let none : (has_id x.id xs || has_id x.id (r ∷ after)) ≡ false =
+    sym (list_any-append (λ (range : DateRangeLine). bytes_eq x.id range.id) xs (r ∷ after)) ∙ not-true (has_id x.id (xs ++ r ∷ after)) both.0 in
+    let apart = or_parts (bytes_eq x.id r.id) (has_id x.id after) (or_parts (has_id x.id xs) (has_id x.id (r ∷ after)) none).1 in
+    or_from (bytes_eq r.id x.id) (has_id r.id xs) (other_way x.id r.id apart.0) (is_other xs r after both.1)
 
 pub ranges : (rs : List DateRangeLine) (p : Playlist) (more : List Line) → are_distinct (p.ranges ++ rs) ≡ true
     → run (at InRanges p) (map DateRange rs ++ more) ≡ run (at InRanges (record p { ranges = p.ranges ++ rs })) more

@@ -4,7 +4,7 @@ use Rattle.std.specs.Option.{option_map}
 use Rattle.ll_page.specs.Playlist.{Block, Playlist}
 use Rattle.ll_read.specs.Draft.{with_open}
 use Rattle.ll_read.specs.Lines.{Line, First, Version, TargetDuration, Control, PartTarget, MediaSequence, DiscontinuitySequence, DateRange, Skipped, Discontinuity, Map, Time, Part, Duration, Uri, ReportOf, Hint, EndList}
-use Rattle.ll_read.specs.Shape.{Reading, Place, AtStart, BehindFirst, BehindVersion, BehindTargetDuration, BehindControl, BehindPartTarget, BehindMediaSequence, InRanges, BetweenSegments, BehindDiscontinuity, BehindMap, InSegment, BehindDuration, InReports, AtEnd, at_if, behind_segments, behind_segments_if, between_segments, in_ranges, in_segment, next_at, next, may_end, leads, is_new, is_empty, new_block, with_header}
+use Rattle.ll_read.specs.Shape.{Reading, Place, AtStart, AfterFirst, AfterVersion, AfterTargetDuration, AfterControl, AfterPartTarget, AfterMediaSequence, InRanges, BetweenSegments, AfterDiscontinuity, AfterMap, InSegment, AfterDuration, InReports, AtEnd, at_if, after_segments, after_segments_if, between_segments, in_ranges, in_segment, next_at, next, may_end, leads, is_new, is_empty, new_block, with_header}
 use Rattle.ll_read.specs.Steps.{is_new_line, shape_of, shape_at, stage_of, some_if, shape_next}
 use Rattle.ll_read.specs.Steps as shape
 use Rattle.ll_read.specs.declared.shape.Shape.{Shape}
@@ -23,19 +23,19 @@ if_shape false place p = refl
 abbrev within : Stage → Bool → Playlist → Shape
 within st parts p = record { stage = st; skipped = not (is_none p.skipped); segments = not (is_empty p.segments); parts = parts }
 
-behind_shape : (o : Option Block) (line : Line) (p : Playlist) (st : Stage) (parts : Bool) → option_map shape_of (behind_segments line (with_open o p)) ≡ shape.behind_segments line (within st parts p)
-behind_shape None (ReportOf r) p st parts = refl
-behind_shape None (Hint uri) p st parts = refl
-behind_shape None EndList p st parts = refl
-behind_shape (Some b) (ReportOf r) p st parts = refl
-behind_shape (Some b) (Hint uri) p st parts = refl
-behind_shape (Some b) EndList p st parts = refl
-behind_shape o line p st parts = refl
+after_shape : (o : Option Block) (line : Line) (p : Playlist) (st : Stage) (parts : Bool) → option_map shape_of (after_segments line (with_open o p)) ≡ shape.after_segments line (within st parts p)
+after_shape None (ReportOf r) p st parts = refl
+after_shape None (Hint uri) p st parts = refl
+after_shape None EndList p st parts = refl
+after_shape (Some b) (ReportOf r) p st parts = refl
+after_shape (Some b) (Hint uri) p st parts = refl
+after_shape (Some b) EndList p st parts = refl
+after_shape o line p st parts = refl
 
-behind_by : (y : Bool) (o : Option Block) (line : Line) (p : Playlist) (st : Stage) (parts : Bool)
-    → option_map shape_of (behind_segments_if y line (with_open o p)) ≡ shape.behind_segments_if y line (within st parts p)
-behind_by true o line p st parts = behind_shape o line p st parts
-behind_by false o line p st parts = refl
+after_by : (y : Bool) (o : Option Block) (line : Line) (p : Playlist) (st : Stage) (parts : Bool)
+    → option_map shape_of (after_segments_if y line (with_open o p)) ≡ shape.after_segments_if y line (within st parts p)
+after_by true o line p st parts = after_shape o line p st parts
+after_by false o line p st parts = refl
 
 may_end_same : (p : Playlist) → may_end p ≡ (not (not (is_none p.skipped)) || not (is_empty p.segments))
 may_end_same p = ap (λ b. b || not (is_empty p.segments)) (notnot (is_none p.skipped))
@@ -45,10 +45,10 @@ leads_same p = ap (λ b. b && is_empty p.segments) (notnot (is_none p.skipped)) 
 
 between_shape : (line : Line) (p : Playlist) (st : Stage) → option_map shape_of (between_segments line p) ≡ shape.between_segments line (within st false p)
 between_shape Discontinuity p st = refl
-between_shape (Map uri) p st = if_shape (leads p) (BehindMap false uri) p ∙ ap (λ b. some_if b (within stage.BehindMap false p)) (leads_same p)
+between_shape (Map uri) p st = if_shape (leads p) (AfterMap false uri) p ∙ ap (λ b. some_if b (within stage.AfterMap false p)) (leads_same p)
 between_shape (Time time) p st =
     if_shape (not (leads p)) (InSegment (new_block false None time)) p ∙ ap (λ b. some_if (not b) (within stage.InSegment false p)) (leads_same p)
-between_shape line p st = behind_by (may_end p) None line p st false ∙ ap (λ b. shape.behind_segments_if b line (within st false p)) (may_end_same p)
+between_shape line p st = after_by (may_end p) None line p st false ∙ ap (λ b. shape.after_segments_if b line (within st false p)) (may_end_same p)
 
 ranges_shape : (line : Line) (p : Playlist) → option_map shape_of (in_ranges line p) ≡ shape.in_ranges line (is_new_line line p) (within stage.InRanges false p)
 ranges_shape (DateRange range) p = if_shape (is_new range p) InRanges (record p { ranges = p.ranges ++ range ∷ [] })
@@ -64,26 +64,26 @@ segment_shape : (b : Block) (line : Line) (p : Playlist) → option_map shape_of
 segment_shape b (Part part) p = ap (λ x. Some (within stage.InSegment x p)) (some_last b.parts part)
 segment_shape b (Duration d) p = refl
 segment_shape b line p =
-    behind_by (may_end p && not (is_empty b.parts)) (Some b) line p stage.InSegment (not (is_empty b.parts))
-    ∙ ap (λ x. shape.behind_segments_if (x && not (is_empty b.parts)) line (within stage.InSegment (not (is_empty b.parts)) p)) (may_end_same p)
+    after_by (may_end p && not (is_empty b.parts)) (Some b) line p stage.InSegment (not (is_empty b.parts))
+    ∙ ap (λ x. shape.after_segments_if (x && not (is_empty b.parts)) line (within stage.InSegment (not (is_empty b.parts)) p)) (may_end_same p)
 
 shape_at_step : (place : Place) (line : Line) (p : Playlist) → option_map shape_of (next_at place line p) ≡ shape.next_at (stage_of place) line (is_new_line line p) (shape_at place p)
 shape_at_step AtStart First p = refl
-shape_at_step BehindVersion (TargetDuration n) p = refl
-shape_at_step BehindTargetDuration (Control hold_back skip_until skips) p = refl
-shape_at_step BehindControl (PartTarget n) p = refl
-shape_at_step BehindPartTarget (MediaSequence n) p = refl
-shape_at_step BehindMediaSequence (DiscontinuitySequence n) p = refl
-shape_at_step BehindDiscontinuity (Map uri) p = refl
-shape_at_step (BehindMap broken uri) (Time time) p = refl
+shape_at_step AfterVersion (TargetDuration n) p = refl
+shape_at_step AfterTargetDuration (Control hold_back skip_until skips) p = refl
+shape_at_step AfterControl (PartTarget n) p = refl
+shape_at_step AfterPartTarget (MediaSequence n) p = refl
+shape_at_step AfterMediaSequence (DiscontinuitySequence n) p = refl
+shape_at_step AfterDiscontinuity (Map uri) p = refl
+shape_at_step (AfterMap broken uri) (Time time) p = refl
 shape_at_step AtEnd First p = refl
-shape_at_step BehindFirst (Version n) p = if_shape (n == 9 || n == 10) BehindVersion (with_header (record (p.header) { version = n }) p)
+shape_at_step AfterFirst (Version n) p = if_shape (n == 9 || n == 10) AfterVersion (with_header (record (p.header) { version = n }) p)
 shape_at_step InRanges line p = ranges_shape line p
 shape_at_step BetweenSegments line p = between_shape line p stage.BetweenSegments
 shape_at_step (InSegment b) line p = segment_shape b line p
-shape_at_step (BehindDuration b d) (Uri uri) p =
+shape_at_step (AfterDuration b d) (Uri uri) p =
     ap (λ x. let s : Shape = record { stage = stage.BetweenSegments; skipped = not (is_none p.skipped); segments = x; parts = false } in Some s) (some_last p.segments (record { block = b; duration = d; uri = uri }))
-shape_at_step InReports line p = behind_shape None line p stage.InReports false
+shape_at_step InReports line p = after_shape None line p stage.InReports false
 shape_at_step place line p = refl
 
 pub shape_step : (r : Reading) (line : Line) → option_map shape_of (next r line) ≡ shape_next (shape_of r) line (is_new_line line r.playlist)

@@ -5,7 +5,7 @@ use Rattle.ll_page.specs.Playlist.{Block, DateRangeLine, Playlist}
 use Rattle.ll_read.specs.Draft.{Draft, put, plain, with_open, draft_at, draft_of}
 use Rattle.ll_read.specs.Lines.{Line, First, Version, TargetDuration, Control, PartTarget, MediaSequence, DiscontinuitySequence, DateRange, Skipped, Discontinuity, Map, Time, Part, Duration, Uri, ReportOf, Hint, EndList}
 use Rattle.ll_read.specs.Ranges.{range_of}
-use Rattle.ll_read.specs.Shape.{Reading, Place, AtStart, BehindFirst, BehindVersion, BehindTargetDuration, BehindControl, BehindPartTarget, BehindMediaSequence, InRanges, BetweenSegments, BehindDiscontinuity, BehindMap, InSegment, BehindDuration, InReports, AtEnd, at, at_if, in_header, behind_segments, behind_segments_if, between_segments, in_ranges, in_segment, next_at, next, may_end, leads, is_new, is_empty, new_block, with_header}
+use Rattle.ll_read.specs.Shape.{Reading, Place, AtStart, AfterFirst, AfterVersion, AfterTargetDuration, AfterControl, AfterPartTarget, AfterMediaSequence, InRanges, BetweenSegments, AfterDiscontinuity, AfterMap, InSegment, AfterDuration, InReports, AtEnd, at, at_if, in_header, after_segments, after_segments_if, between_segments, in_ranges, in_segment, next_at, next, may_end, leads, is_new, is_empty, new_block, with_header}
 use Rattle.ll_read.specs.Steps.{is_new_line}
 
 -- a line takes a draft to that of a reading, and one list of date ranges to its own; a date range is new
@@ -30,45 +30,45 @@ same : (p : Playlist) → p.ranges ≡ p.ranges ++ []
 same p = sym (append-nil p.ranges)
 
 header_step : (place : Place) (line : Line) (p : Playlist) (q : Reading) → in_header place line p ≡ Some q → IsStep (draft_at place p) p.ranges (is_new_line line p) line q
-header_step AtStart First p q h = here BehindFirst p q (plain p) p.ranges true First h refl (same p) refl
-header_step BehindFirst (Version n) p q h =
-    here_if (n == 9 || n == 10) BehindVersion (with_header (record (p.header) { version = n }) p) q (plain p) p.ranges true (Version n) h refl (same p) (λ e. refl)
-header_step BehindVersion (TargetDuration n) p q h =
-    here BehindTargetDuration (with_header (record (p.header) { target = n }) p) q (plain p) p.ranges true (TargetDuration n) h refl (same p) refl
-header_step BehindTargetDuration (Control hold_back skip_until skips) p q h =
-    here BehindControl (with_header (record (p.header) { hold_back = hold_back; skip_until = skip_until; skips_date_ranges = skips }) p) q (plain p) p.ranges true
+header_step AtStart First p q h = here AfterFirst p q (plain p) p.ranges true First h refl (same p) refl
+header_step AfterFirst (Version n) p q h =
+    here_if (n == 9 || n == 10) AfterVersion (with_header (record (p.header) { version = n }) p) q (plain p) p.ranges true (Version n) h refl (same p) (λ e. refl)
+header_step AfterVersion (TargetDuration n) p q h =
+    here AfterTargetDuration (with_header (record (p.header) { target = n }) p) q (plain p) p.ranges true (TargetDuration n) h refl (same p) refl
+header_step AfterTargetDuration (Control hold_back skip_until skips) p q h =
+    here AfterControl (with_header (record (p.header) { hold_back = hold_back; skip_until = skip_until; skips_date_ranges = skips }) p) q (plain p) p.ranges true
     (Control hold_back skip_until skips) h refl (same p) refl
-header_step BehindControl (PartTarget n) p q h =
-    here BehindPartTarget (with_header (record (p.header) { part_target = n }) p) q (plain p) p.ranges true (PartTarget n) h refl (same p) refl
-header_step BehindPartTarget (MediaSequence n) p q h =
-    here BehindMediaSequence (record p { sequence = n }) q (plain p) p.ranges true (MediaSequence n) h refl (same p) refl
-header_step BehindMediaSequence (DiscontinuitySequence n) p q h =
+header_step AfterControl (PartTarget n) p q h =
+    here AfterPartTarget (with_header (record (p.header) { part_target = n }) p) q (plain p) p.ranges true (PartTarget n) h refl (same p) refl
+header_step AfterPartTarget (MediaSequence n) p q h =
+    here AfterMediaSequence (record p { sequence = n }) q (plain p) p.ranges true (MediaSequence n) h refl (same p) refl
+header_step AfterMediaSequence (DiscontinuitySequence n) p q h =
     here InRanges (record p { discontinuity = n }) q (plain p) p.ranges true (DiscontinuitySequence n) h refl (same p) refl
 header_step place line p q h = absurd (cc)
 
-behind_step : (o : Option Block) (line : Line) (p : Playlist) (q : Reading) → behind_segments line (with_open o p) ≡ Some q
+after_step : (o : Option Block) (line : Line) (p : Playlist) (q : Reading) → after_segments line (with_open o p) ≡ Some q
     → IsStep (record (plain p) { segment = o }) p.ranges (is_new_line line p) line q
-behind_step None (ReportOf r) p q h = here InReports (record p { reports = p.reports ++ r ∷ [] }) q (plain p) p.ranges true (ReportOf r) h refl (same p) refl
-behind_step None (Hint uri) p q h = here AtEnd (record p { hint = Some uri }) q (plain p) p.ranges true (Hint uri) h refl (same p) refl
-behind_step None EndList p q h = here AtEnd p q (plain p) p.ranges true EndList h refl (same p) refl
-behind_step (Some b) (ReportOf r) p q h =
+after_step None (ReportOf r) p q h = here InReports (record p { reports = p.reports ++ r ∷ [] }) q (plain p) p.ranges true (ReportOf r) h refl (same p) refl
+after_step None (Hint uri) p q h = here AtEnd (record p { hint = Some uri }) q (plain p) p.ranges true (Hint uri) h refl (same p) refl
+after_step None EndList p q h = here AtEnd p q (plain p) p.ranges true EndList h refl (same p) refl
+after_step (Some b) (ReportOf r) p q h =
     here InReports (record (record p { open_block = Some b }) { reports = p.reports ++ r ∷ [] }) q (record (plain p) { segment = Some b }) p.ranges true (ReportOf r) h refl (same p) refl
-behind_step (Some b) (Hint uri) p q h =
+after_step (Some b) (Hint uri) p q h =
     here AtEnd (record (record p { open_block = Some b }) { hint = Some uri }) q (record (plain p) { segment = Some b }) p.ranges true (Hint uri) h refl (same p) refl
-behind_step (Some b) EndList p q h =
+after_step (Some b) EndList p q h =
     here AtEnd (record p { open_block = Some b }) q (record (plain p) { segment = Some b }) p.ranges true EndList h refl (same p) refl
-behind_step o line p q h = absurd (cc)
+after_step o line p q h = absurd (cc)
 
-behind_if : (x : Bool) (o : Option Block) (line : Line) (p : Playlist) (q : Reading) → behind_segments_if x line (with_open o p) ≡ Some q
+after_if : (x : Bool) (o : Option Block) (line : Line) (p : Playlist) (q : Reading) → after_segments_if x line (with_open o p) ≡ Some q
     → IsStep (record (plain p) { segment = o }) p.ranges (is_new_line line p) line q
-behind_if true o line p q h = behind_step o line p q h
-behind_if false o line p q h = absurd (cc)
+after_if true o line p q h = after_step o line p q h
+after_if false o line p q h = absurd (cc)
 
 between_step : (line : Line) (p : Playlist) (q : Reading) → between_segments line p ≡ Some q → IsStep (plain p) p.ranges (is_new_line line p) line q
-between_step Discontinuity p q h = here BehindDiscontinuity p q (plain p) p.ranges true Discontinuity h refl (same p) refl
-between_step (Map uri) p q h = here_if (leads p) (BehindMap false uri) p q (plain p) p.ranges true (Map uri) h refl (same p) (λ e. refl)
+between_step Discontinuity p q h = here AfterDiscontinuity p q (plain p) p.ranges true Discontinuity h refl (same p) refl
+between_step (Map uri) p q h = here_if (leads p) (AfterMap false uri) p q (plain p) p.ranges true (Map uri) h refl (same p) (λ e. refl)
 between_step (Time time) p q h = here_if (not (leads p)) (InSegment (new_block false None time)) p q (plain p) p.ranges true (Time time) h refl (same p) (λ e. refl)
-between_step line p q h = behind_if (may_end p) None line p q h
+between_step line p q h = after_if (may_end p) None line p q h
 
 ranges_step : (line : Line) (p : Playlist) (q : Reading) → in_ranges line p ≡ Some q → IsStep (plain p) p.ranges (is_new_line line p) line q
 ranges_step (DateRange range) p q h =
@@ -80,19 +80,19 @@ ranges_step line p q h = between_step line p q h
 segment_step : (b : Block) (line : Line) (p : Playlist) (q : Reading) → in_segment b line p ≡ Some q → IsStep (record (plain p) { segment = Some b }) p.ranges (is_new_line line p) line q
 segment_step b (Part part) p q h =
     here (InSegment (record b { parts = b.parts ++ part ∷ [] })) p q (record (plain p) { segment = Some b }) p.ranges true (Part part) h refl (same p) refl
-segment_step b (Duration d) p q h = here (BehindDuration b d) p q (record (plain p) { segment = Some b }) p.ranges true (Duration d) h refl (same p) refl
-segment_step b line p q h = behind_if (may_end p && not (is_empty b.parts)) (Some b) line p q h
+segment_step b (Duration d) p q h = here (AfterDuration b d) p q (record (plain p) { segment = Some b }) p.ranges true (Duration d) h refl (same p) refl
+segment_step b line p q h = after_if (may_end p && not (is_empty b.parts)) (Some b) line p q h
 
 step_at : (place : Place) (line : Line) (p : Playlist) (q : Reading) → next_at place line p ≡ Some q → IsStep (draft_at place p) p.ranges (is_new_line line p) line q
 step_at InRanges line p q h = ranges_step line p q h
 step_at BetweenSegments line p q h = between_step line p q h
-step_at BehindDiscontinuity (Map uri) p q h = here (BehindMap true uri) p q (record (plain p) { broken = true }) p.ranges true (Map uri) h refl (same p) refl
-step_at (BehindMap broken uri) (Time time) p q h =
+step_at AfterDiscontinuity (Map uri) p q h = here (AfterMap true uri) p q (record (plain p) { broken = true }) p.ranges true (Map uri) h refl (same p) refl
+step_at (AfterMap broken uri) (Time time) p q h =
     here (InSegment (new_block broken (Some uri) time)) p q (record (plain p) { broken = broken; map = Some uri }) p.ranges true (Time time) h refl (same p) refl
 step_at (InSegment b) line p q h = segment_step b line p q h
-step_at (BehindDuration b d) (Uri uri) p q h =
+step_at (AfterDuration b d) (Uri uri) p q h =
     here BetweenSegments (record p { segments = p.segments ++ (record { block = b; duration = d; uri = uri }) ∷ [] }) q (record (plain p) { segment = Some b; duration = d }) p.ranges true (Uri uri) h refl (same p) refl
-step_at InReports line p q h = behind_step None line p q h
+step_at InReports line p q h = after_step None line p q h
 step_at place line p q h = header_step place line p q h
 
 pub step : (r : Reading) (line : Line) (q : Reading) → next r line ≡ Some q → IsStep (draft_of r) r.playlist.ranges (is_new_line line r.playlist) line q

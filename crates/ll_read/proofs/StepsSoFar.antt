@@ -5,10 +5,10 @@ use Rattle.std.proofs.lemmas.List.{append-nil, map-append}
 use Rattle.std.specs.List.{flat_map}
 use Rattle.ll_page.specs.Playlist.{Block, Finished, PartLine, Playlist}
 use Rattle.ll_read.specs.Lines.{Line, First, Version, TargetDuration, Control, PartTarget, MediaSequence, DiscontinuitySequence, DateRange, Skipped, Discontinuity, Map, Time, Part, Duration, Uri, ReportOf, Hint, EndList}
-use Rattle.ll_read.specs.Shape.{Reading, Place, AtStart, BehindFirst, BehindVersion, BehindTargetDuration, BehindControl, BehindPartTarget, BehindMediaSequence, InRanges, BetweenSegments, BehindDiscontinuity, BehindMap, InSegment, BehindDuration, InReports, AtEnd, at, at_if, in_header, behind_segments, behind_segments_if, between_segments, in_ranges, in_segment, next_at, next, may_end, leads, is_new, is_empty, new_block, with_header}
+use Rattle.ll_read.specs.Shape.{Reading, Place, AtStart, AfterFirst, AfterVersion, AfterTargetDuration, AfterControl, AfterPartTarget, AfterMediaSequence, InRanges, BetweenSegments, AfterDiscontinuity, AfterMap, InSegment, AfterDuration, InReports, AtEnd, at, at_if, in_header, after_segments, after_segments_if, between_segments, in_ranges, in_segment, next_at, next, may_end, leads, is_new, is_empty, new_block, with_header}
 use Rattle.ll_read.specs.Written.{lines_of_header, lines_of_skip, lines_of_break, lines_of_map, lines_of_block, lines_of_segment, lines_of_open, last_line_of, lines_of}
 use Rattle.ll_read.proofs.LineTexts.{in_three}
-use Rattle.ll_read.proofs.LinesSoFar.{ranged, segmented, reported, so_far_at, so_far, NothingBehindSegments, NothingBehindRanges, NothingBehindHeader, IsEarlyAt, IsEarly}
+use Rattle.ll_read.proofs.LinesSoFar.{ranged, segmented, reported, so_far_at, so_far, NothingAfterSegments, NothingAfterRanges, NothingAfterHeader, IsEarlyAt, IsEarly}
 
 -- a reading that stands for these lines and one more
 abbrev pub HasOneMore : List Line → Line → Reading → Type 0
@@ -26,23 +26,23 @@ here_if : (b : Bool) (place : Place) (p : Playlist) (q : Reading) (lines : List 
 here_if true place p q lines line h early e = here place p q lines line h early e
 here_if false place p q lines line h early e = absurd (cc)
 
--- header lines; date ranges stand behind the last of them
-header_step : (place : Place) (line : Line) (p : Playlist) (q : Reading) → NothingBehindHeader p → in_header place line p ≡ Some q
+-- header lines; date ranges stand after the last of them
+header_step : (place : Place) (line : Line) (p : Playlist) (q : Reading) → NothingAfterHeader p → in_header place line p ≡ Some q
     → HasOneMore (so_far_at place p) line q
-header_step AtStart First p q so h = here BehindFirst p q [] First h so refl
-header_step BehindFirst (Version n) p q so h =
-    here_if (n == 9 || n == 10) BehindVersion (with_header (record (p.header) { version = n }) p) q (so_far_at BehindFirst p) (Version n) h so refl
-header_step BehindVersion (TargetDuration n) p q so h =
-    here BehindTargetDuration (with_header (record (p.header) { target = n }) p) q (so_far_at BehindVersion p) (TargetDuration n) h so refl
-header_step BehindTargetDuration (Control hold_back skip_until skips) p q so h =
-    here BehindControl (with_header (record (p.header) { hold_back = hold_back; skip_until = skip_until; skips_date_ranges = skips }) p) q
-    (so_far_at BehindTargetDuration p) (Control hold_back skip_until skips) h so refl
-header_step BehindControl (PartTarget n) p q so h =
-    here BehindPartTarget (with_header (record (p.header) { part_target = n }) p) q (so_far_at BehindControl p) (PartTarget n) h so refl
-header_step BehindPartTarget (MediaSequence n) p q so h =
-    here BehindMediaSequence (record p { sequence = n }) q (so_far_at BehindPartTarget p) (MediaSequence n) h so refl
-header_step BehindMediaSequence (DiscontinuitySequence n) p q so h =
-    here InRanges (record p { discontinuity = n }) q (so_far_at BehindMediaSequence p) (DiscontinuitySequence n) h so.1
+header_step AtStart First p q so h = here AfterFirst p q [] First h so refl
+header_step AfterFirst (Version n) p q so h =
+    here_if (n == 9 || n == 10) AfterVersion (with_header (record (p.header) { version = n }) p) q (so_far_at AfterFirst p) (Version n) h so refl
+header_step AfterVersion (TargetDuration n) p q so h =
+    here AfterTargetDuration (with_header (record (p.header) { target = n }) p) q (so_far_at AfterVersion p) (TargetDuration n) h so refl
+header_step AfterTargetDuration (Control hold_back skip_until skips) p q so h =
+    here AfterControl (with_header (record (p.header) { hold_back = hold_back; skip_until = skip_until; skips_date_ranges = skips }) p) q
+    (so_far_at AfterTargetDuration p) (Control hold_back skip_until skips) h so refl
+header_step AfterControl (PartTarget n) p q so h =
+    here AfterPartTarget (with_header (record (p.header) { part_target = n }) p) q (so_far_at AfterControl p) (PartTarget n) h so refl
+header_step AfterPartTarget (MediaSequence n) p q so h =
+    here AfterMediaSequence (record p { sequence = n }) q (so_far_at AfterPartTarget p) (MediaSequence n) h so refl
+header_step AfterMediaSequence (DiscontinuitySequence n) p q so h =
+    here InRanges (record p { discontinuity = n }) q (so_far_at AfterMediaSequence p) (DiscontinuitySequence n) h so.1
     (ap (λ rs. lines_of_header p.header ++ (MediaSequence p.sequence ∷ DiscontinuitySequence n ∷ map DateRange rs)) so.0)
 header_step place line p q so h = absurd (cc)
 
@@ -62,45 +62,45 @@ whole p =
     ∙ ap (λ l. ranged p ++ l) (append_assoc skips finished end)
     ∙ append_assoc (lines_of_header p.header) counts (skips ++ (finished ++ end)))
 
--- what stands behind all segments
-behind_step : (lines : List Line) (line : Line) (p : Playlist) (q : Reading) → p.hint ≡ None → reported p ≡ lines
-    → behind_segments line p ≡ Some q → HasOneMore lines line q
-behind_step lines (ReportOf r) p q none e h =
+-- what stands after all segments
+after_step : (lines : List Line) (line : Line) (p : Playlist) (q : Reading) → p.hint ≡ None → reported p ≡ lines
+    → after_segments line p ≡ Some q → HasOneMore lines line q
+after_step lines (ReportOf r) p q none e h =
     here InReports (record p { reports = p.reports ++ r ∷ [] }) q lines (ReportOf r) h none
     (ap (λ l. segmented p ++ (lines_of_open p.open_block ++ l)) (map-append ReportOf p.reports (r ∷ []))
     ∙ ap (λ l. segmented p ++ l) (sym (append_assoc (lines_of_open p.open_block) (map ReportOf p.reports) (ReportOf r ∷ [])))
     ∙ sym (append_assoc (segmented p) (lines_of_open p.open_block ++ map ReportOf p.reports) (ReportOf r ∷ []))
     ∙ ap (λ l. l ++ ReportOf r ∷ []) e)
-behind_step lines (Hint uri) p q none e h =
+after_step lines (Hint uri) p q none e h =
     here AtEnd (record p { hint = Some uri }) q lines (Hint uri) h tt (whole (record p { hint = Some uri }) ∙ ap (λ l. l ++ Hint uri ∷ []) e)
-behind_step lines EndList p q none e h =
+after_step lines EndList p q none e h =
     here AtEnd p q lines EndList h tt (whole p ∙ ap (λ o. reported p ++ last_line_of o ∷ []) none ∙ ap (λ l. l ++ EndList ∷ []) e)
-behind_step lines line p q none e h = absurd (cc)
+after_step lines line p q none e h = absurd (cc)
 
-behind_if : (b : Bool) (lines : List Line) (line : Line) (p : Playlist) (q : Reading) → p.hint ≡ None → reported p ≡ lines
-    → behind_segments_if b line p ≡ Some q → HasOneMore lines line q
-behind_if true lines line p q none e h = behind_step lines line p q none e h
-behind_if false lines line p q none e h = absurd (cc)
+after_if : (b : Bool) (lines : List Line) (line : Line) (p : Playlist) (q : Reading) → p.hint ≡ None → reported p ≡ lines
+    → after_segments_if b line p ≡ Some q → HasOneMore lines line q
+after_if true lines line p q none e h = after_step lines line p q none e h
+after_if false lines line p q none e h = absurd (cc)
 
-none_open : (p : Playlist) → NothingBehindSegments p → reported p ≡ segmented p
+none_open : (p : Playlist) → NothingAfterSegments p → reported p ≡ segmented p
 none_open p so =
     ap (λ o. segmented p ++ (lines_of_open o ++ map ReportOf p.reports)) so.0
     ∙ ap (λ rs. segmented p ++ map ReportOf rs) so.1
     ∙ append-nil (segmented p)
 
-between_step : (line : Line) (p : Playlist) (q : Reading) → NothingBehindSegments p → between_segments line p ≡ Some q → HasOneMore (segmented p) line q
-between_step Discontinuity p q so h = here BehindDiscontinuity p q (segmented p) Discontinuity h so refl
-between_step (Map uri) p q so h = here_if (leads p) (BehindMap false uri) p q (segmented p) (Map uri) h so refl
+between_step : (line : Line) (p : Playlist) (q : Reading) → NothingAfterSegments p → between_segments line p ≡ Some q → HasOneMore (segmented p) line q
+between_step Discontinuity p q so h = here AfterDiscontinuity p q (segmented p) Discontinuity h so refl
+between_step (Map uri) p q so h = here_if (leads p) (AfterMap false uri) p q (segmented p) (Map uri) h so refl
 between_step (Time time) p q so h = here_if (not (leads p)) (InSegment (new_block false None time)) p q (segmented p) (Time time) h so refl
-between_step line p q so h = behind_if (may_end p) (segmented p) line p q so.2 (none_open p so) h
+between_step line p q so h = after_if (may_end p) (segmented p) line p q so.2 (none_open p so) h
 
-none_finished : (p : Playlist) → NothingBehindRanges p → segmented p ≡ ranged p
+none_finished : (p : Playlist) → NothingAfterRanges p → segmented p ≡ ranged p
 none_finished p so =
     ap (λ o. ranged p ++ (lines_of_skip o ++ flat_map lines_of_segment p.segments)) so.0
     ∙ ap (λ ss. ranged p ++ flat_map lines_of_segment ss) so.1
     ∙ append-nil (ranged p)
 
-ranges_step : (line : Line) (p : Playlist) (q : Reading) → NothingBehindRanges p → in_ranges line p ≡ Some q → HasOneMore (ranged p) line q
+ranges_step : (line : Line) (p : Playlist) (q : Reading) → NothingAfterRanges p → in_ranges line p ≡ Some q → HasOneMore (ranged p) line q
 ranges_step (DateRange range) p q so h =
     let counts = MediaSequence p.sequence ∷ DiscontinuitySequence p.discontinuity ∷ map DateRange p.ranges in
     here_if (is_new range p) InRanges (record p { ranges = p.ranges ++ range ∷ [] }) q (ranged p) (DateRange range) h so
@@ -123,21 +123,21 @@ part_last b part =
     ∙ ap (λ l. lines_of_break b.broken ++ (lines_of_map b.map ++ Time b.time ∷ l)) (sym (map-append Part b.parts (part ∷ [])))
 
 -- a block that stays open
-stays_open : (b : Block) (p : Playlist) → NothingBehindSegments p → reported (record p { open_block = Some b }) ≡ segmented p ++ lines_of_block b
+stays_open : (b : Block) (p : Playlist) → NothingAfterSegments p → reported (record p { open_block = Some b }) ≡ segmented p ++ lines_of_block b
 stays_open b p so =
     ap (λ rs. segmented p ++ (lines_of_block b ++ map ReportOf rs)) so.1
     ∙ ap (λ l. segmented p ++ l) (append-nil (lines_of_block b))
 
-segment_step : (b : Block) (line : Line) (p : Playlist) (q : Reading) → NothingBehindSegments p → in_segment b line p ≡ Some q
+segment_step : (b : Block) (line : Line) (p : Playlist) (q : Reading) → NothingAfterSegments p → in_segment b line p ≡ Some q
     → HasOneMore (segmented p ++ lines_of_block b) line q
 segment_step b (Part part) p q so h =
     let more : Block = record b { parts = b.parts ++ part ∷ [] } in
     here (InSegment more) p q (segmented p ++ lines_of_block b) (Part part) h so (block_lines p b (Part part) (lines_of_block more) (part_last b part))
 segment_step b (Duration d) p q so h =
-    here (BehindDuration b d) p q (segmented p ++ lines_of_block b) (Duration d) h so
+    here (AfterDuration b d) p q (segmented p ++ lines_of_block b) (Duration d) h so
     (block_lines p b (Duration d) (lines_of_block b ++ Duration d ∷ []) refl)
 segment_step b line p q so h =
-    behind_if (may_end p && not (is_empty b.parts)) (segmented p ++ lines_of_block b) line (record p { open_block = Some b }) q so.2 (stays_open b p so) h
+    after_if (may_end p && not (is_empty b.parts)) (segmented p ++ lines_of_block b) line (record p { open_block = Some b }) q so.2 (stays_open b p so) h
 
 -- a URI finishes a segment
 finished : (b : Block) (d : ℕ) (uri : List ℕ) (p : Playlist)
@@ -159,20 +159,20 @@ step_at : (place : Place) (line : Line) (p : Playlist) (q : Reading) → IsEarly
     → HasOneMore (so_far_at place p) line q
 step_at InRanges line p q so h = ranges_step line p q so h
 step_at BetweenSegments line p q so h = between_step line p q so h
-step_at BehindDiscontinuity (Map uri) p q so h =
-    here (BehindMap true uri) p q (so_far_at BehindDiscontinuity p) (Map uri) h so (sym (append_assoc (segmented p) (Discontinuity ∷ []) (Map uri ∷ [])))
-step_at (BehindMap broken uri) (Time time) p q so h =
-    here (InSegment (new_block broken (Some uri) time)) p q (so_far_at (BehindMap broken uri) p) (Time time) h so
+step_at AfterDiscontinuity (Map uri) p q so h =
+    here (AfterMap true uri) p q (so_far_at AfterDiscontinuity p) (Map uri) h so (sym (append_assoc (segmented p) (Discontinuity ∷ []) (Map uri ∷ [])))
+step_at (AfterMap broken uri) (Time time) p q so h =
+    here (InSegment (new_block broken (Some uri) time)) p q (so_far_at (AfterMap broken uri) p) (Time time) h so
     (ap (λ l. segmented p ++ l) (sym (append_assoc (lines_of_break broken) (Map uri ∷ []) (Time time ∷ [])))
     ∙ sym (append_assoc (segmented p) (lines_of_break broken ++ Map uri ∷ []) (Time time ∷ [])))
 step_at (InSegment b) line p q so h = segment_step b line p q so h
-step_at (BehindDuration b d) (Uri uri) p q so h =
+step_at (AfterDuration b d) (Uri uri) p q so h =
     here BetweenSegments (record p { segments = p.segments ++ (record { block = b; duration = d; uri = uri }) ∷ [] }) q
-    (so_far_at (BehindDuration b d) p) (Uri uri) h so (finished b d uri p)
-step_at InReports line p q so h = behind_step (reported p) line p q so refl h
-step_at BehindDiscontinuity line p q so h = absurd (cc)
-step_at (BehindMap broken uri) line p q so h = absurd (cc)
-step_at (BehindDuration b d) line p q so h = absurd (cc)
+    (so_far_at (AfterDuration b d) p) (Uri uri) h so (finished b d uri p)
+step_at InReports line p q so h = after_step (reported p) line p q so refl h
+step_at AfterDiscontinuity line p q so h = absurd (cc)
+step_at (AfterMap broken uri) line p q so h = absurd (cc)
+step_at (AfterDuration b d) line p q so h = absurd (cc)
 step_at AtEnd line p q so h = absurd (cc)
 step_at place line p q so h = header_step place line p q so h
 

@@ -35,21 +35,21 @@ no_return_last text front h e =
 pub whole : (text : List ℕ) → list_all is_inside text ≡ true → ends_no_line text ≡ true
 whole text h = by_strip text (no_feed text h) (kept text (λ front. no_return_last text front (lacks_from is_inside 13 text refl h)))
 
-no_return_behind : (front rest start : List ℕ) → 1 ≤ length rest → strip_carriage_return rest ≡ rest → front ++ rest ≢ start ++ (13 ∷ [])
-no_return_behind [] rest start some h e =
+no_return_after : (front rest start : List ℕ) → 1 ≤ length rest → strip_carriage_return rest ≡ rest → front ++ rest ≢ start ++ (13 ∷ [])
+no_return_after [] rest start some h e =
     let same : start ≡ start ++ (13 ∷ []) = stripped rest start e ∙ h ∙ e in
     absurd (omega (arith, ap length same, length-append start (13 ∷ [])))
-no_return_behind (b ∷ bs) rest [] some h e = absurd (omega (arith, ap length e, length-append bs rest))
-no_return_behind (b ∷ bs) rest (c ∷ start) some h e =
+no_return_after (b ∷ bs) rest [] some h e = absurd (omega (arith, ap length e, length-append bs rest))
+no_return_after (b ∷ bs) rest (c ∷ start) some h e =
     let same : bs ++ rest ≡ start ++ (13 ∷ []) = cc in
-    no_return_behind bs rest start some h same
+    no_return_after bs rest start some h same
 
-pub whole_behind : (front time : List ℕ) → list_all is_inside front ≡ true → (nat_le 1 (length time) && ends_no_line time) ≡ true
+pub whole_after : (front time : List ℕ) → list_all is_inside front ≡ true → (nat_le 1 (length time) && ends_no_line time) ≡ true
     → ends_no_line (front ++ time) ≡ true
-whole_behind front time h can =
+whole_after front time h can =
     let p = and_parts (nat_le 1 (length time)) (ends_no_line time) can in
     let q = and_parts (not (list_any is_line_feed time)) (bytes_eq (strip_carriage_return time) time) p.1 in
     by_strip (front ++ time)
     (list_any-append is_line_feed front time
     ∙ or_from (list_any is_line_feed front) (list_any is_line_feed time) (no_feed front h) (differs (list_any is_line_feed time) q.0))
-    (kept (front ++ time) (λ start. no_return_behind front time start (leb-true 1 (length time) p.0) ((bytes_eq-Decides (strip_carriage_return time) time).0 q.1)))
+    (kept (front ++ time) (λ start. no_return_after front time start (leb-true 1 (length time) p.0) ((bytes_eq-Decides (strip_carriage_return time) time).0 q.1)))

@@ -5,7 +5,7 @@ use Rattle.std.specs.Option.{option_map}
 use Rattle.ll_attr.specs.Attributes.{attributes_in, spelling, is_quoted_byte}
 use Rattle.ll_attr.specs.Durations.{micros_in, seconds}
 use Rattle.ll_attr.specs.Numbers.{number_in}
-use Rattle.ll_attr.specs.Words.{parts_at, behind}
+use Rattle.ll_attr.specs.Words.{parts_at, after}
 use Rattle.ll_attr.specs.declared.attributes.Attribute.{Attribute}
 use Rattle.ll_attr.specs.declared.attributes.AttrFault.{AttrFault}
 use Rattle.ll_attr.specs.declared.attributes.AttrValue.{AttrValue}
@@ -63,16 +63,16 @@ count_by None = None
 count_by (Some text) = count_in text
 
 -- `KEY<number>`
-abbrev pub count_behind : List ℕ → List ℕ → Option ℕ
-count_behind key text = count_by (behind key text)
+abbrev pub count_after : List ℕ → List ℕ → Option ℕ
+count_after key text = count_by (after key text)
 
 abbrev pub duration_by : Option (List ℕ) → Option ℕ
 duration_by None = None
 duration_by (Some text) = duration_in text
 
 -- `KEY<duration>`
-abbrev pub duration_behind : List ℕ → List ℕ → Option ℕ
-duration_behind key text = duration_by (behind key text)
+abbrev pub duration_after : List ℕ → List ℕ → Option ℕ
+duration_after key text = duration_by (after key text)
 
 -- one or more bytes that may stand in quotes
 abbrev pub is_uri : List ℕ → Bool
@@ -87,8 +87,8 @@ uri_of key (front ∷ uri ∷ end ∷ []) = uri_if (bytes_eq front key && bytes_
 uri_of key other = None
 
 -- `KEY"<uri>"`
-abbrev pub uri_behind : List ℕ → List ℕ → Option (List ℕ)
-uri_behind key text = uri_of key (parts_at 34 text)
+abbrev pub uri_after : List ℕ → List ℕ → Option (List ℕ)
+uri_after key text = uri_of key (parts_at 34 text)
 
 -- whether date ranges may be left out: the end of the line says it or says nothing
 abbrev pub skips_in : List (List ℕ) → Option Bool
@@ -103,7 +103,7 @@ control_by hold_back skip_until skips = None
 abbrev pub control_of : List (List ℕ) → Option Line
 control_of (blocks ∷ hold_back ∷ skip_until ∷ more) =
     if bytes_eq blocks (codes "CAN-BLOCK-RELOAD=YES")
-    then control_by (duration_behind (codes "PART-HOLD-BACK=") hold_back) (duration_behind (codes "CAN-SKIP-UNTIL=") skip_until) (skips_in more)
+    then control_by (duration_after (codes "PART-HOLD-BACK=") hold_back) (duration_after (codes "CAN-SKIP-UNTIL=") skip_until) (skips_in more)
     else None
 control_of other = None
 
@@ -136,7 +136,7 @@ removed_if enough ids count = None
 abbrev pub removed_by : List (List ℕ) → List ℕ → List ℕ → Option Line
 removed_by (count ∷ key ∷ []) ids end =
     removed_if (bytes_eq key (codes "RECENTLY-REMOVED-DATERANGES=") && bytes_eq end [] && list_all is_quoted_byte ids) ids
-    (count_behind (codes "SKIPPED-SEGMENTS=") count)
+    (count_after (codes "SKIPPED-SEGMENTS=") count)
 removed_by other ids end = None
 
 abbrev pub skipped_by : Option ℕ → Option Line
@@ -144,7 +144,7 @@ skipped_by None = None
 skipped_by (Some count) = Some (Skipped (record { count = count; removed = None }))
 
 abbrev pub skipped_of : List (List ℕ) → Option Line
-skipped_of (text ∷ []) = skipped_by (count_behind (codes "SKIPPED-SEGMENTS=") text)
+skipped_of (text ∷ []) = skipped_by (count_after (codes "SKIPPED-SEGMENTS=") text)
 skipped_of (front ∷ ids ∷ end ∷ []) = removed_by (parts_at 44 front) ids end
 skipped_of other = None
 
@@ -162,7 +162,7 @@ part_if fits duration uri independent = None
 
 abbrev pub part_by : List (List ℕ) → List ℕ → List ℕ → Option Line
 part_by (duration ∷ key ∷ []) uri end =
-    part_if (bytes_eq key (codes "URI=") && is_uri uri) (duration_behind (codes "DURATION=") duration) uri (independent_in end)
+    part_if (bytes_eq key (codes "URI=") && is_uri uri) (duration_after (codes "DURATION=") duration) uri (independent_in end)
 part_by other uri end = None
 
 abbrev pub part_of : List (List ℕ) → Option Line
@@ -187,7 +187,7 @@ report_if fits uri number index = None
 
 abbrev pub report_by : List ℕ → List ℕ → List (List ℕ) → Option Line
 report_by front uri (gap ∷ number ∷ index ∷ []) =
-    report_if (bytes_eq front (codes "URI=") && is_uri uri && bytes_eq gap []) uri (count_behind (codes "LAST-MSN=") number) (count_behind (codes "LAST-PART=") index)
+    report_if (bytes_eq front (codes "URI=") && is_uri uri && bytes_eq gap []) uri (count_after (codes "LAST-MSN=") number) (count_after (codes "LAST-PART=") index)
 report_by front uri other = None
 
 abbrev pub report_of : List (List ℕ) → Option Line
@@ -201,23 +201,23 @@ report_in text = report_of (parts_at 34 text)
 abbrev pub time_in : List ℕ → Option Line
 time_in text = if nat_le 1 (length text) then Some (Time text) else None
 
--- what a line with this tag says, where a text stands behind the colon
+-- what a line with this tag says, where a text stands after the colon
 abbrev pub tagged : List ℕ → List ℕ → Option Line
 tagged tag text =
     if bytes_eq tag (codes "#EXT-X-VERSION") then option_map Version (count_in text)
     else if bytes_eq tag (codes "#EXT-X-TARGETDURATION") then option_map TargetDuration (count_in text)
     else if bytes_eq tag (codes "#EXT-X-SERVER-CONTROL") then control_in text
-    else if bytes_eq tag (codes "#EXT-X-PART-INF") then option_map PartTarget (duration_behind (codes "PART-TARGET=") text)
+    else if bytes_eq tag (codes "#EXT-X-PART-INF") then option_map PartTarget (duration_after (codes "PART-TARGET=") text)
     else if bytes_eq tag (codes "#EXT-X-MEDIA-SEQUENCE") then option_map MediaSequence (count_in text)
     else if bytes_eq tag (codes "#EXT-X-DISCONTINUITY-SEQUENCE") then option_map DiscontinuitySequence (count_in text)
     else if bytes_eq tag (codes "#EXT-X-DATERANGE") then date_range_in text
     else if bytes_eq tag (codes "#EXT-X-SKIP") then skipped_in text
-    else if bytes_eq tag (codes "#EXT-X-MAP") then option_map Map (uri_behind (codes "URI=") text)
+    else if bytes_eq tag (codes "#EXT-X-MAP") then option_map Map (uri_after (codes "URI=") text)
     else if bytes_eq tag (codes "#EXT-X-PROGRAM-DATE-TIME") then time_in text
     else if bytes_eq tag (codes "#EXT-X-PART") then part_in text
     else if bytes_eq tag (codes "#EXTINF") then segment_duration_in text
     else if bytes_eq tag (codes "#EXT-X-RENDITION-REPORT") then report_in text
-    else if bytes_eq tag (codes "#EXT-X-PRELOAD-HINT") then option_map Hint (uri_behind (codes "TYPE=PART,URI=") text)
+    else if bytes_eq tag (codes "#EXT-X-PRELOAD-HINT") then option_map Hint (uri_after (codes "TYPE=PART,URI=") text)
     else None
 
 -- what a line without a colon says, which begins with `#`

@@ -8,7 +8,7 @@ use Rattle.ll_attr.specs.Attributes as attributes
 use Rattle.ll_attr.specs.declared.attributes.Attribute.{Attribute}
 use Rattle.ll_attr.specs.declared.attributes.AttrValue.TheVariants.{Quoted}
 use Rattle.ll_page.specs.Playlist.{PartLine, Block, Finished, DateRangeLine, Skip, Report, Header, Playlist}
-use Rattle.ll_page.specs.Spelling.{spelling, behind_comma}
+use Rattle.ll_page.specs.Spelling.{spelling, after_comma}
 use Rattle.ll_read.specs.Lines.{number_end, is_uri, is_tag, ids_in}
 use Rattle.ll_read.specs.Ranges.{has_id}
 use Rattle.ll_read.specs.Reading.{playlist_in, with_line_feeds}
@@ -42,7 +42,7 @@ pub record IsReadableHeader (h : Header) : Type 0 where
 
 -- how a date range is spelled, from its id on
 abbrev pub range_text : DateRangeLine → List ℕ
-range_text r = codes "ID=\"" ++ (r.id ++ (codes "\"" ++ behind_comma r.attributes))
+range_text r = codes "ID=\"" ++ (r.id ++ (codes "\"" ++ after_comma r.attributes))
 
 -- it is spelled as an attribute list with its id in front
 pub record IsReadableRange (r : DateRangeLine) : Type 0 where

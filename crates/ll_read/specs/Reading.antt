@@ -23,7 +23,7 @@ and_then number None more = Err (BadLine number)
 and_then number (Some r) more = more r
 
 -- the playlist of these lines, of which the first has this number, or the number of the first that can't stand in its
--- place; behind the last LF nothing stands
+-- place; after the last LF nothing stands
 abbrev pub read_from : ℕ → Reading → List (List ℕ) → Result Playlist ReadFault
 read_from number r [] = ended number r.place r.playlist
 read_from number r (rest ∷ []) = if is_empty rest then ended number r.place r.playlist else Err (BadLine number)

@@ -9,24 +9,24 @@ pub data Place : Type 0 where
   -- nothing
   AtStart : Place
   -- the first line, and so on for each line of the header
-  BehindFirst : Place
-  BehindVersion : Place
-  BehindTargetDuration : Place
-  BehindControl : Place
-  BehindPartTarget : Place
-  BehindMediaSequence : Place
+  AfterFirst : Place
+  AfterVersion : Place
+  AfterTargetDuration : Place
+  AfterControl : Place
+  AfterPartTarget : Place
+  AfterMediaSequence : Place
   -- the header, and perhaps date ranges
   InRanges : Place
   -- the skip line, or the URI of a segment
   BetweenSegments : Place
   -- a discontinuity, which a segment begins with
-  BehindDiscontinuity : Place
+  AfterDiscontinuity : Place
   -- a map, and perhaps a discontinuity before it
-  BehindMap : Bool → List ℕ → Place
+  AfterMap : Bool → List ℕ → Place
   -- a segment's time, and perhaps parts
   InSegment : Block → Place
   -- a segment's duration
-  BehindDuration : Block → ℕ → Place
+  AfterDuration : Block → ℕ → Place
   -- a report of another rendition
   InReports : Place
   -- the last line
@@ -65,14 +65,14 @@ with_header h p = record p { header = h }
 
 -- the seven lines of the header, in this order; the version is 9 or 10
 abbrev pub in_header : Place → Line → Playlist → Option Reading
-in_header AtStart First p = at BehindFirst p
-in_header BehindFirst (Version n) p = at_if (n == 9 || n == 10) BehindVersion (with_header (record (p.header) { version = n }) p)
-in_header BehindVersion (TargetDuration n) p = at BehindTargetDuration (with_header (record (p.header) { target = n }) p)
-in_header BehindTargetDuration (Control hold_back skip_until skips) p =
-    at BehindControl (with_header (record (p.header) { hold_back = hold_back; skip_until = skip_until; skips_date_ranges = skips }) p)
-in_header BehindControl (PartTarget n) p = at BehindPartTarget (with_header (record (p.header) { part_target = n }) p)
-in_header BehindPartTarget (MediaSequence n) p = at BehindMediaSequence (record p { sequence = n })
-in_header BehindMediaSequence (DiscontinuitySequence n) p = at InRanges (record p { discontinuity = n })
+in_header AtStart First p = at AfterFirst p
+in_header AfterFirst (Version n) p = at_if (n == 9 || n == 10) AfterVersion (with_header (record (p.header) { version = n }) p)
+in_header AfterVersion (TargetDuration n) p = at AfterTargetDuration (with_header (record (p.header) { target = n }) p)
+in_header AfterTargetDuration (Control hold_back skip_until skips) p =
+    at AfterControl (with_header (record (p.header) { hold_back = hold_back; skip_until = skip_until; skips_date_ranges = skips }) p)
+in_header AfterControl (PartTarget n) p = at AfterPartTarget (with_header (record (p.header) { part_target = n }) p)
+in_header AfterPartTarget (MediaSequence n) p = at AfterMediaSequence (record p { sequence = n })
+in_header AfterMediaSequence (DiscontinuitySequence n) p = at InRanges (record p { discontinuity = n })
 in_header place line p = None
 
 abbrev pub is_empty : {A : Type 0} → List A → Bool
@@ -87,26 +87,26 @@ leads p = is_none p.skipped && is_empty p.segments
 abbrev pub may_end : Playlist → Bool
 may_end p = is_none p.skipped || not (is_empty p.segments)
 
--- the lines behind all segments
-abbrev pub behind_segments : Line → Playlist → Option Reading
-behind_segments (ReportOf r) p = at InReports (record p { reports = p.reports ++ r ∷ [] })
-behind_segments (Hint uri) p = at AtEnd (record p { hint = Some uri })
-behind_segments EndList p = at AtEnd p
-behind_segments line p = None
+-- the lines after all segments
+abbrev pub after_segments : Line → Playlist → Option Reading
+after_segments (ReportOf r) p = at InReports (record p { reports = p.reports ++ r ∷ [] })
+after_segments (Hint uri) p = at AtEnd (record p { hint = Some uri })
+after_segments EndList p = at AtEnd p
+after_segments line p = None
 
-abbrev pub behind_segments_if : Bool → Line → Playlist → Option Reading
-behind_segments_if true line p = behind_segments line p
-behind_segments_if false line p = None
+abbrev pub after_segments_if : Bool → Line → Playlist → Option Reading
+after_segments_if true line p = after_segments line p
+after_segments_if false line p = None
 
 abbrev pub new_block : Bool → Option (List ℕ) → List ℕ → Block
 new_block broken map time = record { broken = broken; map = map; time = time; parts = [] }
 
 -- a segment begins, or none does any more
 abbrev pub between_segments : Line → Playlist → Option Reading
-between_segments Discontinuity p = at BehindDiscontinuity p
-between_segments (Map uri) p = at_if (leads p) (BehindMap false uri) p
+between_segments Discontinuity p = at AfterDiscontinuity p
+between_segments (Map uri) p = at_if (leads p) (AfterMap false uri) p
 between_segments (Time time) p = at_if (not (leads p)) (InSegment (new_block false None time)) p
-between_segments line p = behind_segments_if (may_end p) line p
+between_segments line p = after_segments_if (may_end p) line p
 
 -- an id that no date range before has
 abbrev pub is_new : DateRangeLine → Playlist → Bool
@@ -121,17 +121,17 @@ in_ranges line p = between_segments line p
 -- the parts of a segment; one that has parts may stay open, and then no segment follows
 abbrev pub in_segment : Block → Line → Playlist → Option Reading
 in_segment b (Part part) p = at (InSegment (record b { parts = b.parts ++ part ∷ [] })) p
-in_segment b (Duration d) p = at (BehindDuration b d) p
-in_segment b line p = behind_segments_if (may_end p && not (is_empty b.parts)) line (record p { open_block = Some b })
+in_segment b (Duration d) p = at (AfterDuration b d) p
+in_segment b line p = after_segments_if (may_end p && not (is_empty b.parts)) line (record p { open_block = Some b })
 
 abbrev pub next_at : Place → Line → Playlist → Option Reading
 next_at InRanges line p = in_ranges line p
 next_at BetweenSegments line p = between_segments line p
-next_at BehindDiscontinuity (Map uri) p = at (BehindMap true uri) p
-next_at (BehindMap broken uri) (Time time) p = at (InSegment (new_block broken (Some uri) time)) p
+next_at AfterDiscontinuity (Map uri) p = at (AfterMap true uri) p
+next_at (AfterMap broken uri) (Time time) p = at (InSegment (new_block broken (Some uri) time)) p
 next_at (InSegment b) line p = in_segment b line p
-next_at (BehindDuration b d) (Uri uri) p = at BetweenSegments (record p { segments = p.segments ++ (record { block = b; duration = d; uri = uri }) ∷ [] })
-next_at InReports line p = behind_segments line p
+next_at (AfterDuration b d) (Uri uri) p = at BetweenSegments (record p { segments = p.segments ++ (record { block = b; duration = d; uri = uri }) ∷ [] })
+next_at InReports line p = after_segments line p
 next_at place line p = in_header place line p
 
 -- what the lines so far and one more come to; none where it may not stand there

@@ -6,7 +6,7 @@ use Rattle.ll_read.specs.Shape.{Reading, Place, is_new, is_empty}
 use Rattle.ll_read.specs.Shape as place
 use Rattle.ll_read.specs.declared.shape.Shape.{Shape}
 use Rattle.ll_read.specs.declared.shape.Stage.{Stage}
-use Rattle.ll_read.specs.declared.shape.Stage.TheVariants.{AtStart, BehindFirst, BehindVersion, BehindTargetDuration, BehindControl, BehindPartTarget, BehindMediaSequence, InRanges, BetweenSegments, BehindDiscontinuity, BehindMap, InSegment, BehindDuration, InReports, AtEnd}
+use Rattle.ll_read.specs.declared.shape.Stage.TheVariants.{AtStart, AfterFirst, AfterVersion, AfterTargetDuration, AfterControl, AfterPartTarget, AfterMediaSequence, InRanges, BetweenSegments, AfterDiscontinuity, AfterMap, InSegment, AfterDuration, InReports, AtEnd}
 
 abbrev pub at_start : Shape
 at_start = record { stage = AtStart; skipped = false; segments = false; parts = false }
@@ -19,14 +19,14 @@ is_at_end stage = false
 abbrev pub at_stage : Stage → Shape → Shape
 at_stage stage s = record s { stage = stage; parts = false }
 
-abbrev pub behind_skip : Shape → Shape
-behind_skip s = record s { stage = BetweenSegments; skipped = true }
+abbrev pub after_skip : Shape → Shape
+after_skip s = record s { stage = BetweenSegments; skipped = true }
 
-abbrev pub behind_part : Shape → Shape
-behind_part s = record s { parts = true }
+abbrev pub after_part : Shape → Shape
+after_part s = record s { parts = true }
 
-abbrev pub behind_segment : Shape → Shape
-behind_segment s = record s { stage = BetweenSegments; segments = true }
+abbrev pub after_segment : Shape → Shape
+after_segment s = record s { stage = BetweenSegments; segments = true }
 
 abbrev pub some_if : Bool → Shape → Option Shape
 some_if true s = Some s
@@ -34,27 +34,27 @@ some_if false s = None
 
 -- where one kind of line alone may follow
 abbrev pub in_order : Stage → Line → Shape → Option Shape
-in_order AtStart First s = Some (at_stage BehindFirst s)
-in_order BehindFirst (Version n) s = some_if (n == 9 || n == 10) (at_stage BehindVersion s)
-in_order BehindVersion (TargetDuration n) s = Some (at_stage BehindTargetDuration s)
-in_order BehindTargetDuration (Control hold_back skip_until skips) s = Some (at_stage BehindControl s)
-in_order BehindControl (PartTarget n) s = Some (at_stage BehindPartTarget s)
-in_order BehindPartTarget (MediaSequence n) s = Some (at_stage BehindMediaSequence s)
-in_order BehindMediaSequence (DiscontinuitySequence n) s = Some (at_stage InRanges s)
-in_order BehindDiscontinuity (Map uri) s = Some (at_stage BehindMap s)
-in_order BehindMap (Time time) s = Some (at_stage InSegment s)
-in_order BehindDuration (Uri uri) s = Some (behind_segment s)
+in_order AtStart First s = Some (at_stage AfterFirst s)
+in_order AfterFirst (Version n) s = some_if (n == 9 || n == 10) (at_stage AfterVersion s)
+in_order AfterVersion (TargetDuration n) s = Some (at_stage AfterTargetDuration s)
+in_order AfterTargetDuration (Control hold_back skip_until skips) s = Some (at_stage AfterControl s)
+in_order AfterControl (PartTarget n) s = Some (at_stage AfterPartTarget s)
+in_order AfterPartTarget (MediaSequence n) s = Some (at_stage AfterMediaSequence s)
+in_order AfterMediaSequence (DiscontinuitySequence n) s = Some (at_stage InRanges s)
+in_order AfterDiscontinuity (Map uri) s = Some (at_stage AfterMap s)
+in_order AfterMap (Time time) s = Some (at_stage InSegment s)
+in_order AfterDuration (Uri uri) s = Some (after_segment s)
 in_order stage line s = None
 
-abbrev pub behind_segments : Line → Shape → Option Shape
-behind_segments (ReportOf r) s = Some (at_stage InReports s)
-behind_segments (Hint uri) s = Some (at_stage AtEnd s)
-behind_segments EndList s = Some (at_stage AtEnd s)
-behind_segments line s = None
+abbrev pub after_segments : Line → Shape → Option Shape
+after_segments (ReportOf r) s = Some (at_stage InReports s)
+after_segments (Hint uri) s = Some (at_stage AtEnd s)
+after_segments EndList s = Some (at_stage AtEnd s)
+after_segments line s = None
 
-abbrev pub behind_segments_if : Bool → Line → Shape → Option Shape
-behind_segments_if true line s = behind_segments line s
-behind_segments_if false line s = None
+abbrev pub after_segments_if : Bool → Line → Shape → Option Shape
+after_segments_if true line s = after_segments line s
+after_segments_if false line s = None
 
 abbrev pub leads : Shape → Bool
 leads s = not s.skipped && not s.segments
@@ -63,46 +63,46 @@ abbrev pub may_end : Shape → Bool
 may_end s = not s.skipped || s.segments
 
 abbrev pub between_segments : Line → Shape → Option Shape
-between_segments Discontinuity s = Some (at_stage BehindDiscontinuity s)
-between_segments (Map uri) s = some_if (leads s) (at_stage BehindMap s)
+between_segments Discontinuity s = Some (at_stage AfterDiscontinuity s)
+between_segments (Map uri) s = some_if (leads s) (at_stage AfterMap s)
 between_segments (Time time) s = some_if (not (leads s)) (at_stage InSegment s)
-between_segments line s = behind_segments_if (may_end s) line s
+between_segments line s = after_segments_if (may_end s) line s
 
 abbrev pub in_ranges : Line → Bool → Shape → Option Shape
 in_ranges (DateRange range) is_new s = some_if is_new s
-in_ranges (Skipped skip) is_new s = some_if (nat_le 1 skip.count) (behind_skip s)
+in_ranges (Skipped skip) is_new s = some_if (nat_le 1 skip.count) (after_skip s)
 in_ranges line is_new s = between_segments line s
 
 abbrev pub in_segment : Line → Shape → Option Shape
-in_segment (Part part) s = Some (behind_part s)
-in_segment (Duration d) s = Some (at_stage BehindDuration s)
-in_segment line s = behind_segments_if (may_end s && s.parts) line s
+in_segment (Part part) s = Some (after_part s)
+in_segment (Duration d) s = Some (at_stage AfterDuration s)
+in_segment line s = after_segments_if (may_end s && s.parts) line s
 
 abbrev pub next_at : Stage → Line → Bool → Shape → Option Shape
 next_at InRanges line is_new s = in_ranges line is_new s
 next_at BetweenSegments line is_new s = between_segments line s
 next_at InSegment line is_new s = in_segment line s
-next_at InReports line is_new s = behind_segments line s
+next_at InReports line is_new s = after_segments line s
 next_at stage line is_new s = in_order stage line s
 
--- where one stands behind one more line, of which it is told whether it has a new id; none where it may not stand there
+-- where one stands after one more line, of which it is told whether it has a new id; none where it may not stand there
 abbrev pub shape_next : Shape → Line → Bool → Option Shape
 shape_next s line is_new = next_at s.stage line is_new s
 
 abbrev pub stage_of : Place → Stage
 stage_of place.AtStart = AtStart
-stage_of place.BehindFirst = BehindFirst
-stage_of place.BehindVersion = BehindVersion
-stage_of place.BehindTargetDuration = BehindTargetDuration
-stage_of place.BehindControl = BehindControl
-stage_of place.BehindPartTarget = BehindPartTarget
-stage_of place.BehindMediaSequence = BehindMediaSequence
+stage_of place.AfterFirst = AfterFirst
+stage_of place.AfterVersion = AfterVersion
+stage_of place.AfterTargetDuration = AfterTargetDuration
+stage_of place.AfterControl = AfterControl
+stage_of place.AfterPartTarget = AfterPartTarget
+stage_of place.AfterMediaSequence = AfterMediaSequence
 stage_of place.InRanges = InRanges
 stage_of place.BetweenSegments = BetweenSegments
-stage_of place.BehindDiscontinuity = BehindDiscontinuity
-stage_of (place.BehindMap broken uri) = BehindMap
+stage_of place.AfterDiscontinuity = AfterDiscontinuity
+stage_of (place.AfterMap broken uri) = AfterMap
 stage_of (place.InSegment b) = InSegment
-stage_of (place.BehindDuration b d) = BehindDuration
+stage_of (place.AfterDuration b d) = AfterDuration
 stage_of place.InReports = InReports
 stage_of place.AtEnd = AtEnd
 

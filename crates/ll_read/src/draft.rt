@@ -211,7 +211,7 @@ impl Draft {
     }
 }
 
-/// Puts a date range of a new id behind the others.
+/// Puts a date range of a new id after the others.
 fn put_range(
     ranges: &mut IndexMap<String, Text>,
     alloc: Global,
@@ -230,7 +230,7 @@ fn put_range(
     }
 }
 
-/// Puts a part behind the others of a segment, where there is one.
+/// Puts a part after the others of a segment, where there is one.
 fn put_part(segment: &mut Option<Block>, part: PartLine) -> Result<(), AllocError>
     ensures { IfOk result (λ u. segment.new ≡ option_map (with_part part) segment.old) }
 {

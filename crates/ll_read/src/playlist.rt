@@ -184,7 +184,7 @@ impl Playlist {
         self.ranges.len()
     }
 
-    /// The date range at this place, 0 being the first; none behind the last.
+    /// The date range at this place, 0 being the first; none after the last.
     pub fn range(&self, place: usize) -> Option<DateRange<'_>>
         ensures { MatchOption result (length self.now.ranges ≤ place)
             (λ r. slice_get self.now.ranges place ≡ Some (record { id = r.id.now; attributes = r.attributes.now })) }

@@ -82,7 +82,7 @@ fn read_lines(alloc: Global, text: &str) -> Result<Playlist, ReadFault>
     }
 }
 
-/// What the lines come to, if this stands behind the last LF.
+/// What the lines come to, if this stands after the last LF.
 fn ended(rest: &str, shape: Shape, draft: Option<Draft>, number: u64) -> Result<Playlist, ReadFault>
     ensures value { (r : Reading) → shape ≡ shape_of r → drafted draft r → IfOk result (λ p. read_from number r (rest.now ∷ []) ≡ Ok p) }
     ensures refused { (r : Reading) → shape ≡ shape_of r → IfErr result (λ fault. fault ≢ ReadFault.Memory → read_from number r (rest.now ∷ []) ≡ Err fault) }
@@ -97,7 +97,7 @@ fn ended(rest: &str, shape: Shape, draft: Option<Draft>, number: u64) -> Result<
     }
 }
 
-/// Where one stands behind one more line, if it may stand there.
+/// Where one stands after one more line, if it may stand there.
 fn step(
     alloc: Global,
     shape: Shape,
@@ -127,7 +127,7 @@ fn grown(draft: Option<Draft>, alloc: Global, line: &Line<'_>) -> Option<Draft>
     }
 }
 
-/// Whether the id of a line is new behind so many lines, where it has one. Without a draft the lines are gone through again.
+/// Whether the id of a line is new after so many lines, where it has one. Without a draft the lines are gone through again.
 fn is_new(draft: &Option<Draft>, text: &str, count: usize, line: &Line<'_>) -> bool
     ensures { (r : Reading) → drafted draft.now r → r.playlist.ranges ≡ ranges_of (take count (parts_at 10 text.now)) → result ≡ is_new_line (meant line.now) r.playlist }
 {

@@ -5,22 +5,22 @@ ghost use Rattle.ll_read.specs.Steps as spec;
 
 use crate::line::Line;
 
-/// Behind which line one stands.
+/// After which line one stands.
 #[derive(Clone, Copy, Debug)]
 pub(crate) enum Stage {
     AtStart,
-    BehindFirst,
-    BehindVersion,
-    BehindTargetDuration,
-    BehindControl,
-    BehindPartTarget,
-    BehindMediaSequence,
+    AfterFirst,
+    AfterVersion,
+    AfterTargetDuration,
+    AfterControl,
+    AfterPartTarget,
+    AfterMediaSequence,
     InRanges,
     BetweenSegments,
-    BehindDiscontinuity,
-    BehindMap,
+    AfterDiscontinuity,
+    AfterMap,
     InSegment,
-    BehindDuration,
+    AfterDuration,
     InReports,
     AtEnd,
 }
@@ -50,7 +50,7 @@ impl Shape {
         }
     }
 
-    /// Whether one stands behind the last line.
+    /// Whether one stands after the last line.
     pub(crate) fn is_at_end(self) -> bool
         ensures { result ≡ spec.is_at_end self.stage }
     {
@@ -60,7 +60,7 @@ impl Shape {
         }
     }
 
-    /// Where one stands behind one more line, where it may stand here. Of a date range it has to be told whether its id is
+    /// Where one stands after one more line, where it may stand here. Of a date range it has to be told whether its id is
     /// new.
     pub(crate) fn next(self, line: &Line<'_>, is_new: bool) -> Option<Shape>
         ensures { result ≡ spec.shape_next self (meant line.now) is_new }
@@ -69,7 +69,7 @@ impl Shape {
             Stage::InRanges => self.in_ranges(line, is_new),
             Stage::BetweenSegments => self.between_segments(line),
             Stage::InSegment => self.in_segment(line),
-            Stage::InReports => self.behind_segments(line),
+            Stage::InReports => self.after_segments(line),
             _ => self.in_order(line),
         }
     }
@@ -79,29 +79,29 @@ impl Shape {
         ensures { result ≡ spec.in_order self.stage (meant line.now) self }
     {
         match (self.stage, line) {
-            (Stage::AtStart, Line::First) => Some(self.to(Stage::BehindFirst)),
-            (Stage::BehindFirst, Line::Version(9 | 10)) => Some(self.to(Stage::BehindVersion)),
-            (Stage::BehindVersion, Line::TargetDuration(_)) => {
-                Some(self.to(Stage::BehindTargetDuration))
+            (Stage::AtStart, Line::First) => Some(self.to(Stage::AfterFirst)),
+            (Stage::AfterFirst, Line::Version(9 | 10)) => Some(self.to(Stage::AfterVersion)),
+            (Stage::AfterVersion, Line::TargetDuration(_)) => {
+                Some(self.to(Stage::AfterTargetDuration))
             }
-            (Stage::BehindTargetDuration, Line::Control { .. }) => {
-                Some(self.to(Stage::BehindControl))
+            (Stage::AfterTargetDuration, Line::Control { .. }) => {
+                Some(self.to(Stage::AfterControl))
             }
-            (Stage::BehindControl, Line::PartTarget(_)) => Some(self.to(Stage::BehindPartTarget)),
-            (Stage::BehindPartTarget, Line::MediaSequence(_)) => {
-                Some(self.to(Stage::BehindMediaSequence))
+            (Stage::AfterControl, Line::PartTarget(_)) => Some(self.to(Stage::AfterPartTarget)),
+            (Stage::AfterPartTarget, Line::MediaSequence(_)) => {
+                Some(self.to(Stage::AfterMediaSequence))
             }
-            (Stage::BehindMediaSequence, Line::DiscontinuitySequence(_)) => {
+            (Stage::AfterMediaSequence, Line::DiscontinuitySequence(_)) => {
                 Some(self.to(Stage::InRanges))
             }
-            (Stage::BehindDiscontinuity, Line::Map(_)) => Some(self.to(Stage::BehindMap)),
-            (Stage::BehindMap, Line::Time(_)) => Some(self.to(Stage::InSegment)),
-            (Stage::BehindDuration, Line::Uri(_)) => Some(self.behind_segment()),
+            (Stage::AfterDiscontinuity, Line::Map(_)) => Some(self.to(Stage::AfterMap)),
+            (Stage::AfterMap, Line::Time(_)) => Some(self.to(Stage::InSegment)),
+            (Stage::AfterDuration, Line::Uri(_)) => Some(self.after_segment()),
             _ => None,
         }
     }
 
-    /// Among the date ranges, or behind the header.
+    /// Among the date ranges, or after the header.
     fn in_ranges(self, line: &Line<'_>, is_new: bool) -> Option<Shape>
         ensures { result ≡ spec.in_ranges (meant line.now) is_new self }
     {
@@ -109,7 +109,7 @@ impl Shape {
             Line::DateRange { .. } if is_new => Some(self),
             Line::DateRange { .. } => None,
             Line::Skipped { count: 0, .. } => None,
-            Line::Skipped { .. } => Some(self.behind_skip()),
+            Line::Skipped { .. } => Some(self.after_skip()),
             _ => self.between_segments(line),
         }
     }
@@ -120,40 +120,40 @@ impl Shape {
     {
         let leads = !self.skipped && !self.segments;
         match line {
-            Line::Discontinuity => Some(self.to(Stage::BehindDiscontinuity)),
-            Line::Map(_) if leads => Some(self.to(Stage::BehindMap)),
+            Line::Discontinuity => Some(self.to(Stage::AfterDiscontinuity)),
+            Line::Map(_) if leads => Some(self.to(Stage::AfterMap)),
             Line::Map(_) => None,
             Line::Time(_) if leads => None,
             Line::Time(_) => Some(self.to(Stage::InSegment)),
-            _ => self.behind_segments_if(!self.skipped || self.segments, line),
+            _ => self.after_segments_if(!self.skipped || self.segments, line),
         }
     }
 
-    /// Behind a segment's time and perhaps parts. One that has parts may stay open.
+    /// After a segment's time and perhaps parts. One that has parts may stay open.
     fn in_segment(self, line: &Line<'_>) -> Option<Shape>
         ensures { result ≡ spec.in_segment (meant line.now) self }
     {
         match line {
-            Line::Part { .. } => Some(self.behind_part()),
-            Line::Duration(_) => Some(self.to(Stage::BehindDuration)),
-            _ => self.behind_segments_if((!self.skipped || self.segments) && self.parts, line),
+            Line::Part { .. } => Some(self.after_part()),
+            Line::Duration(_) => Some(self.to(Stage::AfterDuration)),
+            _ => self.after_segments_if((!self.skipped || self.segments) && self.parts, line),
         }
     }
 
-    /// Behind all segments, if they may end here: a delta update has one of its own.
-    fn behind_segments_if(self, may_end: bool, line: &Line<'_>) -> Option<Shape>
-        ensures { result ≡ spec.behind_segments_if may_end (meant line.now) self }
+    /// After all segments, if they may end here: a delta update has one of its own.
+    fn after_segments_if(self, may_end: bool, line: &Line<'_>) -> Option<Shape>
+        ensures { result ≡ spec.after_segments_if may_end (meant line.now) self }
     {
         if may_end {
-            self.behind_segments(line)
+            self.after_segments(line)
         } else {
             None
         }
     }
 
-    /// Behind all segments.
-    fn behind_segments(self, line: &Line<'_>) -> Option<Shape>
-        ensures { result ≡ spec.behind_segments (meant line.now) self }
+    /// After all segments.
+    fn after_segments(self, line: &Line<'_>) -> Option<Shape>
+        ensures { result ≡ spec.after_segments (meant line.now) self }
     {
         match line {
             Line::Report { .. } => Some(self.to(Stage::InReports)),
@@ -162,7 +162,7 @@ impl Shape {
         }
     }
 
-    /// At this stage; behind it no part is known.
+    /// At this stage; after it no part is known.
     fn to(self, stage: Stage) -> Shape
         ensures { result ≡ spec.at_stage stage self }
     {
@@ -173,9 +173,9 @@ impl Shape {
         }
     }
 
-    /// Behind a skip line.
-    fn behind_skip(self) -> Shape
-        ensures { result ≡ spec.behind_skip self }
+    /// After a skip line.
+    fn after_skip(self) -> Shape
+        ensures { result ≡ spec.after_skip self }
     {
         Shape {
             stage: Stage::BetweenSegments,
@@ -184,9 +184,9 @@ impl Shape {
         }
     }
 
-    /// Behind a part.
-    fn behind_part(self) -> Shape
-        ensures { result ≡ spec.behind_part self }
+    /// After a part.
+    fn after_part(self) -> Shape
+        ensures { result ≡ spec.after_part self }
     {
         Shape {
             parts: true,
@@ -194,9 +194,9 @@ impl Shape {
         }
     }
 
-    /// Behind a segment's URI.
-    fn behind_segment(self) -> Shape
-        ensures { result ≡ spec.behind_segment self }
+    /// After a segment's URI.
+    fn after_segment(self) -> Shape
+        ensures { result ≡ spec.after_segment self }
     {
         Shape {
             stage: Stage::BetweenSegments,

@@ -62,7 +62,7 @@ fn expect(
     Ok(())
 }
 
-/// A line of the header is missing, stands twice, or stands before the one that it belongs behind.
+/// A line of the header is missing, stands twice, or stands before the one that it belongs after.
 #[test]
 fn lines_of_the_header(rt: HostRuntime) -> Result<(), Fail> {
     expect(
@@ -147,7 +147,7 @@ fn lines_of_the_header(rt: HostRuntime) -> Result<(), Fail> {
     )
 }
 
-/// The text ends behind a line of each kind.
+/// The text ends after a line of each kind.
 #[test]
 fn texts_that_end_early(rt: HostRuntime) -> Result<(), Fail> {
     expect(
@@ -280,7 +280,7 @@ fn lines_around_segments(rt: HostRuntime) -> Result<(), Fail> {
 fn bytes_that_are_no_text(rt: HostRuntime) -> Result<(), Fail> {
     let alone = told(rt.alloc(), b"\xff")?;
     assert_eq!(rt; alone.as_str(), "NotPlaylist");
-    let behind = told(rt.alloc(), b"#EXTM3U\n\xc3\n")?;
-    assert_eq!(rt; behind.as_str(), "NotPlaylist");
+    let after = told(rt.alloc(), b"#EXTM3U\n\xc3\n")?;
+    assert_eq!(rt; after.as_str(), "NotPlaylist");
     Ok(())
 }

@@ -9,10 +9,10 @@ ghost use Rattle.ll_read.specs.Pieces.{or_nothing};
 
 use crate::line::Line;
 use crate::value::{
-    count, count_behind, duration, duration_behind, in_three, in_two, is_uri, may_be_quoted,
-    uri_behind,
+    count, count_after, duration, duration_after, in_three, in_two, is_uri, may_be_quoted,
+    uri_after,
 };
-use ll_attr::{AttrList, behind, cut};
+use ll_attr::{AttrList, after, cut};
 
 /// What a line says, which stands here without its end.
 pub(crate) fn read_line(text: &str) -> Option<Line<'_>>
@@ -42,7 +42,7 @@ fn alone(text: &str) -> Option<Line<'_>>
     }
 }
 
-/// What a line with this tag says, where this text stands behind the colon.
+/// What a line with this tag says, where this text stands after the colon.
 fn tagged<'a>(tag: &str, text: &'a str) -> Option<Line<'a>>
     ensures { option_map meant result ≡ spec.tagged tag.now text.now }
 {
@@ -50,17 +50,17 @@ fn tagged<'a>(tag: &str, text: &'a str) -> Option<Line<'a>>
         "#EXT-X-VERSION" => Some(Line::Version(count(text)?)),
         "#EXT-X-TARGETDURATION" => Some(Line::TargetDuration(count(text)?)),
         "#EXT-X-SERVER-CONTROL" => control(text),
-        "#EXT-X-PART-INF" => Some(Line::PartTarget(duration_behind("PART-TARGET=", text)?)),
+        "#EXT-X-PART-INF" => Some(Line::PartTarget(duration_after("PART-TARGET=", text)?)),
         "#EXT-X-MEDIA-SEQUENCE" => Some(Line::MediaSequence(count(text)?)),
         "#EXT-X-DISCONTINUITY-SEQUENCE" => Some(Line::DiscontinuitySequence(count(text)?)),
         "#EXT-X-DATERANGE" => date_range(text),
         "#EXT-X-SKIP" => skipped(text),
-        "#EXT-X-MAP" => Some(Line::Map(uri_behind("URI=", text)?)),
+        "#EXT-X-MAP" => Some(Line::Map(uri_after("URI=", text)?)),
         "#EXT-X-PROGRAM-DATE-TIME" => time(text),
         "#EXT-X-PART" => part(text),
         "#EXTINF" => segment_duration(text),
         "#EXT-X-RENDITION-REPORT" => report(text),
-        "#EXT-X-PRELOAD-HINT" => Some(Line::Hint(uri_behind("TYPE=PART,URI=", text)?)),
+        "#EXT-X-PRELOAD-HINT" => Some(Line::Hint(uri_after("TYPE=PART,URI=", text)?)),
         _ => None,
     }
 }
@@ -84,8 +84,8 @@ fn control(text: &str) -> Option<Line<'_>>
         }
     };
     Some(Line::Control {
-        hold_back: duration_behind("PART-HOLD-BACK=", hold_back)?,
-        skip_until: duration_behind("CAN-SKIP-UNTIL=", skip_until)?,
+        hold_back: duration_after("PART-HOLD-BACK=", hold_back)?,
+        skip_until: duration_after("CAN-SKIP-UNTIL=", skip_until)?,
         skips_date_ranges,
     })
 }
@@ -97,16 +97,16 @@ fn date_range(text: &str) -> Option<Line<'_>>
     if let Some(_) = AttrList::first_fault(text) {
         return None;
     }
-    let (id, rest) = cut(behind(text, "ID=\"")?, '"')?;
-    let attributes = behind_comma(rest);
+    let (id, rest) = cut(after(text, "ID=\"")?, '"')?;
+    let attributes = after_comma(rest);
     Some(Line::DateRange { id, attributes })
 }
 
-/// What stands behind a comma, or nothing.
-fn behind_comma(text: &str) -> &str
-    ensures { result.now ≡ or_nothing (attr.behind (codes ",") text.now) }
+/// What stands after a comma, or nothing.
+fn after_comma(text: &str) -> &str
+    ensures { result.now ≡ or_nothing (attr.after (codes ",") text.now) }
 {
-    match behind(text, ",") {
+    match after(text, ",") {
         Some(attributes) => attributes,
         None => "",
     }
@@ -117,7 +117,7 @@ fn skipped(text: &str) -> Option<Line<'_>>
     ensures { option_map meant result ≡ skipped_in text.now }
 {
     let Some(_) = cut(text, '"') else {
-        let count = count_behind("SKIPPED-SEGMENTS=", text)?;
+        let count = count_after("SKIPPED-SEGMENTS=", text)?;
         return Some(Line::Skipped {
             count,
             removed: None,
@@ -125,7 +125,7 @@ fn skipped(text: &str) -> Option<Line<'_>>
     };
     let (front, ids, end) = in_three(text, '"')?;
     let (count, key) = in_two(front, ',')?;
-    let count = count_behind("SKIPPED-SEGMENTS=", count)?;
+    let count = count_after("SKIPPED-SEGMENTS=", count)?;
     if key == "RECENTLY-REMOVED-DATERANGES=" && end.is_empty() && may_be_quoted(ids) {
         Some(Line::Skipped {
             count,
@@ -142,7 +142,7 @@ fn part(text: &str) -> Option<Line<'_>>
 {
     let (front, uri, end) = in_three(text, '"')?;
     let (duration, key) = in_two(front, ',')?;
-    let duration = duration_behind("DURATION=", duration)?;
+    let duration = duration_after("DURATION=", duration)?;
     let independent = independent(end)?;
     if key == "URI=" && is_uri(uri) {
         Some(Line::Part {
@@ -184,8 +184,8 @@ fn report(text: &str) -> Option<Line<'_>>
 {
     let (front, uri, end) = in_three(text, '"')?;
     let (gap, number, index) = in_three(end, ',')?;
-    let number = count_behind("LAST-MSN=", number)?;
-    let index = count_behind("LAST-PART=", index)?;
+    let number = count_after("LAST-MSN=", number)?;
+    let index = count_after("LAST-PART=", index)?;
     if front == "URI=" && is_uri(uri) && gap.is_empty() {
         Some(Line::Report { uri, number, index })
     } else {

@@ -8,7 +8,7 @@ ghost use Rattle.ll_read.specs.Lines as spec;
 ghost use Rattle.ll_read.specs.Pieces.{two_of, three_of};
 
 use itoa::Buffer;
-use ll_attr::{behind, cut, parse_micros, parse_number};
+use ll_attr::{after, cut, parse_micros, parse_number};
 
 /// The largest number that is read.
 const LARGEST: u64 = 1 << 61;
@@ -26,11 +26,11 @@ pub(crate) fn count(text: &str) -> Option<u64>
     }
 }
 
-/// The number behind a key.
-pub(crate) fn count_behind(key: &str, text: &str) -> Option<u64>
-    ensures { result ≡ spec.count_behind key.now text.now }
+/// The number after a key.
+pub(crate) fn count_after(key: &str, text: &str) -> Option<u64>
+    ensures { result ≡ spec.count_after key.now text.now }
 {
-    count(behind(text, key)?)
+    count(after(text, key)?)
 }
 
 /// The microseconds of seconds without leading zeros, a point and six digits.
@@ -47,11 +47,11 @@ pub(crate) fn duration(text: &str) -> Option<u64>
     }
 }
 
-/// The duration behind a key.
-pub(crate) fn duration_behind(key: &str, text: &str) -> Option<u64>
-    ensures { result ≡ spec.duration_behind key.now text.now }
+/// The duration after a key.
+pub(crate) fn duration_after(key: &str, text: &str) -> Option<u64>
+    ensures { result ≡ spec.duration_after key.now text.now }
 {
-    duration(behind(text, key)?)
+    duration(after(text, key)?)
 }
 
 /// The two pieces of a text around a separator that stands in it once.
@@ -73,8 +73,8 @@ pub(crate) fn in_three(text: &str, separator: char) -> Option<(&str, &str, &str)
     ensures { MatchOption result (three_of (parts_at separator text.now) ≡ None)
         (λ p. parts_at separator text.now ≡ p.0.now ∷ p.1.now ∷ p.2.now ∷ []) }
 {
-    let (first, behind) = cut(text, separator)?;
-    let (second, third) = in_two(behind, separator)?;
+    let (first, after) = cut(text, separator)?;
+    let (second, third) = in_two(after, separator)?;
     Some((first, second, third))
 }
 
@@ -92,9 +92,9 @@ pub(crate) fn may_be_quoted(text: &str) -> bool
     text.bytes().all(|b| b != b'"' && b != b'\r' && b != b'\n')
 }
 
-/// The URI that stands in quotes behind a key, and nothing behind it.
-pub(crate) fn uri_behind<'a>(key: &str, text: &'a str) -> Option<&'a str>
-    ensures { MatchOption result (spec.uri_behind key.now text.now ≡ None) (λ uri. spec.uri_behind key.now text.now ≡ Some uri.now) }
+/// The URI that stands in quotes after a key, and nothing after it.
+pub(crate) fn uri_after<'a>(key: &str, text: &'a str) -> Option<&'a str>
+    ensures { MatchOption result (spec.uri_after key.now text.now ≡ None) (λ uri. spec.uri_after key.now text.now ≡ Some uri.now) }
 {
     let (front, uri, end) = in_three(text, '"')?;
     if front == key && end.is_empty() && is_uri(uri) {

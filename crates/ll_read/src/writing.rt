@@ -54,7 +54,7 @@ impl Playlist {
         }
     }
 
-    /// Adds the lines that stand behind all finished segments.
+    /// Adds the lines that stand after all finished segments.
     pub fn push_tail(&self, text: &mut String) -> Result<(), AllocError>
         ensures { OnOk result (string_bytes text.new ≡ string_bytes text.old ++ tail_lines self.now) }
     {

@@ -65,7 +65,7 @@ file-is channels channel rendition file (part ∷ next ∷ more) e = by_test (by
         absurd (omega (arith, ap length one))
     by_test false differs = refl
 
--- a target is cut at its first three slashes; nothing stands before the first one, and `live.m3u8` behind the last
+-- a target is cut at its first three slashes; nothing stands before the first one, and `live.m3u8` after the last
 pub target-cut : (channels : List Configuration) (target front path channel rest rendition file : List ℕ) (is_target : Bool)
     → parts_at 47 target ≡ front ∷ parts_at 47 path → parts_at 47 path ≡ channel ∷ parts_at 47 rest → parts_at 47 rest ≡ rendition ∷ parts_at 47 file
     → ((length front == 0) && bytes_eq file (codes "live.m3u8")) ≡ is_target
@@ -91,9 +91,9 @@ get_of-more channels last id target (Some x) m more = ap (λ ws. get_of channels
     by_rest [] e = absurd (some-part 32 x.1.now e)
     by_rest (next ∷ later) e = refl
 
--- what stands behind a text is no UTF-8 where the whole isn't
-not-utf8-behind : (front rest : List ℕ) → is_utf8 front ≡ true → is_utf8 (front ++ rest) ≡ false → is_utf8 rest ≡ false
-not-utf8-behind front rest u raw = by_test (is_utf8 rest) refl
+-- what stands after a text is no UTF-8 where the whole isn't
+not-utf8-after : (front rest : List ℕ) → is_utf8 front ≡ true → is_utf8 (front ++ rest) ≡ false → is_utf8 rest ≡ false
+not-utf8-after front rest u raw = by_test (is_utf8 rest) refl
   where
     by_test : (b : Bool) → is_utf8 rest ≡ b → is_utf8 rest ≡ false
     by_test true e =
@@ -114,7 +114,7 @@ acts-raw-offer channels last line raw begins =
     subst (λ l. acts channels last l ≡ Some (Refuse refused.BadLine ∷ [])) (sym whole) (at (drop 4 line) (ap is_utf8 (sym whole) ∙ raw))
   where
     at : (rest : List ℕ) → is_utf8 (codes "pub " ++ rest) ≡ false → acts channels last (codes "pub " ++ rest) ≡ Some (Refuse refused.BadLine ∷ [])
-    at rest raw = let behind = not-utf8-behind (codes "pub ") rest key-utf8 raw in rw behind refl
+    at rest raw = let after = not-utf8-after (codes "pub ") rest key-utf8 raw in rw after refl
 
 -- another line that is no UTF-8 has no place in a script
 pub acts-raw : (channels : List Configuration) (last : Option ℕ) (line : List ℕ) → is_utf8 line ≡ false

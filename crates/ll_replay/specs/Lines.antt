@@ -4,7 +4,7 @@ use Rattle.std.specs.List.{list_any, before_first, after_first}
 use Rattle.std.specs.Result.{is_ok}
 use Rattle.std.specs.Str.{is_utf8}
 use Rattle.ll_attr.specs.Numbers.{number_in}
-use Rattle.ll_attr.specs.Words.{parts_at, words, behind}
+use Rattle.ll_attr.specs.Words.{parts_at, words, after}
 use Rattle.ll_item.specs.Items.{item_in, rendition_named}
 use Rattle.ll_item.specs.Settings.{Configuration, settings_in}
 use Rattle.ll_item.specs.declared.item.Item.{Item}
@@ -111,11 +111,11 @@ act_by channels last line None = declaration channels (settings_in line)
 abbrev pub acts_by : List Configuration → Option ℕ → List ℕ → Option (List ℕ) → Option (List Act)
 acts_by channels last line (Some text) = Some (offer channels text ∷ [])
 acts_by channels last line None =
-    if is_utf8 line then option_map (λ a. a ∷ []) (act_by channels last line (behind (codes "get ") line)) else None
+    if is_utf8 line then option_map (λ a. a ∷ []) (act_by channels last line (after (codes "get ") line)) else None
 
 -- what a line makes happen, one after another; a line that no script has in its place means nothing
 abbrev pub acts : List Configuration → Option ℕ → List ℕ → Option (List Act)
-acts channels last line = if is_passed_over line then Some [] else acts_by channels last line (behind (codes "pub ") line)
+acts channels last line = if is_passed_over line then Some [] else acts_by channels last line (after (codes "pub ") line)
 
 abbrev pub is_offer : Act → Bool
 is_offer (Offer place item) = true

@@ -39,7 +39,7 @@ abbrev pub asked_later : List ℕ
 asked_later = channel_line ++ codes "pub cam part hi 1000000 if\n" ++ codes "get 1 /cam/hi/live.m3u8\n"
 
 -- a comment, an empty line that ends in CR LF, seven refusals, one of them of a line that is no UTF-8, a break, an end, and an
--- item behind it without a last end
+-- item after it without a last end
 abbrev pub refused_lines : List ℕ
 refused_lines =
     codes "# a camera\n\r\n"

@@ -113,7 +113,7 @@ abbrev pub line_by : Option Ending → World → List ℕ → World
 line_by (Some ending) w text = w
 line_by None w text = read_by (nat_lt line_end (length text)) w text
 
--- one more line; none is read behind one that ends the script
+-- one more line; none is read after one that ends the script
 unfoldable pub line : World → List ℕ → World
 line w text = line_by w.ending w text
 

@@ -13,7 +13,7 @@ ghost use Rattle.ll_replay.specs.Lines as spec;
 use crate::act::{Act, Want};
 use crate::channel::Channel;
 use crate::refusal::Refusal;
-use ll_attr::{behind, cut, parse_number};
+use ll_attr::{after, cut, parse_number};
 use ll_item::{Item, ItemFault, Settings, SettingsFault};
 use ll_page::SkipKind;
 use std::alloc::Global;
@@ -75,10 +75,10 @@ fn read_text(
     if line.is_empty() || line.starts_with('#') {
         return Ok(None);
     }
-    if let Some(text) = behind(line, "pub ") {
+    if let Some(text) = after(line, "pub ") {
         return Ok(Some(read_offer(alloc, channels, text)?));
     }
-    let act = match behind(line, "get ") {
+    let act = match after(line, "get ") {
         Some(text) => read_get(channels, last, text),
         None => read_declaration(alloc, channels, line)?,
     };
@@ -162,7 +162,7 @@ fn read_want(channels: &[Channel], target: &str) -> Option<(usize, Want)>
     Some((place, Want { rendition, skip }))
 }
 
-/// What stands before the first question mark of a target and what stands behind it, where there is one.
+/// What stands before the first question mark of a target and what stands after it, where there is one.
 fn split_query(target: &str) -> Option<(&str, &str)>
     ensures { MatchOption result (list_any is_question target.now ≡ false)
         (λ s. (list_any is_question target.now ≡ true) × (s.0.now ≡ before_first is_question target.now) × (s.1.now ≡ after_first is_question target.now)) }

@@ -6,7 +6,7 @@ ghost use Rattle.ll_replay.specs.Answers.{code_of, name_of};
 pub enum Refusal {
     /// The rendition is none of the channel's.
     NoRendition,
-    /// Anything behind the end of its rendition.
+    /// Anything after the end of its rendition.
     Ended,
     /// A part of 0 microseconds.
     BadDuration,

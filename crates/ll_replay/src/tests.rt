@@ -156,8 +156,8 @@ fn run_with(alloc: Global, script: &[u8], from: Device, to: Device) -> Ran {
     run_by::<Brand, Brand>(alloc, script, from, to, Blank::new(2), Blank::new(2))
 }
 
-/// The channel's line and these lines behind it.
-fn behind_channel(alloc: Global, lines: &[u8]) -> Result<Vec<u8>, AllocError> {
+/// The channel's line and these lines after it.
+fn after_channel(alloc: Global, lines: &[u8]) -> Result<Vec<u8>, AllocError> {
     let mut script = Vec::new(alloc);
     script.extend_from_slice(CHANNEL)?;
     script.extend_from_slice(lines)?;
@@ -172,7 +172,7 @@ fn answers_come_in_any_pieces(rt: HostRuntime) -> Result<(), AllocError> {
         (ITEMS, 3, 0, ITEMS_TEXT),
     ];
     for (lines, events, replies, text) in cases {
-        let script = behind_channel(rt.alloc(), lines)?;
+        let script = after_channel(rt.alloc(), lines)?;
         for step in [1, 2, 3, 7, 64, 100_000] {
             for taken in [1, 1_000] {
                 let from = Device { step, times: 1_000 };
@@ -191,12 +191,12 @@ fn answers_come_in_any_pieces(rt: HostRuntime) -> Result<(), AllocError> {
 
 #[test]
 fn failed_reads_stop_a_run(rt: HostRuntime) -> Result<(), AllocError> {
-    let script = behind_channel(rt.alloc(), ONE_SEGMENT)?;
+    let script = after_channel(rt.alloc(), ONE_SEGMENT)?;
     for step in [1, 7, 64, 100_000] {
         for times in 0..script.len().div_ceil(step).saturating_add(1) {
             let ran = run_with(rt.alloc(), &script, Device { step, times }, WHOLE);
             let read = times.saturating_mul(step).min(script.len());
-            // the second line ends behind 109 bytes, and the third behind 133
+            // the second line ends after 109 bytes, and the third after 133
             let text: &[u8] = match read {
                 0..109 => b"",
                 109..133 => b"ok 1\n",
@@ -211,7 +211,7 @@ fn failed_reads_stop_a_run(rt: HostRuntime) -> Result<(), AllocError> {
 
 #[test]
 fn failed_writes_stop_a_run(rt: HostRuntime) -> Result<(), AllocError> {
-    let script = behind_channel(rt.alloc(), ONE_SEGMENT)?;
+    let script = after_channel(rt.alloc(), ONE_SEGMENT)?;
     for times in 0..ONE_SEGMENT_TEXT.len() {
         let ran = run_with(rt.alloc(), &script, WHOLE, Device { step: 1, times });
         assert_eq!(rt; ran.result, Err(RunFault::Write));
@@ -289,7 +289,7 @@ fn run_over_std<L: Ledger, M: Ledger>(
 
 #[test]
 fn devices_of_std_serve(rt: HostRuntime) -> Result<(), AllocError> {
-    let script = behind_channel(rt.alloc(), ONE_SEGMENT)?;
+    let script = after_channel(rt.alloc(), ONE_SEGMENT)?;
     let mut text = Vec::new(rt.alloc());
     let result = run_over_std::<Brand, Brand>(
         rt.alloc(),

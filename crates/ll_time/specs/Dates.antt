@@ -49,7 +49,7 @@ digits_before (b ∷ bs) = if is_ascii_digit b then 1 + digits_before bs else 0
 abbrev pub is_fraction : List ℕ → Bool
 is_fraction text = nat_le 1 (digits_before text) && nat_le (digits_before text) 9 && is_offset (drop (digits_before text) text)
 
--- an offset, behind a fraction of a second or none
+-- an offset, after a fraction of a second or none
 abbrev pub is_rest : List ℕ → Bool
 is_rest [] = false
 is_rest (b ∷ bs) = if b == 46 then is_fraction bs else is_offset (b ∷ bs)

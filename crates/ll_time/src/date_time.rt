@@ -5,7 +5,7 @@ ghost use Rattle.ll_time.specs.Dates.{number_of};
 ghost use Rattle.ll_time.specs.Dates as spec;
 
 use jiff_core::civil::Date;
-use ll_attr::{behind, cut, parse_number};
+use ll_attr::{after, cut, parse_number};
 
 /// Whether a text is a date with a time of day and an offset from UTC, to the nanosecond at most: `YYYY-MM-DDThh:mm:ss`,
 /// perhaps `.` and 1 to 9 digits, then `Z`, `+hh:mm` or `-hh:mm` (section 4.4.5.1 of draft-pantos-hls-rfc8216bis, after
@@ -52,7 +52,7 @@ fn is_day(year: &str, month: &str, day: &str) -> bool
 fn is_time(text: &str) -> bool
     ensures { result ≡ spec.is_time text.now }
 {
-    let Some(text) = behind(text, "T") else {
+    let Some(text) = after(text, "T") else {
         return false;
     };
     let Some((time, rest)) = text.split_at_checked(8) else {
@@ -74,11 +74,11 @@ fn is_time_of_day(text: &str) -> bool
     is_at_most(hours, 23) && is_at_most(minutes, 59) && is_at_most(seconds, 59)
 }
 
-/// Whether a text is an offset, behind a fraction of a second or none.
+/// Whether a text is an offset, after a fraction of a second or none.
 fn is_rest(text: &str) -> bool
     ensures { result ≡ spec.is_rest text.now }
 {
-    match behind(text, ".") {
+    match after(text, ".") {
         Some(fraction) => is_fraction(fraction),
         None => is_offset(text),
     }
@@ -111,10 +111,10 @@ fn digits_before(text: &str) -> usize
 fn is_offset(text: &str) -> bool
     ensures { result ≡ spec.is_offset text.now }
 {
-    if let Some(offset) = behind(text, "+") {
+    if let Some(offset) = after(text, "+") {
         return is_hours_and_minutes(offset);
     }
-    if let Some(offset) = behind(text, "-") {
+    if let Some(offset) = after(text, "-") {
         return is_hours_and_minutes(offset);
     }
     text == "Z"

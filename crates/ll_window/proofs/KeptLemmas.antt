@@ -8,7 +8,7 @@ use Rattle.ll_window.specs.declared.place.Place.{Place}
 use Rattle.ll_window.specs.declared.progress.Progress.{Progress}
 use Rattle.ll_window.specs.declared.segment.Segment.{Segment}
 use Rattle.ll_window.specs.Compact.{Compact}
-use Rattle.ll_window.specs.Kept.{AreTimed, IsKept, grown, behind, spare}
+use Rattle.ll_window.specs.Kept.{AreTimed, IsKept, grown, after, spare}
 use Rattle.ll_window.specs.Refusal.{part_refusal}
 use Rattle.ll_window.specs.Rows.{Row, row, one_if, is_broken, lasting, broken_in}
 use Rattle.ll_window.specs.Segments.{duration}
@@ -69,7 +69,7 @@ abbrev closing : List Part → Progress → Row
 closing qs q = row q.next_number q.maps q.open_time qs
 
 filled : (c : Configuration) (rs ss : List Row) (left more : ℕ) (s : Segment) (p : Progress) (q : Row) → s ≡ q.segment → left ≡ more → listed (near_limit c) 0 rs ≡ ss
-    → told c rs 0 [] left (behind p s)
+    → told c rs 0 [] left (after p s)
     ≡ record {
       settings = c;
       window = ss;
@@ -84,8 +84,8 @@ filled : (c : Configuration) (rs ss : List Row) (left more : ℕ) (s : Segment) 
       ended = p.ended;
     }
 filled c rs ss left more s p q a b e =
-    ap (λ x. told c rs 0 [] left (behind p x)) a
-    ∙ ap (λ n. told c rs 0 [] n (behind p q.segment)) b
+    ap (λ x. told c rs 0 [] left (after p x)) a
+    ∙ ap (λ n. told c rs 0 [] n (after p q.segment)) b
     ∙ ap (λ xs. record {
       settings = c;
       window = xs;
@@ -111,7 +111,7 @@ closed_with : (c : Configuration) (w : ℕ) (f g : Finished) (ps qs os : List Pa
     → p.open_duration ≤ duration qs → AtOneSegment p q → os ≡ [] → s ≡ (closing qs q).segment
     → g.rows.items ≡ window (w * 1000000) (f.rows.items ++ closing qs q ∷ [])
     → g.discontinuity ≡ f.discontinuity + broken_in (gone (w * 1000000) (f.rows.items ++ closing qs q ∷ []))
-    → kept c g os (behind q s) ≡ with_segment (told c f.rows.items p.open_duration ps f.discontinuity (record {
+    → kept c g os (after q s) ≡ with_segment (told c f.rows.items p.open_duration ps f.discontinuity (record {
       next_number = q.next_number;
       maps = q.maps;
       open_time = q.open_time;
@@ -126,8 +126,8 @@ closed_with c w f g ps qs os p q s wide lasts one none same items left =
     let e = lasting-cons r [] in
     let near = near_limit c in
     let least = window_limit c in
-    ap (λ xs. told c g.rows.items 0 xs g.discontinuity (behind q s)) none
-    ∙ ap (λ rs. told c rs 0 [] g.discontinuity (behind q s)) (items ∙ ap (λ v. window (v * 1000000) (f.rows.items ++ r ∷ [])) wide)
+    ap (λ xs. told c g.rows.items 0 xs g.discontinuity (after q s)) none
+    ∙ ap (λ rs. told c rs 0 [] g.discontinuity (after q s)) (items ∙ ap (λ v. window (v * 1000000) (f.rows.items ++ r ∷ [])) wide)
     ∙ filled c _ (listed near 0 (window least (listed near p.open_duration f.rows.items ++ r ∷ []))) _
     (f.discontinuity + broken_in (gone least (listed near p.open_duration f.rows.items ++ r ∷ []))) s q r same
     (left ∙ ap (λ v. f.discontinuity + broken_in (gone (v * 1000000) (f.rows.items ++ r ∷ []))) wide
@@ -138,7 +138,7 @@ pub with_last_part : (c : Configuration) (w : ℕ) (f g : Finished) (ps qs os : 
     → p.open_duration ≡ duration ps → place ≡ next_place k → qs ≡ ps ++ part ∷ [] → os ≡ [] → s ≡ (closing qs (grown p part.duration place)).segment
     → g.rows.items ≡ window (w * 1000000) (f.rows.items ++ closing qs (grown p part.duration place) ∷ [])
     → g.discontinuity ≡ f.discontinuity + broken_in (gone (w * 1000000) (f.rows.items ++ closing qs (grown p part.duration place) ∷ []))
-    → kept c g os (behind (grown p part.duration place) s) ≡ with_part_by true k part
+    → kept c g os (after (grown p part.duration place) s) ≡ with_part_by true k part
 with_last_part c w f g ps qs os p part place s k is wide lasts here more none same items left =
     let d = duration-snoc ps part in
     let e = ap duration more in
@@ -175,7 +175,7 @@ pub with_end_of_segment : (c : Configuration) (w : ℕ) (f g : Finished) (ps os 
     → p.open_duration ≡ duration ps → (ps ≡ [] → ⊥) → os ≡ [] → s ≡ (closing ps (ending p)).segment
     → g.rows.items ≡ window (w * 1000000) (f.rows.items ++ closing ps (ending p) ∷ [])
     → g.discontinuity ≡ f.discontinuity + broken_in (gone (w * 1000000) (f.rows.items ++ closing ps (ending p) ∷ []))
-    → kept c g os (behind (ending p) s) ≡ with_end k
+    → kept c g os (after (ending p) s) ≡ with_end k
 with_end_of_segment c w f g ps os p s k is wide lasts some none same items left =
     closed_with c w f g ps ps os p (ending p) s wide (omega (arith, lasts)) (record { number = refl; maps = refl; time = refl }) none same items left
     ∙ open_by c f ps p some
@@ -233,7 +233,7 @@ at_most_one false = omega arith
 pub kept_closed : (c : Configuration) (w : ℕ) (f g : Finished) (qs os : List Part) (q : Progress) (s : Segment) → IsKept c f qs q → q.next_number ≤ number_end
     → os ≡ [] → s ≡ (closing qs q).segment → g.rows.items ≡ window (w * 1000000) (f.rows.items ++ closing qs q ∷ [])
     → g.discontinuity ≡ f.discontinuity + broken_in (gone (w * 1000000) (f.rows.items ++ closing qs q ∷ []))
-    → g.lasting ≡ lasting g.rows.items → IsKept c g os (behind q s)
+    → g.lasting ≡ lasting g.rows.items → IsKept c g os (after q s)
 kept_closed c w f g qs os q s k low none same items left sum =
     let r = closing qs q in
     let least = w * 1000000 in
@@ -275,7 +275,7 @@ open_number c f (x ∷ xs) p k some = let n = k.numbers in omega (arith, n)
 -- the two calls that finish a segment, with what they kept by its name
 
 pub kept_finished : (c : Configuration) (w : ℕ) (f g : Finished) (ps qs os : List Part) (p q r : Progress) (part : Part) (place : Place) (s : Segment) → IsKept c f ps p
-    → part_refusal c p.next_number (duration ps) p.end_time part.duration ≡ None → qs ≡ ps ++ part ∷ [] → q ≡ grown p part.duration place → r ≡ behind q s
+    → part_refusal c p.next_number (duration ps) p.end_time part.duration ≡ None → qs ≡ ps ++ part ∷ [] → q ≡ grown p part.duration place → r ≡ after q s
     → os ≡ [] → s ≡ (closing qs q).segment → g.rows.items ≡ window (w * 1000000) (f.rows.items ++ closing qs q ∷ [])
     → g.discontinuity ≡ f.discontinuity + broken_in (gone (w * 1000000) (f.rows.items ++ closing qs q ∷ []))
     → g.lasting ≡ lasting g.rows.items → IsKept c g os r
@@ -286,12 +286,12 @@ kept_finished c w f g ps qs os p q r part place s k allowed more grows goes none
     (kept_closed c w f g qs os q s (subst (λ x. IsKept c f qs x) (sym grows) (kept_open c f ps qs p part place k allowed more)) (omega (arith, l.0, n)) none same items left sum)
 
 pub told_finished : (c : Configuration) (w : ℕ) (f g : Finished) (ps qs os : List Part) (p q r : Progress) (part : Part) (place : Place) (s : Segment) (k : Compact) → kept c f ps p ≡ k
-    → w ≡ c.window → p.open_duration ≡ duration ps → place ≡ next_place k → qs ≡ ps ++ part ∷ [] → q ≡ grown p part.duration place → r ≡ behind q s
+    → w ≡ c.window → p.open_duration ≡ duration ps → place ≡ next_place k → qs ≡ ps ++ part ∷ [] → q ≡ grown p part.duration place → r ≡ after q s
     → os ≡ [] → s ≡ (closing qs q).segment → g.rows.items ≡ window (w * 1000000) (f.rows.items ++ closing qs q ∷ [])
     → g.discontinuity ≡ f.discontinuity + broken_in (gone (w * 1000000) (f.rows.items ++ closing qs q ∷ []))
     → kept c g os r ≡ with_part_by true k part
 told_finished c w f g ps qs os p q r part place s k is wide lasts here more grows goes none same items left =
-    ap (λ x. kept c g os x) (goes ∙ ap (λ x. behind x s) grows)
+    ap (λ x. kept c g os x) (goes ∙ ap (λ x. after x s) grows)
     ∙ with_last_part c w f g ps qs os p part place s k is wide lasts here more none
     (same ∙ ap (λ x. (closing qs x).segment) grows)
     (items ∙ ap (λ x. window (w * 1000000) (f.rows.items ++ closing qs x ∷ [])) grows)
@@ -317,7 +317,7 @@ ending_kept c f ps p k = record {
 }
 
 pub kept_ended : (c : Configuration) (w : ℕ) (f g : Finished) (ps os : List Part) (p r : Progress) (s : Segment) → IsKept c f ps p → (ps ≡ [] → ⊥)
-    → r ≡ behind (ending p) s → os ≡ [] → s ≡ (closing ps (ending p)).segment
+    → r ≡ after (ending p) s → os ≡ [] → s ≡ (closing ps (ending p)).segment
     → g.rows.items ≡ window (w * 1000000) (f.rows.items ++ closing ps (ending p) ∷ [])
     → g.discontinuity ≡ f.discontinuity + broken_in (gone (w * 1000000) (f.rows.items ++ closing ps (ending p) ∷ []))
     → g.lasting ≡ lasting g.rows.items → IsKept c g os r
@@ -326,7 +326,7 @@ kept_ended c w f g ps os p r s k some goes none same items left sum =
     (kept_closed c w f g ps os (ending p) s (ending_kept c f ps p k) (open_number c f ps p k some) none same items left sum)
 
 pub told_ended : (c : Configuration) (w : ℕ) (f g : Finished) (ps os : List Part) (p r : Progress) (s : Segment) (k : Compact) → kept c f ps p ≡ k → w ≡ c.window
-    → p.open_duration ≡ duration ps → (ps ≡ [] → ⊥) → r ≡ behind (ending p) s → os ≡ [] → s ≡ (closing ps (ending p)).segment
+    → p.open_duration ≡ duration ps → (ps ≡ [] → ⊥) → r ≡ after (ending p) s → os ≡ [] → s ≡ (closing ps (ending p)).segment
     → g.rows.items ≡ window (w * 1000000) (f.rows.items ++ closing ps (ending p) ∷ [])
     → g.discontinuity ≡ f.discontinuity + broken_in (gone (w * 1000000) (f.rows.items ++ closing ps (ending p) ∷ []))
     → kept c g os r ≡ with_end k

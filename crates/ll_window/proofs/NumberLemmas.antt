@@ -60,43 +60,43 @@ last-cons : (x : NumberedPart) (xs : List NumberedPart) (l : Place) → last_pla
 last-cons x [] l e = absurd (grind (arith, e))
 last-cons x (y ∷ ys) l e = e
 
--- the index of the part behind these, of which the first has this index
-abbrev index_behind : ℕ → List (List Part) → List Part → ℕ
-index_behind index [] ps = index + length ps
-index_behind index (g ∷ gs) ps = length ps
+-- the index of the part after these, of which the first has this index
+abbrev index_after : ℕ → List (List Part) → List Part → ℕ
+index_after index [] ps = index + length ps
+index_after index (g ∷ gs) ps = length ps
 
-abbrev behind : ℕ → ℕ → Split → Place
-behind number index s = record { number = number + length s.finished; index = index_behind index s.finished s.unfinished }
+abbrev after : ℕ → ℕ → Split → Place
+after number index s = record { number = number + length s.finished; index = index_after index s.finished s.unfinished }
 
-behind_by : (b : Bool) (number index : ℕ) (q : Part) (gs : List (List Part)) (ps : List Part)
-    → cond b (behind (number + 1) 0 (record { finished = gs; unfinished = ps })) (behind number (index + 1) (record { finished = gs; unfinished = ps }))
-    ≡ behind number index (put_by b q gs ps)
-behind_by true number index q [] ps = same_place _ _ _ _ (omega arith) (omega arith)
-behind_by true number index q (g ∷ gs) ps = same_place _ _ _ _ (omega arith) refl
-behind_by false number index q [] ps = same_place _ _ _ _ (omega arith) (omega arith)
-behind_by false number index q (g ∷ gs) ps = same_place _ _ _ _ (omega arith) refl
+after_by : (b : Bool) (number index : ℕ) (q : Part) (gs : List (List Part)) (ps : List Part)
+    → cond b (after (number + 1) 0 (record { finished = gs; unfinished = ps })) (after number (index + 1) (record { finished = gs; unfinished = ps }))
+    ≡ after number index (put_by b q gs ps)
+after_by true number index q [] ps = same_place _ _ _ _ (omega arith) (omega arith)
+after_by true number index q (g ∷ gs) ps = same_place _ _ _ _ (omega arith) refl
+after_by false number index q [] ps = same_place _ _ _ _ (omega arith) (omega arith)
+after_by false number index q (g ∷ gs) ps = same_place _ _ _ _ (omega arith) refl
 
 last_by : (b : Bool) (x : NumberedPart) (xs ys : List NumberedPart) (l m : Place) → last_place xs ≡ Some l → last_place ys ≡ Some m
     → last_place (x ∷ cond b xs ys) ≡ Some (cond b l m)
 last_by true x xs ys l m e f = last-cons x xs l e
 last_by false x xs ys l m e f = last-cons x ys m f
 
-last-from : (number index : ℕ) (ps : List Part) (p : Part) → last_place (numbered_parts number index (ps ++ p ∷ [])) ≡ Some (behind number index (split ps))
+last-from : (number index : ℕ) (ps : List Part) (p : Part) → last_place (numbered_parts number index (ps ++ p ∷ [])) ≡ Some (after number index (split ps))
 last-from number index [] p = one p.finish
   where
-    one : (b : Bool) → last_place (numbered number index p ∷ cond b [] []) ≡ Some (behind number index (split []))
+    one : (b : Bool) → last_place (numbered number index p ∷ cond b [] []) ≡ Some (after number index (split []))
     one true = ap Some (same_place _ _ _ _ (omega arith) (omega arith))
     one false = ap Some (same_place _ _ _ _ (omega arith) (omega arith))
 last-from number index (q ∷ ps) p =
     last_by q.finish (numbered number index q) _ _ _ _ (last-from (number + 1) 0 ps p) (last-from number (index + 1) ps p)
-    ∙ ap Some (behind_by q.finish number index q (split ps).finished (split ps).unfinished)
+    ∙ ap Some (after_by q.finish number index q (split ps).finished (split ps).unfinished)
 
 from_zero : (number : ℕ) (gs : List (List Part)) (ps : List Part)
-    → behind number 0 (record { finished = gs; unfinished = ps }) ≡ (record { number = number + length gs; index = length ps })
+    → after number 0 (record { finished = gs; unfinished = ps }) ≡ (record { number = number + length gs; index = length ps })
 from_zero number [] ps = same_place _ _ _ _ refl (omega arith)
 from_zero number (g ∷ gs) ps = refl
 
--- one more part stands behind the segments and the open parts
+-- one more part stands after the segments and the open parts
 pub last-snoc : (number : ℕ) (ps : List Part) (p : Part)
     → last_place (numbered_parts number 0 (ps ++ p ∷ [])) ≡ Some (record { number = number + length (split ps).finished; index = length (split ps).unfinished })
 last-snoc number ps p = last-from number 0 ps p ∙ ap Some (from_zero number (split ps).finished (split ps).unfinished)

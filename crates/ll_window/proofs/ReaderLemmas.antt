@@ -39,9 +39,9 @@ same_parts : (b : Bool) (r : Row) → (shown_by b r).parts ≡ parts_by b r.part
 same_parts true r = refl
 same_parts false r = refl
 
--- how long the segments and open parts behind a segment last
-behind : (time end tail last : ℕ) → end + last ≡ time → time + tail - end ≡ last + tail
-behind time end tail last e = omega (arith, e)
+-- how long the segments and open parts after a segment last
+after : (time end tail last : ℕ) → end + last ≡ time → time + tail - end ≡ last + tail
+after time end tail last e = omega (arith, e)
 
 parts_are : (near tail time : ℕ) (rs : List Row) (i : ℕ) (r : Row) → AreTimed rs time → slice_get rs i ≡ Some r
     → parts_at (listed near tail rs) i ≡ parts_by (nat_lt (time + tail - (r.segment.time + r.segment.duration)) near) r.parts
@@ -49,7 +49,7 @@ parts_are near tail time [] i r timed e = absurd (grind (arith, e))
 parts_are near tail time (q ∷ rs) zero r timed e =
     let same : q ≡ r = grind (arith, e) in
     same_parts (nat_lt (lasting rs + tail) near) q
-    ∙ ap (λ n. parts_by (nat_lt n near) q.parts) (sym (behind time (q.segment.time + q.segment.duration) tail (lasting rs) timed.0))
+    ∙ ap (λ n. parts_by (nat_lt n near) q.parts) (sym (after time (q.segment.time + q.segment.duration) tail (lasting rs) timed.0))
     ∙ ap (λ (x : Row). parts_by (nat_lt (time + tail - (x.segment.time + x.segment.duration)) near) x.parts) same
 parts_are near tail time (q ∷ rs) (suc i) r timed e = parts_are near tail time rs i r timed.1 e
 
@@ -64,7 +64,7 @@ no_row near tail [] i e = refl
 no_row near tail (q ∷ rs) zero e = absurd (grind (arith, e))
 no_row near tail (q ∷ rs) (suc i) e = no_row near tail rs i e
 
--- whether the parts behind a segment that ends at this time are near
+-- whether the parts after a segment that ends at this time are near
 abbrev is_near : Compact → ℕ → Bool
 is_near k end = nat_lt (k.open_time + duration k.open_parts - end) (near_limit k.settings)
 
@@ -92,9 +92,9 @@ pub nothing_is : (c : Configuration) (f : Finished) (ps : List Part) (p : Progre
     → slice_get f.rows.items i ≡ None → [] ≡ parts_at k.window i
 nothing_is c f ps p i k is e = no_row (near_limit c) p.open_duration f.rows.items i e ∙ ap (λ x. parts_at x.window i) is
 
-pub behind_all : (c : Configuration) (f : Finished) (ps : List Part) (p : Progress) (i : ℕ) (s : Segment) (qs : List Part) (r : Row) (k : Compact) → kept c f ps p ≡ k
+pub after_all : (c : Configuration) (f : Finished) (ps : List Part) (p : Progress) (i : ℕ) (s : Segment) (qs : List Part) (r : Row) (k : Compact) → kept c f ps p ≡ k
     → IsKept c f ps p → (record { segment = s; parts = qs }) ≡ r → slice_get f.rows.items i ≡ Some r → s.time + s.duration ≤ k.open_time
-behind_all c f ps p i s qs r k is h row e =
+after_all c f ps p i s qs r k is h row e =
     omega (arith, ends_before p.open_time f.rows.items i r h.timed e, ap (λ x. x.open_time) is, ap (λ x. x.segment.time) row, ap (λ x. x.segment.duration) row)
 
 -- how many are skipped, by the segments as they are kept

@@ -1,4 +1,4 @@
--- Which segments are skipped: those in front, as those behind a segment last longer the further in front it is.
+-- Which segments are skipped: those in front, as those after a segment last longer the further in front it is.
 use Rattle.std.proofs.Common.{◌≡◌, ℕ, ◌+◌, ◌-◌, ◌≤◌, ◌<◌, List, [], ◌∷◌, true, false, nat_lt, refl, ap, ◌∙◌, arith}
 use Rattle.std.proofs.lemmas.Bool.Decides.{nat_tests}
 use Rattle.ll_window.specs.Rows.{Row, one_if, lasting}
@@ -29,27 +29,27 @@ skipped-listed limit tail near t (r ∷ rs) =
     ap (λ l. one_if (nat_lt limit (l + tail)) + skipped_in limit tail (listed near t rs)) (lasting-listed near t rs)
     ∙ ap (λ n. one_if (nat_lt limit (lasting rs + tail)) + n) (skipped-listed limit tail near t rs)
 
--- a segment is left, and how long those behind it last
-pub behind-next : (tail behind d : ℕ) (rest : List Row) (r : Row) (rs : List Row) → rest ≡ r ∷ rs → behind ≡ lasting rest + tail → d ≡ r.segment.duration
-    → (d ≤ behind) × (behind - d ≡ lasting rs + tail)
-behind-next tail behind d rest r rs e f same =
+-- a segment is left, and how long those after it last
+pub after-next : (tail after d : ℕ) (rest : List Row) (r : Row) (rs : List Row) → rest ≡ r ∷ rs → after ≡ lasting rest + tail → d ≡ r.segment.duration
+    → (d ≤ after) × (after - d ≡ lasting rs + tail)
+after-next tail after d rest r rs e f same =
     let a = ap lasting e in let b = lasting-cons r rs in
-    let known : behind ≡ d + lasting rs + tail = omega (arith, a, b, f, same) in
+    let known : after ≡ d + lasting rs + tail = omega (arith, a, b, f, same) in
     (omega (arith, known), omega (arith, known))
 
-pub skipped-next : (limit tail behind d place whole : ℕ) (rest : List Row) (r : Row) (rs : List Row) → rest ≡ r ∷ rs → behind ≡ lasting rest + tail → d ≡ r.segment.duration
-    → limit < behind - d → place + skipped_in limit tail rest ≡ whole → place + 1 + skipped_in limit tail rs ≡ whole
-skipped-next limit tail behind d place whole rest r rs e f same long h =
-    let a = behind-next tail behind d rest r rs e f same in
+pub skipped-next : (limit tail after d place whole : ℕ) (rest : List Row) (r : Row) (rs : List Row) → rest ≡ r ∷ rs → after ≡ lasting rest + tail → d ≡ r.segment.duration
+    → limit < after - d → place + skipped_in limit tail rest ≡ whole → place + 1 + skipped_in limit tail rs ≡ whole
+skipped-next limit tail after d place whole rest r rs e f same long h =
+    let a = after-next tail after d rest r rs e f same in
     let a1 = a.1 in
     let b = ap (λ b. one_if b + skipped_in limit tail rs) (less limit (lasting rs + tail) (omega (arith, a1, long))) in
     let w = ap (skipped_in limit tail) e in
     omega (arith, b, w, h)
 
-pub skipped-last : (limit tail behind d place whole : ℕ) (rest : List Row) (r : Row) (rs : List Row) → rest ≡ r ∷ rs → behind ≡ lasting rest + tail → d ≡ r.segment.duration
-    → behind - d ≤ limit → place + skipped_in limit tail rest ≡ whole → place ≡ whole
-skipped-last limit tail behind d place whole rest r rs e f same short h =
-    let a = behind-next tail behind d rest r rs e f same in
+pub skipped-last : (limit tail after d place whole : ℕ) (rest : List Row) (r : Row) (rs : List Row) → rest ≡ r ∷ rs → after ≡ lasting rest + tail → d ≡ r.segment.duration
+    → after - d ≤ limit → place + skipped_in limit tail rest ≡ whole → place ≡ whole
+skipped-last limit tail after d place whole rest r rs e f same short h =
+    let a = after-next tail after d rest r rs e f same in
     let a1 = a.1 in
     let b = skipped-none limit tail r rs (omega (arith, a1, short)) in
     let w = ap (skipped_in limit tail) e in

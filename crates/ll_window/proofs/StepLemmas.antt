@@ -211,12 +211,12 @@ told-segment c rs ps g next time ends before after old last f e le =
     (omega (arith, b, d))
     (gone-window-snoc (window_limit c) (near_limit c) (duration ps) rs r (omega (arith, d, le)))
 
--- parts that were listed with less behind them
+-- parts that were listed with less after them
 pub again : (near a b : ℕ) (rs : List Row) → a ≤ b → listed near b rs ≡ listed near b (listed near a rs)
 again near a b rs le =
     ap (listed near b) (sym (append-nil rs)) ∙ sym (listed-again near a b rs [] (omega (arith, le))) ∙ ap (listed near b) (append-nil (listed near a rs))
 
--- the segment that goes on behind these segments
+-- the segment that goes on after these segments
 added-row : (c : Configuration) (gs : List (List Part)) (g : List Part)
     → rows_of c (gs ++ g ∷ []) ≡ rows_of c gs ++ row (c.first + length gs) (broken_in (rows_of c gs)) (c.start * 1000 + lasting (rows_of c gs)) g ∷ []
 added-row c gs g =

@@ -105,7 +105,7 @@ shown_twice false false r h = refl
 nearer : (near x y : ℕ) → x ≤ y → nat_lt y near ≡ true → nat_lt x near ≡ true
 nearer near x y le e = grind (arith, nat_tests)
 
--- what was listed with less behind it makes no difference to what is listed with more
+-- what was listed with less after it makes no difference to what is listed with more
 pub listed-again : (near a b : ℕ) (rs ss : List Row) → a ≤ lasting ss + b → listed near b (listed near a rs ++ ss) ≡ listed near b (rs ++ ss)
 listed-again near a b [] ss le = refl
 listed-again near a b (r ∷ rs) ss le =
@@ -119,7 +119,7 @@ listed-again near a b (r ∷ rs) ss le =
     (nearer near (lasting rs + a) (lasting (rs ++ ss) + b) (omega (arith, g))))
     ∙ ap (λ more. shown_by (nat_lt (lasting (rs ++ ss) + b) near) r ∷ more) (listed-again near a b rs ss le)
 
--- one more segment behind segments as they were listed, where it lasts longer than what was open
+-- one more segment after segments as they were listed, where it lasts longer than what was open
 pub listed-window-again : (least near a : ℕ) (rs : List Row) (s : Row) → a ≤ lasting (s ∷ [])
     → listed near 0 (window least (rs ++ s ∷ [])) ≡ listed near 0 (window least (listed near a rs ++ s ∷ []))
 listed-window-again least near a rs s le =
@@ -134,7 +134,7 @@ gone-window-again least near a rs s le =
     ∙ ap (λ xs. broken_in (gone least xs)) (sym (listed-again near a 0 rs (s ∷ []) (omega (arith, le))))
     ∙ gone-listed least near 0 (listed near a rs ++ s ∷ [])
 
--- one more segment behind the window as it was listed
+-- one more segment after the window as it was listed
 pub listed-window-snoc : (least near a : ℕ) (rs : List Row) (s : Row) → a ≤ lasting (s ∷ [])
     → listed near 0 (window least (rs ++ s ∷ [])) ≡ listed near 0 (window least (listed near a (window least rs) ++ s ∷ []))
 listed-window-snoc least near a rs s le = ap (listed near 0) (window-snoc least rs s) ∙ listed-window-again least near a (window least rs) s le

@@ -23,7 +23,7 @@ pub record Compact : Type 0 where
   pub open_time : ℕ
   -- microseconds
   pub end_time : ℕ
-  -- whether a break stands behind the last part
+  -- whether a break stands after the last part
   pub pending : Bool
   -- how many broken segments have left the window (section 4.4.3.3)
   pub discontinuity : ℕ

@@ -9,7 +9,7 @@ use Rattle.ll_window.specs.declared.segment.Segment.{Segment}
 use Rattle.ll_window.specs.Rows.{Row, lasting, broken_in}
 use Rattle.ll_window.specs.Segments.{duration}
 
--- each of these segments ends so long before this time as those behind it last
+-- each of these segments ends so long before this time as those after it last
 abbrev pub AreTimed : List Row → ℕ → Type 0
 AreTimed [] time = Unit
 AreTimed (r ∷ rs) time = (r.segment.time + r.segment.duration + lasting rs ≡ time) × AreTimed rs time
@@ -27,9 +27,9 @@ grown p micros place = record {
   ended = p.ended;
 }
 
--- behind the open segment
-abbrev pub behind : Progress → Segment → Progress
-behind p s = record {
+-- after the open segment
+abbrev pub after : Progress → Segment → Progress
+after p s = record {
   next_number = p.next_number + 1;
   maps = s.map_number;
   open_time = p.open_time + s.duration;

@@ -10,7 +10,7 @@ pub record NumberedPart : Type 0 where
   pub index : ℕ
   pub part : Part
 
--- A part behind a finishing one has index 0 of the next number; any other has the next index of the same number.
+-- A part after a finishing one has index 0 of the next number; any other has the next index of the same number.
 abbrev pub numbered_parts : ℕ → ℕ → List Part → List NumberedPart
 numbered_parts number index [] = []
 numbered_parts number index (p ∷ ps) =
@@ -27,7 +27,7 @@ abbrev pub placed_rows : List Row → ℕ → List Part → List NumberedPart
 placed_rows [] next open_parts = placed next 0 open_parts
 placed_rows (row ∷ more) next open_parts = placed row.segment.number 0 row.parts ++ placed_rows more next open_parts
 
--- the number behind these segments
+-- the number after these segments
 abbrev pub number_after : ℕ → List (List Part) → ℕ
 number_after number [] = number
 number_after number (segment ∷ segments) = number_after (number + 1) segments

@@ -18,7 +18,7 @@ abbrev pub one_if : Bool → ℕ
 one_if true = 1
 one_if false = 0
 
--- the segment of this media sequence number, behind so many broken ones, which begins at this time
+-- the segment of this media sequence number, after so many broken ones, which begins at this time
 abbrev pub row : ℕ → ℕ → ℕ → List Part → Row
 row number maps time ps = record {
   segment = record {
@@ -31,7 +31,7 @@ row number maps time ps = record {
   parts = ps;
 }
 
--- one row for each segment, the first behind so many broken ones: each number is one more than the last (section 4.4.3.2),
+-- one row for each segment, the first after so many broken ones: each number is one more than the last (section 4.4.3.2),
 -- each segment begins when the last one ends
 abbrev pub rows : ℕ → ℕ → ℕ → List (List Part) → List Row
 rows number maps time [] = []

@@ -19,7 +19,7 @@ parts_from pending (item.End rendition ∷ items) = parts_from pending items
 parts_from pending (item.Range rendition id attributes ∷ items) = parts_from pending items
 parts_from pending (item.Unrange rendition id ∷ items) = parts_from pending items
 
--- whether a break stands behind the last part, where one stands before these items or doesn't
+-- whether a break stands after the last part, where one stands before these items or doesn't
 abbrev pub pending_after : Bool → List Item → Bool
 pending_after pending [] = pending
 pending_after pending (item.Part rendition duration independent finish ∷ items) = pending_after false items

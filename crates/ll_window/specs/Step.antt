@@ -73,7 +73,7 @@ marked k pending has_ended = record {
   ended = has_ended;
 }
 
--- a break stands behind the last part
+-- a break stands after the last part
 abbrev pub with_break : Compact → Compact
 with_break k = marked k true k.ended
 

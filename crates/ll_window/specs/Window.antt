@@ -10,7 +10,7 @@ use Rattle.ll_window.specs.Rows.{Row, one_if, lasting}
 abbrev pub window_limit : Configuration → ℕ
 window_limit c = c.window * 1000000
 
--- the segments that have left the window: those behind which the segments alone last long enough
+-- the segments that have left the window: those after which the segments alone last long enough
 abbrev pub gone : ℕ → List Row → List Row
 gone least [] = []
 gone least (r ∷ rs) = if nat_le least (lasting rs) then r ∷ gone least rs else []
@@ -30,7 +30,7 @@ pub record IsShortestSuffix (least : ℕ) (rs : List Row) : Type 0 where
 abbrev pub WindowLaw : Type 0
 WindowLaw = (least : ℕ) (rs : List Row) → IsShortestSuffix least rs
 
--- how long the segments and parts behind a segment last at most while it stays in delta updates, in microseconds
+-- how long the segments and parts after a segment last at most while it stays in delta updates, in microseconds
 -- (section 4.4.3.8)
 abbrev pub skip_limit : Configuration → ℕ
 skip_limit c = c.skip * 1000000
@@ -43,13 +43,13 @@ abbrev pub shown_by : Bool → Row → Row
 shown_by true r = r
 shown_by false r = record { segment = r.segment; parts = [] }
 
--- the segments, each with its parts where the segments behind it, and so many microseconds of open parts, last less than
+-- the segments, each with its parts where the segments after it, and so many microseconds of open parts, last less than
 -- this, and else without parts (section 4.4.4.9)
 abbrev pub listed : ℕ → ℕ → List Row → List Row
 listed near tail [] = []
 listed near tail (r ∷ rs) = shown_by (nat_lt (lasting rs + tail) near) r ∷ listed near tail rs
 
--- how many of these segments a delta update skips: those behind which the segments, and so many microseconds of open
+-- how many of these segments a delta update skips: those after which the segments, and so many microseconds of open
 -- parts, last longer than this (section 6.2.5.1)
 abbrev pub skipped_in : ℕ → ℕ → List Row → ℕ
 skipped_in limit tail [] = 0

@@ -48,7 +48,7 @@ impl Finished {
         }
     }
 
-    /// Adds the open segment, which has all these parts, and gives up the segments behind which the others alone last so
+    /// Adds the open segment, which has all these parts, and gives up the segments after which the others alone last so
     /// many microseconds at least. It answers the segment that it added; where no memory is found, nothing changes.
     pub(crate) fn finish(
         &mut self,
@@ -88,23 +88,23 @@ impl Finished {
         self.rows.get(place)
     }
 
-    /// How many of the segments have more than so many microseconds behind them, those of the open parts included.
+    /// How many of the segments have more than so many microseconds after them, those of the open parts included.
     pub(crate) fn skip_count(&self, limit: u64, open_duration: u64) -> usize
         requires sum { self.now.lasting ≡ spec.lasting self.now.rows.items }
         requires lasting { self.now.lasting + open_duration < 2 ^ 64 }
         ensures { result ≡ skipped_in limit open_duration self.now.rows.items }
     {
-        let mut behind = self.lasting + open_duration;
+        let mut after = self.lasting + open_duration;
         for (place, kept) in self.rows.iter().enumerate() {
-            behind -= kept.segment.duration;
-            if behind <= limit {
+            after -= kept.segment.duration;
+            if after <= limit {
                 return place;
             }
         }
         self.rows.len()
     }
 
-    /// Gives up the segments behind which the others alone last so many microseconds at least.
+    /// Gives up the segments after which the others alone last so many microseconds at least.
     fn shrink(&mut self, least: u64)
         requires sum { self.old.lasting ≡ spec.lasting self.old.rows.items }
         requires breaks { self.old.discontinuity + broken_in self.old.rows.items < 2 ^ 64 }
@@ -115,7 +115,7 @@ impl Finished {
         while self.leave(least) {}
     }
 
-    /// Gives up the first segment, where those behind it last so many microseconds at least; answers whether it did.
+    /// Gives up the first segment, where those after it last so many microseconds at least; answers whether it did.
     fn leave(&mut self, least: u64) -> bool
         requires sum { self.old.lasting ≡ spec.lasting self.old.rows.items }
         requires breaks { self.old.discontinuity + broken_in self.old.rows.items < 2 ^ 64 }

@@ -23,7 +23,7 @@ pub(crate) struct Progress {
     pub(crate) open_duration: u64,
     /// How long all parts last, in microseconds.
     pub(crate) end_time: u64,
-    /// Whether a break stands behind the last part.
+    /// Whether a break stands after the last part.
     pub(crate) pending: bool,
     /// Where the last part stands, where there is one.
     pub(crate) last: Option<Place>,
@@ -63,11 +63,11 @@ impl Progress {
         }
     }
 
-    /// Behind the open segment, which is finished.
-    pub(crate) fn behind(self, segment: Segment) -> Progress
+    /// After the open segment, which is finished.
+    pub(crate) fn after(self, segment: Segment) -> Progress
         requires number { self.next_number + 1 < 2 ^ 64 }
         requires time { self.open_time + segment.duration < 2 ^ 64 }
-        ensures { result ≡ kept.behind self segment }
+        ensures { result ≡ kept.after self segment }
     {
         Progress {
             next_number: self.next_number + 1,

@@ -60,7 +60,7 @@ fn segment(number: u64, broken: bool, map_number: u64, time: u64, duration: u64)
     }
 }
 
-/// Adds these parts, each behind a break where that is told of it.
+/// Adds these parts, each after a break where that is told of it.
 fn push_parts(window: &mut Window, parts: &[(bool, u64, bool)]) -> Result<(), Fail> {
     for &(broken, duration, finish) in parts {
         if broken {
@@ -227,10 +227,10 @@ fn segments_past_the_limit_are_skipped(rt: HostRuntime) -> Result<(), Fail> {
     Ok(())
 }
 
-/// Parts behind a finished segment of two parts, and how many parts are listed of it then.
+/// Parts after a finished segment of two parts, and how many parts are listed of it then.
 #[test]
 fn parts_are_listed_near_the_end(rt: HostRuntime) -> Result<(), Fail> {
-    for (behind, listed) in [
+    for (after, listed) in [
         ([ENDS, ENDS, (999_999, true)], 2),
         ([ENDS, ENDS, ENDS], 0),
         ([ENDS, ENDS, (999_999, false)], 2),
@@ -241,7 +241,7 @@ fn parts_are_listed_near_the_end(rt: HostRuntime) -> Result<(), Fail> {
         for part in [(600_000, false), (400_000, true)] {
             window.push(item(part))?;
         }
-        for part in behind {
+        for part in after {
             window.push(item(part))?;
         }
         assert_eq!(rt; window.shown_parts(0).len(), listed);

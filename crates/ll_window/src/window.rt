@@ -30,7 +30,7 @@ const LAST_MICRO: u64 = 253_402_300_799_999_999;
 /// only where there is no other reason.
 #[derive(Clone, Copy, Debug, PartialEq, Eq, Error)]
 pub enum PushFault {
-    /// Anything behind the end of its rendition (EXT-X-ENDLIST, section 4.4.3.4).
+    /// Anything after the end of its rendition (EXT-X-ENDLIST, section 4.4.3.4).
     #[error("Ended")]
     Ended,
     /// A part of 0 microseconds.
@@ -55,7 +55,7 @@ pub enum PushFault {
 }
 
 /// What of all items of one rendition is still needed: the finished segments that a playlist shows and the parts of the
-/// open one. A segment leaves once those behind it alone last as long as the window does at least (section 6.2.2).
+/// open one. A segment leaves once those after it alone last as long as the window does at least (section 6.2.2).
 #[derive(Debug, Drop)]
 pub struct Window {
     alloc: Global,
@@ -155,7 +155,7 @@ impl Window {
         self.finished.rows.len()
     }
 
-    /// The finished segment at this place, 0 being the first that a playlist shows; none behind the last.
+    /// The finished segment at this place, 0 being the first that a playlist shows; none after the last.
     #[tactic(auto, using(crate::proofs::ReaderLemmas::segment_listed, crate::proofs::ReaderLemmas::ends_before))]
     pub fn segment(&self, place: usize) -> Option<Segment>
         ensures value { result ≡ segment_at self.now.window place }
@@ -167,8 +167,8 @@ impl Window {
         }
     }
 
-    /// The parts that a playlist lists of the finished segment at this place: all of them while the parts behind it last
-    /// less than three target durations, and then none (section 4.4.4.9); none behind the last segment either.
+    /// The parts that a playlist lists of the finished segment at this place: all of them while the parts after it last
+    /// less than three target durations, and then none (section 4.4.4.9); none after the last segment either.
     pub fn shown_parts(&self, place: usize) -> &[Part]
         ensures { result.now ≡ parts_at self.now.window place }
     {
@@ -212,7 +212,7 @@ impl Window {
         self.finished.discontinuity
     }
 
-    /// How many of the segments that a playlist shows a delta update skips: those behind which the segments and the open parts
+    /// How many of the segments that a playlist shows a delta update skips: those after which the segments and the open parts
     /// last longer than the skip limit (section 6.2.5.1).
     pub fn skip_count(&self) -> usize
         ensures { result ≡ kept.skip_count self.now }
@@ -330,7 +330,7 @@ impl Window {
         let parts = &mut self.open_parts;
         match self.finished.finish(self.alloc, least, progress, parts) {
             Ok(segment) => {
-                self.progress = progress.behind(segment);
+                self.progress = progress.after(segment);
                 Ok(())
             }
             Err(AllocError) => {
@@ -354,7 +354,7 @@ impl Window {
         progress.ended = true;
         let parts = &mut self.open_parts;
         let segment = self.finished.finish(self.alloc, least, progress, parts)?;
-        self.progress = progress.behind(segment);
+        self.progress = progress.after(segment);
         Ok(())
     }
 
@@ -368,9 +368,9 @@ impl Window {
         }
     }
 
-    /// Whether the parts behind a finished segment last less than three target durations.
+    /// Whether the parts after a finished segment last less than three target durations.
     fn is_near(&self, segment: &Segment) -> bool
-        requires behind { segment.now.time + segment.now.duration ≤ self.now.open_time }
+        requires after { segment.now.time + segment.now.duration ≤ self.now.open_time }
         ensures { result ≡ nat_lt (self.now.open_time + duration self.now.open_parts - (segment.now.time + segment.now.duration)) (near_limit self.now.settings) }
     {
         let end = self.progress.open_time + self.progress.open_duration;

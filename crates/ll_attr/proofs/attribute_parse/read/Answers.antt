@@ -31,7 +31,7 @@ returns-in_err-attribute-clause-refused c =
 pub loop-attributes-preserved : goal.loop-attributes-preserved
 loop-attributes-preserved c =
     let whole = parts_outside false c.loop-attributes.rest.now in
-    let parts = parts_outside false c.in-Some.behind.now in
+    let parts = parts_outside false c.in-Some.after.now in
     let part = c.first_part.result.0.now in
     let found = c.loop-attributes.attributes.items in
     let a = c.in_ok-attribute.attribute in

@@ -1,4 +1,4 @@
--- The cut stands before an ASCII byte or at the end, and the comma is taken off what stands behind it.
+-- The cut stands before an ASCII byte or at the end, and the comma is taken off what stands after it.
 use Rattle.std.proofs.Common.{◌≡◌, ◌≢◌, ◌∙◌, ap, ℕ, false, lit<, List, [], ◌∷◌, take, drop, sym, arith, Option, Some, None, MatchOption, Bor}
 use Rattle.std.proofs.lemmas.Str.Pattern.{strip_prefix_char}
 use Rattle.std.specs.Str.{IsCharBoundary}
@@ -13,13 +13,13 @@ boundary text n e = rw e (
     let le = part_len-le false text in
     (le, λ h high. absurd (omega (arith, comma h))))
 
-cut_parts : (text part behind : List ℕ) (n : ℕ) (r : Option (Bor (List ℕ))) → n ≡ part_len false text → part ≡ take n text → behind ≡ drop n text
-    → MatchOption r ((rest : List ℕ) → behind ≢ 44 ∷ rest) (λ x. behind ≡ 44 ∷ x.now)
+cut_parts : (text part after : List ℕ) (n : ℕ) (r : Option (Bor (List ℕ))) → n ≡ part_len false text → part ≡ take n text → after ≡ drop n text
+    → MatchOption r ((rest : List ℕ) → after ≢ 44 ∷ rest) (λ x. after ≡ 44 ∷ x.now)
     → MatchOption r (parts_outside false text ≡ part ∷ []) (λ x. parts_outside false text ≡ part ∷ parts_outside false x.now)
-cut_parts text part behind n None e front back h =
-    cut_none text behind (back ∙ ap (λ k. drop k text) e) h ∙ ap (λ p. p ∷ []) (ap (λ k. take k text) (sym e) ∙ sym front)
-cut_parts text part behind n (Some x) e front back h =
-    cut_some text behind x.now (back ∙ ap (λ k. drop k text) e) h ∙ ap (λ p. p ∷ parts_outside false x.now) (ap (λ k. take k text) (sym e) ∙ sym front)
+cut_parts text part after n None e front back h =
+    cut_none text after (back ∙ ap (λ k. drop k text) e) h ∙ ap (λ p. p ∷ []) (ap (λ k. take k text) (sym e) ∙ sym front)
+cut_parts text part after n (Some x) e front back h =
+    cut_some text after x.now (back ∙ ap (λ k. drop k text) e) h ∙ ap (λ p. p ∷ parts_outside false x.now) (ap (λ k. take k text) (sym e) ∙ sym front)
 
 pub split_at-requires : goal.split_at-requires
 split_at-requires c = boundary c.args.text.now c.part_len.result c.part_len.ensures

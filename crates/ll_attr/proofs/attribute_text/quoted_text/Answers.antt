@@ -15,7 +15,7 @@ returns-else-is_empty c =
     let no_front : Bool = length before == 0 in
     let no_end : Bool = length end == 0 in
     let quoted : Bool = list_all is_quoted_byte inner in
-    let none = inner_in_cut text before c.in_ok-before.behind.now inner end false c.in_ok-before.ensures.parts c.in_ok-inner.ensures.parts in
+    let none = inner_in_cut text before c.in_ok-before.after.now inner end false c.in_ok-before.ensures.parts c.in_ok-inner.ensures.parts in
     elim c.else-is_empty.branch [
       | else-is_empty-via-then-is_empty+then-is_empty-2+else-is_quoted w ↦ none (third_fails no_front no_end quoted w.if-is_quoted.ensures)
       | else-is_empty-via-then-is_empty+else-is_empty-2 w ↦ none (second_fails no_front no_end quoted w.if-is_empty-2.ensures)

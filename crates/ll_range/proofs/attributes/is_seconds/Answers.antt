@@ -1,4 +1,4 @@
--- The text is cut at its first point, and a second one leaves no digits behind it.
+-- The text is cut at its first point, and a second one leaves no digits after it.
 use Rattle.std.proofs.Common.{sym, ◌∙◌, true}
 use Rattle.ll_range.proofs.Seconds.{seconds-cut}
 use Rattle.ll_range.proofs.attributes.is_seconds.Goals as goal

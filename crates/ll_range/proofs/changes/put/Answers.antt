@@ -1,4 +1,4 @@
--- A key that the map lacks comes behind the others.
+-- A key that the map lacks comes after the others.
 use Rattle.std.proofs.Common.{ap, map, ◌∙◌}
 use Rattle.ll_range.specs.Kept.{listed_at}
 use Rattle.ll_range.proofs.Entries.{put_last}

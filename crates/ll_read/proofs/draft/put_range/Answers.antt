@@ -1,4 +1,4 @@
--- A key that the map lacks comes behind the others.
+-- A key that the map lacks comes after the others.
 use Rattle.std.proofs.Common.{[], ◌∷◌, ◌++◌, ap, map, ◌∙◌}
 use Rattle.ll_page.specs.Playlist.{DateRangeLine}
 use Rattle.ll_read.specs.Ranges.{range_at}

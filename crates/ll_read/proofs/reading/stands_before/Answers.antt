@@ -1,4 +1,4 @@
--- A line is the one, or those behind it tell.
+-- A line is the one, or those after it tell.
 use Rattle.std.proofs.Common.{arith, rules}
 use Rattle.ll_read.proofs.Before.{found, passed}
 use Rattle.ll_read.proofs.reading.stands_before.Goals as goal

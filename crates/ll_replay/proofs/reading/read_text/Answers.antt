@@ -3,12 +3,12 @@ use Rattle.std.proofs.Common.{arith}
 use Rattle.std.proofs.lemmas.Grind.{common_steps}
 use Rattle.std.proofs.lemmas.Str.{is_utf8-from_IsUtf8}
 use Rattle.ll_replay.proofs.reading.read_text.Goals as goal
-use Rattle.ll_replay.proofs.reading.read_text.Goals.{in-Some-behind, in-None+in_ok-act-in-None}
+use Rattle.ll_replay.proofs.reading.read_text.Goals.{in-Some-after, in-None+in_ok-act-in-None}
 
 pub returns-in-Some-act-clause-act : goal.returns-in-Some-act-clause-act
 returns-in-Some-act-clause-act c =
     let utf8 = is_utf8-from_IsUtf8 c.args.line.now c.utf8.line in
-    elim c.match-behind-2.branch [
-      | in-Some-behind w ↦ grind (arith, common_steps)
+    elim c.match-after-2.branch [
+      | in-Some-after w ↦ grind (arith, common_steps)
       | in-None+in_ok-act-in-None w ↦ grind (arith, common_steps)
     ]

@@ -1,4 +1,4 @@
--- The target is cut at its first three slashes; nothing stands before the first one, and `live.m3u8` behind the last.
+-- The target is cut at its first three slashes; nothing stands before the first one, and `live.m3u8` after the last.
 use Rattle.std.proofs.Common.{true, false, rules}
 use borrow.Author.Tests.{tests}
 use Rattle.ll_replay.proofs.ReadingLemmas.{target-cut}

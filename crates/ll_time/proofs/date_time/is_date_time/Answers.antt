@@ -1,4 +1,4 @@
--- A text that can't be cut behind ten bytes is no date and time.
+-- A text that can't be cut after ten bytes is no date and time.
 use Rattle.std.proofs.Common.{sym, true≢false}
 use Rattle.ll_time.proofs.Boundaries.{date_time-uncut}
 use Rattle.ll_time.proofs.date_time.is_date_time.Goals as goal

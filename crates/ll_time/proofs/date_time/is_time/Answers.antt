@@ -1,4 +1,4 @@
--- What follows the `T` is cut behind eight bytes, or has a byte past ASCII there.
+-- What follows the `T` is cut after eight bytes, or has a byte past ASCII there.
 use Rattle.std.proofs.Common.{sym, ◌∙◌, true, true≢false}
 use Rattle.ll_time.proofs.Boundaries.{time-cut, time-uncut}
 use Rattle.ll_time.proofs.date_time.is_time.Goals as goal

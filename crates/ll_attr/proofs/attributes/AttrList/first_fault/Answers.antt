@@ -28,9 +28,9 @@ pub loop-fault-preserved : goal.loop-fault-preserved
 loop-fault-preserved c =
     let whole = parts_outside false c.args.text.now in
     let rest = parts_outside false c.loop-fault.rest.now in
-    let behind = c.in-Some-behind.behind.now in
+    let after = c.in-Some-after.after.now in
     let part = c.first_part.result.0.now in
-    let cut = rw c.in-Some-behind.is at c.first_part.ensures.parts in
-    let shorter = rw c.in-Some-behind.is at c.first_part.ensures.shorter in
-    let more = fault_more c.loop-fault.count whole rest (parts_outside false behind) part (fault_in [] whole) c.loop-fault.invariant.1 cut c.in_default.ensures c.loop-fault.invariant.2 in
+    let cut = rw c.in-Some-after.is at c.first_part.ensures.parts in
+    let shorter = rw c.in-Some-after.is at c.first_part.ensures.shorter in
+    let more = fault_more c.loop-fault.count whole rest (parts_outside false after) part (fault_in [] whole) c.loop-fault.invariant.1 cut c.in_default.ensures c.loop-fault.invariant.2 in
     (search rules, more.0, more.1, omega (arith, shorter, c.loop-fault.invariant.3))

@@ -1,4 +1,4 @@
--- The first fault of what is left behind the names passed is the first fault of the text.
+-- The first fault of what is left after the names passed is the first fault of the text.
 use Rattle.std.proofs.Common.{◌≡◌, ◌≤◌, ◌+◌, [], false, length, take, drop}
 use denote.Text.{Utf8}
 use denote.Shadow.{shadow}

@@ -1,13 +1,13 @@
--- One attribute more is written behind what separates it.
+-- One attribute more is written after what separates it.
 use Rattle.std.proofs.Common.{◌≡◌, ◌++◌, ◌∙◌, ap, [], rules, string_bytes}
 use Rattle.ll_attr.specs.Attributes.{spelling}
-use Rattle.ll_attr.proofs.Written.{spelled_behind, spelled_whole, spelled_more}
+use Rattle.ll_attr.proofs.Written.{spelled_after, spelled_whole, spelled_more}
 use Rattle.ll_attr.proofs.attributes.AttrList.write.Goals as goal
 
 pub loop-attribute-init : goal.loop-attribute-init
 loop-attribute-init c =
     let list = c.args.self.now in
-    (search rules, ap (λ text. text ++ spelled_behind [] list) c.new-text.ensures.bytes ∙ spelled_whole list)
+    (search rules, ap (λ text. text ++ spelled_after [] list) c.new-text.ensures.bytes ∙ spelled_whole list)
 
 pub loop-attribute-preserved : goal.loop-attribute-preserved
 loop-attribute-preserved c =

@@ -9,14 +9,14 @@ pub invariant_of-self-in-Ok : goal.invariant_of-self-in-Ok
 invariant_of-self-in-Ok c =
     let e = c.in-Ok.ensures in
     kept_finished _ c.window-least.result c.self.inside.finished c.finish.new.self c.self.inside.open_parts.items c.push.new.self.items c.finish.new.open_parts.items c.self.inside.progress
-    c.with_part-progress.result c.behind-self-inside.result c.args.part c.next_place.result c.in-Ok.segment
+    c.with_part-progress.result c.after-self-inside.result c.args.part c.next_place.result c.in-Ok.segment
     c.self.invariant (ap (λ k. part_refusal k.settings k.next_number (duration k.open_parts) k.end_time c.args.part.duration) c.self.view_is ∙ c.requires)
-    c.in_ok-push.ensures.items c.with_part-progress.ensures c.behind-self-inside.ensures e.emptied e.segment e.rows e.left e.sums
+    c.in_ok-push.ensures.items c.with_part-progress.ensures c.after-self-inside.ensures e.emptied e.segment e.rows e.left e.sums
 
 pub returns-in-Ok-clause-ok : goal.returns-in-Ok-clause-ok
 returns-in-Ok-clause-ok c =
     let e = c.in-Ok.ensures in
     told_finished _ c.window-least.result c.self.inside.finished c.finish.new.self c.self.inside.open_parts.items c.push.new.self.items c.finish.new.open_parts.items c.self.inside.progress
-    c.with_part-progress.result c.behind-self-inside.result c.args.part c.next_place.result c.in-Ok.segment _
+    c.with_part-progress.result c.after-self-inside.result c.args.part c.next_place.result c.in-Ok.segment _
     c.self.view_is c.window-least.ensures.value c.self.invariant.lasts c.next_place.ensures
-    c.in_ok-push.ensures.items c.with_part-progress.ensures c.behind-self-inside.ensures e.emptied e.segment e.rows e.left
+    c.in_ok-push.ensures.items c.with_part-progress.ensures c.after-self-inside.ensures e.emptied e.segment e.rows e.left

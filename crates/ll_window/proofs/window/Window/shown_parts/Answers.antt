@@ -1,13 +1,13 @@
--- A segment lists its parts just where those behind it are near.
+-- A segment lists its parts just where those after it are near.
 use Rattle.std.proofs.Common.{sym, ap, ◌∙◌}
 use Rattle.std.specs.Option.{option_copied}
-use Rattle.ll_window.proofs.ReaderLemmas.{behind_all, shown_are, none_are, nothing_is}
+use Rattle.ll_window.proofs.ReaderLemmas.{after_all, shown_are, none_are, nothing_is}
 use Rattle.ll_window.proofs.window.Window.shown_parts.Goals as goal
 use Rattle.ll_window.proofs.window.Window.shown_parts.Goals.{in_default-via-in-Some+else-is_near, in_default-via-in_default}
 
 pub is_near-requires : goal.is_near-requires
 is_near-requires c = record {
-  behind = behind_all _ c.self.inside.finished c.self.inside.open_parts.items c.self.inside.progress c.args.place _ _ c.in-Some.kept.now _
+  after = after_all _ c.self.inside.finished c.self.inside.open_parts.items c.self.inside.progress c.args.place _ _ c.in-Some.kept.now _
       c.self.view_is c.self.invariant c.kept.view_is (sym c.in-Some.ensures);
 }
 

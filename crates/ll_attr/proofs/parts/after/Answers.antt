@@ -1,15 +1,15 @@
--- What `strip_prefix` leaves of a text is what stands behind the key.
+-- What `strip_prefix` leaves of a text is what stands after the key.
 use Rattle.std.proofs.Common.{◌≡◌, ℕ, true, false, List, Option, Some, None, MatchOption, Bor, nat_eq, refl}
 use Rattle.std.proofs.lemmas.Bool.Decides.{Decides-eqb}
 use Rattle.std.proofs.lemmas.Slice.Eq.{starts_is}
 use Rattle.std.proofs.lemmas.Str.Pattern.{starts_text}
 use Rattle.std.specs.List.{starts_with}
 use Rattle.std.specs.Str.Pattern.{FindsTextPrefix, StripsPrefix}
-use Rattle.ll_attr.specs.Words.{behind}
-use Rattle.ll_attr.proofs.parts.behind.Goals as goal
+use Rattle.ll_attr.specs.Words.{after}
+use Rattle.ll_attr.proofs.parts.after.Goals as goal
 
 stripped : (key text : List ℕ) (r : Option (Bor (List ℕ))) → MatchOption r (FindsTextPrefix key text None) (λ x. StripsPrefix (FindsTextPrefix key) text x.now)
-    → MatchOption r (behind key text ≡ None) (λ v. behind key text ≡ Some v.now)
+    → MatchOption r (after key text ≡ None) (λ v. after key text ≡ Some v.now)
 stripped key text None h =
     let no : false ≡ starts_with nat_eq text key = starts_text false key text h in
     cc
