@@ -12,6 +12,3 @@ mod segments;
 pub use applying::apply;
 pub use fault::ApplyFault;
 pub use laws::{companion_law, not_recent_law, own_segment_law, readable_law};
-
-#[cfg(test)]
-mod tests;

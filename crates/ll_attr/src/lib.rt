@@ -14,8 +14,3 @@ pub use micros::{Micros, micros_text, parse_micros};
 pub use number::parse_number;
 pub use parts::{after, cut};
 pub use text::Text;
-
-#[cfg(test)]
-mod attribute_tests;
-#[cfg(test)]
-mod tests;

@@ -13,6 +13,3 @@ mod words;
 pub use item::{Item, ItemFault};
 pub use limits::limits_law;
 pub use settings::{Settings, SettingsFault};
-
-#[cfg(test)]
-mod tests;

@@ -16,6 +16,3 @@ pub use rendition::Rendition;
 pub use skip_kind::SkipKind;
 pub use uri::Uri;
 pub use view::View;
-
-#[cfg(test)]
-mod tests;

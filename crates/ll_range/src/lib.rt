@@ -7,6 +7,3 @@ mod changes;
 mod ranges;
 
 pub use ranges::{DateRange, RangeFault, Ranges};
-
-#[cfg(test)]
-mod tests;

@@ -74,10 +74,10 @@ takes_memory line = false
 
 -- the draft of what the lines so far come to
 abbrev pub draft_at : Place → Playlist → Draft
-draft_at place.BehindDiscontinuity p = record (plain p) { broken = true }
-draft_at (place.BehindMap broken uri) p = record (plain p) { broken = broken; map = Some uri }
+draft_at place.AfterDiscontinuity p = record (plain p) { broken = true }
+draft_at (place.AfterMap broken uri) p = record (plain p) { broken = broken; map = Some uri }
 draft_at (place.InSegment b) p = record (plain p) { segment = Some b }
-draft_at (place.BehindDuration b d) p = record (plain p) { segment = Some b; duration = d }
+draft_at (place.AfterDuration b d) p = record (plain p) { segment = Some b; duration = d }
 draft_at place p = plain p
 
 abbrev pub draft_of : Reading → Draft

@@ -18,8 +18,3 @@ pub use laws::{reads_back_law, spelled_again_law};
 pub use outline::{Outline, read_outline};
 pub use playlist::{Block, DateRange, Finished, Header, PartLine, Playlist, Report, Skip};
 pub use reading::read;
-
-#[cfg(test)]
-mod tables_tests;
-#[cfg(test)]
-mod tests;

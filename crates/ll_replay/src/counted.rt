@@ -6,9 +6,9 @@ use std::io::{Read, Write};
 use std::marker::Model;
 use std::sync::ledger::{Blank, Book, Ledger, Share};
 
-/// How often a device was used, and how often it failed. It takes no bytes.
+/// How often a device was used, and how often it failed, for readers and writers to keep. It takes no bytes when it runs.
 #[derive(Drop)]
-pub(crate) struct Uses<L: Ledger> {
+pub struct Uses<L: Ledger> {
     all: Book<L>,
     well: Share<L>,
     failed: Share<L>,
@@ -26,7 +26,8 @@ impl<L: Ledger> Model for Uses<L> {
 }
 
 impl<L: Ledger> Uses<L> {
-    pub(crate) fn new(blank: Blank) -> Uses<L>
+    /// No use so far. The blank is one of two parts.
+    pub fn new(blank: Blank) -> Uses<L>
         requires name { blank.name ≡ L.name }
         requires parts { blank.parts ≡ L.parts }
         requires two { blank.parts ≡ 2 }
@@ -37,13 +38,15 @@ impl<L: Ledger> Uses<L> {
         Uses { all, well, failed }
     }
 
-    pub(crate) fn add_use(&mut self)
+    /// One use more, which went well.
+    pub fn add_use(&mut self)
         ensures { self.new ≡ record { uses = self.old.uses + 1; failures = self.old.failures } }
     {
         self.all.add(&mut self.well, 1);
     }
 
-    pub(crate) fn add_failure(&mut self)
+    /// One use more, which failed.
+    pub fn add_failure(&mut self)
         ensures { self.new ≡ record { uses = self.old.uses + 1; failures = self.old.failures + 1 } }
     {
         self.all.add(&mut self.failed, 1);

@@ -13,10 +13,8 @@ mod reading;
 mod refusal;
 mod rendition;
 mod stream;
-#[cfg(test)]
-mod tests;
 
-pub use counted::{CountedReader, CountedWriter};
+pub use counted::{CountedReader, CountedWriter, Uses};
 pub use device::{Failed, Reader, Writer};
 pub use laws::worked_script;
 pub use outcome::{RunFault, Summary};

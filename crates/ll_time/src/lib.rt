@@ -9,6 +9,3 @@ mod time;
 pub use calendar::calendar_law;
 pub use date_time::is_date_time;
 pub use time::UtcTime;
-
-#[cfg(test)]
-mod tests;

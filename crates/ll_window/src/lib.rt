@@ -15,6 +15,3 @@ pub use part::Part;
 pub use place::Place;
 pub use segment::Segment;
 pub use window::{PushFault, Window};
-
-#[cfg(test)]
-mod tests;

@@ -1,6 +1,6 @@
-use super::*;
 use ll_attr::{AttrList, Text};
 use ll_item::Settings;
+use ll_range::{DateRange, RangeFault, Ranges};
 use std::alloc::Global;
 use std::process::Abort;
 use std::test::Fail;

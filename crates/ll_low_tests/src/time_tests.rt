@@ -1,5 +1,5 @@
 //! The expected times and milliseconds are those of Python's `datetime`.
-use super::*;
+use ll_time::{UtcTime, is_date_time};
 use std::test::Fail;
 
 #[test]

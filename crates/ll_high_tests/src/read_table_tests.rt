@@ -1,6 +1,6 @@
 //! Which lines may stand where: each row is a text, by words for its lines.
-use super::*;
-use crate::tests::told;
+use crate::read_tests::told;
+use ll_read::{ReadFault, read};
 use std::alloc::Global;
 use std::process::Abort;
 use std::test::Fail;

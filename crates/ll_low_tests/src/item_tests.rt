@@ -1,5 +1,5 @@
-use super::*;
 use ll_attr::Text;
+use ll_item::{Item, ItemFault, Settings, SettingsFault};
 use std::alloc::Global;
 use std::process::Abort;
 use std::test::Fail;

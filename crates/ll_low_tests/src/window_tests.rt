@@ -1,5 +1,5 @@
-use super::*;
 use ll_item::{Item, Settings};
+use ll_window::{Part, Place, PushFault, Segment, Window};
 use std::alloc::Global;
 use std::process::Abort;
 use std::test::Fail;

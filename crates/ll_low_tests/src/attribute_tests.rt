@@ -1,4 +1,4 @@
-use super::*;
+use ll_attr::{AttrFault, AttrList, AttrValue};
 use std::test::Fail;
 
 /// The fault of a text, or None where it is an attribute list.

@@ -1,4 +1,4 @@
-use super::*;
+use ll_apply::{ApplyFault, apply};
 use std::alloc::Global;
 use std::ops::Range;
 use std::test::Fail;

@@ -1,4 +1,4 @@
-use super::*;
+use ll_read::{ReadFault, read};
 use std::alloc::Global;
 use std::process::Abort;
 use std::test::Fail;

@@ -1,11 +1,9 @@
 //! Scripts and what they write, over devices that give and take a few bytes at a time, and that fail.
 ghost use Rattle.std.specs.Prelude.{◌≡◌, Some};
 
-use crate::counted::{CountedReader, CountedWriter, Uses};
-use crate::device::{Failed, Reader, Writer};
-use crate::outcome::{RunFault, Summary};
-use crate::refusal::Refusal;
-use crate::stream::run;
+use ll_replay::{
+    CountedReader, CountedWriter, Failed, Reader, Refusal, RunFault, Summary, Uses, Writer, run,
+};
 use std::alloc::{AllocError, Global};
 use std::marker::Brand;
 use std::sync::ledger::{Blank, Ledger};

@@ -1,4 +1,4 @@
-use super::*;
+use ll_attr::{Text, after, cut, micros_text, parse_micros, parse_number};
 use std::test::Fail;
 
 #[test]

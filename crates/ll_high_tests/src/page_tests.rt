@@ -1,6 +1,6 @@
-use super::*;
 use ll_attr::{AttrList, Text};
 use ll_item::{Item, Settings};
+use ll_page::{Rendition, SkipKind, View, delta, full};
 use ll_range::Ranges;
 use ll_window::Window;
 use std::alloc::Global;

@@ -1,0 +1,13 @@
+//! Tests of the crates from `ll_page` to `ll_replay`. They stand here so that no crate is proved a second time for its tests.
+#![tactic(auto)]
+
+#[cfg(test)]
+mod apply_tests;
+#[cfg(test)]
+mod page_tests;
+#[cfg(test)]
+mod read_table_tests;
+#[cfg(test)]
+mod read_tests;
+#[cfg(test)]
+mod replay_tests;

@@ -1,0 +1,15 @@
+//! Tests of the crates from `ll_attr` to `ll_range`. They stand here so that no crate is proved a second time for its tests.
+#![tactic(auto)]
+
+#[cfg(test)]
+mod attr_tests;
+#[cfg(test)]
+mod attribute_tests;
+#[cfg(test)]
+mod item_tests;
+#[cfg(test)]
+mod range_tests;
+#[cfg(test)]
+mod time_tests;
+#[cfg(test)]
+mod window_tests;
