@@ -16,29 +16,25 @@ fn durations_are_written(rt: HostRuntime) -> Result<(), Fail> {
 #[test]
 fn durations_are_read(rt: HostRuntime) {
     for (text, micros) in [
-        ("1.5", 1_500_000),
-        ("7", 7_000_000),
-        ("0.000001", 1),
-        ("000000000001.000001", 1_000_001),
-        ("999999999999.999999", 999_999_999_999_999_999),
+        ("1.5", Some(1_500_000)),
+        ("7", Some(7_000_000)),
+        ("0.000001", Some(1)),
+        ("000000000001.000001", Some(1_000_001)),
+        ("999999999999.999999", Some(999_999_999_999_999_999)),
+        ("", None),
+        ("1.", None),
+        (".5", None),
+        (".", None),
+        ("1.1234567", None),
+        ("1234567890123", None),
+        ("-1", None),
+        ("+1", None),
+        ("1.-5", None),
+        ("1.5.5", None),
+        (" 1", None),
+        ("1e3", None),
     ] {
-        assert_eq!(rt; parse_micros(text), Some(micros), "at {text}");
-    }
-    for text in [
-        "",
-        "1.",
-        ".5",
-        ".",
-        "1.1234567",
-        "1234567890123",
-        "-1",
-        "+1",
-        "1.-5",
-        "1.5.5",
-        " 1",
-        "1e3",
-    ] {
-        assert_eq!(rt; parse_micros(text), None, "at {text}");
+        assert_eq!(rt; parse_micros(text), micros, "at {text}");
     }
 }
 
@@ -60,16 +56,15 @@ fn numbers_are_read(rt: HostRuntime) {
 
 #[test]
 fn lines_are_cut(rt: HostRuntime) {
-    for (text, parts) in [
+    for (text, pieces) in [
         ("a b  c", Some(("a", "b  c"))),
         (" b", Some(("", "b"))),
         ("a ", Some(("a", ""))),
         ("abc", None),
         ("", None),
     ] {
-        assert_eq!(rt; cut(text, ' '), parts, "at {text}");
+        assert_eq!(rt; cut(text, ' '), pieces, "at {text}");
     }
-    assert_eq!(rt; cut("a=b=c", '='), Some(("a", "b=c")));
 }
 
 #[test]
@@ -88,11 +83,9 @@ fn keys_are_taken_off(rt: HostRuntime) {
 
 #[test]
 fn texts_keep_their_bytes(rt: HostRuntime) -> Result<(), Fail> {
-    assert_eq!(rt; Text::new(rt.alloc()).as_str(), "");
-    let text = Text::from_str(rt.alloc(), "größe")?;
-    assert_eq!(rt; text.as_str(), "größe");
-    assert_eq!(rt; text.copy()?.as_str(), "größe");
-    let string = String::from_str(rt.alloc(), "a b")?;
-    assert_eq!(rt; Text::from_string(string).as_str(), "a b");
+    for text in ["", "a b", "größe"] {
+        let owned = Text::from_str(rt.alloc(), text)?.copy()?;
+        assert_eq!(rt; owned.as_str(), text);
+    }
     Ok(())
 }

@@ -1,7 +1,6 @@
 use ll_attr::Text;
 use ll_item::{Item, ItemFault, Settings, SettingsFault};
 use std::alloc::Global;
-use std::process::Abort;
 use std::test::Fail;
 
 const LINE: &str =
@@ -13,27 +12,33 @@ fn line_with(alloc: Global, old: &str, new: &str) -> Result<String, Fail> {
     Ok(format!(in alloc; "{before}{new}{after}")?)
 }
 
-/// The settings are those of the line above.
-fn expect_of_line(rt: &impl Abort, settings: &Settings) {
-    assert_eq!(rt; settings.channel(), "cam");
-    assert_eq!(rt; settings.target(), 4);
-    assert_eq!(rt; settings.part_target(), 1_000_000);
-    assert_eq!(rt; settings.skip(), 24);
-    assert_eq!(rt; settings.window(), 36);
-    assert_eq!(rt; settings.renditions().len(), 2);
-    assert_eq!(rt; settings.renditions()[0].as_str(), "lo");
-    assert_eq!(rt; settings.rendition("lo"), Some(0));
-    assert_eq!(rt; settings.rendition("hi"), Some(1));
-    assert_eq!(rt; settings.rendition("h"), None);
-    assert_eq!(rt; settings.first(), 7);
-    assert_eq!(rt; settings.start(), 1_700_000_000_000);
+/// What settings say, as their line, with the index of the rendition `hi`.
+fn line_of(alloc: Global, settings: &Settings) -> Result<String, Fail> {
+    let (channel, target, part) = (
+        settings.channel(),
+        settings.target(),
+        settings.part_target(),
+    );
+    let (skip, window) = (settings.skip(), settings.window());
+    let (first, start) = (settings.first(), settings.start());
+    let hi = settings.rendition("hi");
+    let mut line = format!(in alloc;
+        "{channel} {target} {part} {skip} {window} {first} {start} {hi:?}"
+    )?;
+    for name in settings.renditions() {
+        line.push(' ')?;
+        line.push_str(name.as_str())?;
+    }
+    Ok(line)
 }
 
 #[test]
 fn settings_are_read_and_copied(rt: HostRuntime) -> Result<(), Fail> {
-    let settings = Settings::read(rt.alloc(), LINE)?;
-    expect_of_line(&rt, &settings);
-    expect_of_line(&rt, &settings.copy(rt.alloc())?);
+    let settings = Settings::read(rt.alloc(), LINE)?.copy(rt.alloc())?;
+    assert_eq!(rt;
+        line_of(rt.alloc(), &settings)?.as_str(),
+        "cam 4 1000000 24 36 7 1700000000000 Some(1) lo hi"
+    );
     Ok(())
 }
 
@@ -62,7 +67,7 @@ fn lines_at_the_limits_are_read(rt: HostRuntime) -> Result<(), Fail> {
 }
 
 #[test]
-fn lines_past_a_limit_are_refused(rt: HostRuntime) -> Result<(), Fail> {
+fn the_first_fault_of_a_line_is_told(rt: HostRuntime) -> Result<(), Fail> {
     for (old, new, fault) in [
         ("target=4", "target=0", SettingsFault::BadTarget),
         (
@@ -95,49 +100,30 @@ fn lines_past_a_limit_are_refused(rt: HostRuntime) -> Result<(), Fail> {
             "start=253402300800000",
             SettingsFault::BadStart,
         ),
-    ] {
-        let line = line_with(rt.alloc(), old, new)?;
-        assert_eq!(rt;
-            Settings::read(rt.alloc(), &line).err(),
-            Some(fault),
-            "at {line}"
-        );
-    }
-    Ok(())
-}
-
-#[test]
-fn lines_of_another_form_are_refused(rt: HostRuntime) -> Result<(), Fail> {
-    for (old, new) in [
-        ("channel", "stream"),
-        (" start=1700000000000", ""),
-        ("cam ", "cam  "),
-        ("start=1700000000000", "start=0 end=1"),
-        ("start=1700000000000", "start=0 "),
-        ("part=1000000 skip=24", "skip=24 part=1000000"),
-        ("target=4", "target="),
-        ("target=4", "target=4s"),
-        ("target=4", "target=18446744073709551616"),
-        ("cam", "Cam"),
-        ("cam", ""),
-    ] {
-        let line = line_with(rt.alloc(), old, new)?;
-        assert_eq!(rt;
-            Settings::read(rt.alloc(), &line).err(),
-            Some(SettingsFault::BadLine),
-            "at {line}"
-        );
-    }
-    assert_eq!(rt;
-        Settings::read(rt.alloc(), "").err(),
-        Some(SettingsFault::BadLine)
-    );
-    Ok(())
-}
-
-#[test]
-fn the_first_broken_limit_is_named(rt: HostRuntime) -> Result<(), Fail> {
-    for (old, new, fault) in [
+        ("channel", "stream", SettingsFault::BadLine),
+        (" start=1700000000000", "", SettingsFault::BadLine),
+        ("cam ", "cam  ", SettingsFault::BadLine),
+        (
+            "start=1700000000000",
+            "start=0 end=1",
+            SettingsFault::BadLine,
+        ),
+        ("start=1700000000000", "start=0 ", SettingsFault::BadLine),
+        (
+            "part=1000000 skip=24",
+            "skip=24 part=1000000",
+            SettingsFault::BadLine,
+        ),
+        ("target=4", "target=", SettingsFault::BadLine),
+        ("target=4", "target=4s", SettingsFault::BadLine),
+        (
+            "target=4",
+            "target=18446744073709551616",
+            SettingsFault::BadLine,
+        ),
+        ("cam", "Cam", SettingsFault::BadLine),
+        ("cam", "", SettingsFault::BadLine),
+        (LINE, "", SettingsFault::BadLine),
         (
             "target=4 part=1000000",
             "target=0 part=x",
@@ -205,87 +191,68 @@ fn settings_named(
 
 #[test]
 fn settings_are_made(rt: HostRuntime) -> Result<(), Fail> {
-    expect_of_line(&rt, &settings_named(rt.alloc(), "cam", &["lo", "hi"])??);
-    assert_eq!(rt;
-        settings_named(rt.alloc(), "cam", &[])?.err(),
-        Some(SettingsFault::NoRendition)
-    );
-    assert_eq!(rt;
-        settings_named(rt.alloc(), "Cam", &["lo"])?.err(),
-        Some(SettingsFault::BadName)
-    );
-    assert_eq!(rt;
-        settings_named(rt.alloc(), "cam", &["lo", "hi", "lo"])?.err(),
-        Some(SettingsFault::BadName)
-    );
+    for (channel, names, fault) in [
+        ("cam", ["lo", "hi"].as_slice(), None),
+        ("cam", &[], Some(SettingsFault::NoRendition)),
+        ("Cam", &["lo"], Some(SettingsFault::BadName)),
+        ("cam", &["lo", "hi", "lo"], Some(SettingsFault::BadName)),
+    ] {
+        assert_eq!(rt; settings_named(rt.alloc(), channel, names)?.err(), fault);
+    }
     Ok(())
 }
 
 /// What an item tells, as a text: its kind, its rendition's index, then the rest of it.
 fn told(alloc: Global, item: &Item) -> Result<String, Fail> {
+    let rendition = item.rendition();
     Ok(match item {
         Item::Part {
-            rendition,
             duration,
             independent,
             finish,
+            ..
         } => format!(in alloc; "part {rendition} {duration} {independent} {finish}")?,
-        Item::Break { rendition } => format!(in alloc; "break {rendition}")?,
-        Item::End { rendition } => format!(in alloc; "end {rendition}")?,
-        Item::Range {
-            rendition,
-            id,
-            attributes,
-        } => {
+        Item::Break { .. } => format!(in alloc; "break {rendition}")?,
+        Item::End { .. } => format!(in alloc; "end {rendition}")?,
+        Item::Range { id, attributes, .. } => {
             let list = attributes.write()?;
             format!(in alloc; "range {rendition} [{}] [{}]", id.as_str(), list.as_str())?
         }
-        Item::Unrange { rendition, id } => {
-            format!(in alloc; "unrange {rendition} [{}]", id.as_str())?
-        }
+        Item::Unrange { id, .. } => format!(in alloc; "unrange {rendition} [{}]", id.as_str())?,
     })
 }
 
 #[test]
 fn items_are_read_and_copied(rt: HostRuntime) -> Result<(), Fail> {
     let settings = Settings::read(rt.alloc(), LINE)?;
-    for (line, rendition, text) in [
-        ("part hi 1000000 -", 1, "part 1 1000000 false false"),
-        ("part hi 1000000 i", 1, "part 1 1000000 true false"),
+    for (line, text) in [
+        ("part hi 1000000 -", "part 1 1000000 false false"),
+        ("part hi 1000000 i", "part 1 1000000 true false"),
         (
             "part hi 18446744073709551615 f",
-            1,
             "part 1 18446744073709551615 false true",
         ),
-        ("part hi 007 if", 1, "part 1 7 true true"),
-        ("break lo", 0, "break 0"),
-        ("break hi", 1, "break 1"),
-        ("end lo", 0, "end 0"),
-        ("end hi", 1, "end 1"),
+        ("part hi 007 if", "part 1 7 true true"),
+        ("break lo", "break 0"),
+        ("break hi", "break 1"),
+        ("end lo", "end 0"),
+        ("end hi", "end 1"),
         (
             "range hi ID=\"a\",START-DATE=\"x\"",
-            1,
             "range 1 [a] [START-DATE=\"x\"]",
         ),
         (
             "range lo ID=\"a b, c\",X-A=\" d,  e \",X-B=1",
-            0,
             "range 0 [a b, c] [X-A=\" d,  e \",X-B=1]",
         ),
-        ("range hi ID=\"a\"", 1, "range 1 [a] []"),
-        ("range hi ID=\"\"", 1, "range 1 [] []"),
-        ("unrange hi a b", 1, "unrange 1 [a b]"),
-        ("unrange lo  a ", 0, "unrange 0 [ a ]"),
-        ("unrange hi ", 1, "unrange 1 []"),
+        ("range hi ID=\"a\"", "range 1 [a] []"),
+        ("range hi ID=\"\"", "range 1 [] []"),
+        ("unrange hi a b", "unrange 1 [a b]"),
+        ("unrange lo  a ", "unrange 0 [ a ]"),
+        ("unrange hi ", "unrange 1 []"),
     ] {
-        let item = Item::read(rt.alloc(), &settings, line)?;
-        assert_eq!(rt; item.rendition(), rendition, "at {line}");
+        let item = Item::read(rt.alloc(), &settings, line)?.copy()?;
         assert_eq!(rt; told(rt.alloc(), &item)?.as_str(), text, "at {line}");
-        assert_eq!(rt;
-            told(rt.alloc(), &item.copy()?)?.as_str(),
-            text,
-            "at {line}"
-        );
     }
     Ok(())
 }
@@ -347,14 +314,5 @@ fn lines_that_are_no_item_are_refused(rt: HostRuntime) -> Result<(), Fail> {
             "at {line}"
         );
     }
-    Ok(())
-}
-
-#[test]
-fn faults_are_shown_by_their_names(rt: HostRuntime) -> Result<(), Fail> {
-    let fault = SettingsFault::SkipTooSmall;
-    assert_eq!(rt; format!(in rt.alloc(); "{fault}")?.as_str(), "SkipTooSmall");
-    let fault = ItemFault::NoRendition;
-    assert_eq!(rt; format!(in rt.alloc(); "{fault}")?.as_str(), "NoRendition");
     Ok(())
 }

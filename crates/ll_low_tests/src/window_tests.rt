@@ -1,7 +1,6 @@
 use ll_item::{Item, Settings};
-use ll_window::{Part, Place, PushFault, Segment, Window};
+use ll_window::{PushFault, Window};
 use std::alloc::Global;
-use std::process::Abort;
 use std::test::Fail;
 
 /// The largest media sequence number.
@@ -41,59 +40,59 @@ fn item((duration, finish): (u64, bool)) -> Item {
     }
 }
 
-fn part(duration: u64, finish: bool, after_break: bool) -> Part {
-    Part {
-        duration,
-        independent: false,
-        finish,
-        after_break,
-    }
-}
-
-fn segment(number: u64, broken: bool, map_number: u64, time: u64, duration: u64) -> Segment {
-    Segment {
-        number,
-        broken,
-        map_number,
-        time,
-        duration,
-    }
-}
-
-/// Adds these parts, each after a break where that is told of it.
-fn push_parts(window: &mut Window, parts: &[(bool, u64, bool)]) -> Result<(), Fail> {
+/// A window with these parts, each after a break where that is told of it.
+fn window_of(
+    alloc: Global,
+    first: u64,
+    start: u64,
+    parts: &[(bool, u64, bool)],
+) -> Result<Window, Fail> {
+    let mut window = window(alloc, first, start)?;
     for &(broken, duration, finish) in parts {
         if broken {
             window.push(BREAK)?;
         }
         window.push(item((duration, finish)))?;
     }
-    Ok(())
+    Ok(window)
 }
 
-/// The window tells of so many finished segments and open parts, of this next number, and of so many microseconds.
-fn expect_window(rt: &impl Abort, window: &Window, told: (usize, usize, u64, u64)) {
-    let (segments, open, next, end) = told;
-    assert_eq!(rt; window.segment_count(), segments);
-    assert_eq!(rt; window.open_parts().len(), open);
-    assert_eq!(rt; window.next_number(), next);
-    assert_eq!(rt; window.end_time(), end);
+/// What a window tells beside its segments: how many they are, how many open parts there are, the next number, the end of
+/// all parts, how many broken segments have left, the number and index of the last part, and whether the rendition has ended.
+fn state(alloc: Global, window: &Window) -> Result<String, Fail> {
+    let (count, open) = (window.segment_count(), window.open_parts().len());
+    let (next, end) = (window.next_number(), window.end_time());
+    let (breaks, ended) = (window.discontinuity(), window.ended());
+    let last = window.last().map(|place| (place.number, place.index));
+    Ok(format!(in alloc; "{count} {open} {next} {end} {breaks} {last:?} {ended}")?)
 }
 
-/// The first finished segments that the window tells of.
-fn expect_segments(rt: &impl Abort, window: &Window, segments: &[Segment]) {
-    for (place, segment) in segments.iter().enumerate() {
-        assert_eq!(rt; window.segment(place), Some(*segment));
+/// What a window tells of its segments, the open one last: the number, whether it is broken, the map's number, the time, the
+/// duration, and how many parts are listed.
+fn segments(alloc: Global, window: &Window) -> Result<String, Fail> {
+    let mut text = String::new(alloc);
+    for place in 0..window.segment_count() + 1 {
+        let listed = window.shown_parts(place).len();
+        if let Some(s) = window.segment(place).or(window.open_segment()) {
+            let (number, map, time, duration) = (s.number, s.map_number, s.time, s.duration);
+            write!(
+                text,
+                "{number} {:?} {map} {time} {duration} {listed};",
+                s.broken
+            )?;
+        }
     }
+    Ok(text)
 }
 
 #[test]
-fn parts_follow_within_their_limits(rt: HostRuntime) -> Result<(), Fail> {
+fn the_first_rule_that_refuses_a_part_is_answered(rt: HostRuntime) -> Result<(), Fail> {
     let none = [].as_slice();
     let one_open = [GOES_ON].as_slice();
     let finished = [ENDS].as_slice();
     let two_finished = [ENDS; 2].as_slice();
     let to_the_end = [(999_999, false)].as_slice();
+    let to_both_ends = [(999_999, true)].as_slice();
     for (first, start, before, micros, answer) in [
         (0, 0, none, 0, Err(PushFault::BadDuration)),
         (0, 0, none, 1, Ok(())),
@@ -117,63 +116,91 @@ fn parts_follow_within_their_limits(rt: HostRuntime) -> Result<(), Fail> {
         (0, LAST_SECOND, to_the_end, 1, Err(PushFault::TimeEnd)),
         (0, LAST_MILLI, none, 999, Ok(())),
         (0, LAST_MILLI, none, 1_000, Err(PushFault::TimeEnd)),
+        (
+            LAST_NUMBER,
+            LAST_SECOND,
+            to_both_ends,
+            0,
+            Err(PushFault::BadDuration),
+        ),
+        (
+            LAST_NUMBER,
+            LAST_SECOND,
+            to_both_ends,
+            1_000_001,
+            Err(PushFault::TooLong),
+        ),
+        (
+            LAST_NUMBER,
+            LAST_SECOND,
+            to_both_ends,
+            1,
+            Err(PushFault::CountEnd),
+        ),
     ] {
         let mut window = window(rt.alloc(), first, start)?;
         for &part in before {
             window.push(item(part))?;
         }
         let next = item((micros, true));
-        assert_eq!(rt; window.test(&next), answer, "{micros} at {first}, {start}");
-        assert_eq!(rt; window.push(next), answer, "{micros} at {first}, {start}");
+        let answers = (window.test(&next), window.push(next));
+        assert_eq!(rt; answers, (answer, answer), "{micros} at {first}, {start}");
     }
-    Ok(())
-}
-
-#[test]
-fn the_first_reason_is_answered(rt: HostRuntime) -> Result<(), Fail> {
-    let mut window = window(rt.alloc(), LAST_NUMBER, LAST_SECOND)?;
-    window.push(item((999_999, true)))?;
-    for (micros, fault, name) in [
-        (0, PushFault::BadDuration, "BadDuration"),
-        (1_000_001, PushFault::TooLong, "TooLong"),
-        (1, PushFault::CountEnd, "CountEnd"),
-    ] {
-        assert_eq!(rt; window.push(item((micros, false))), Err(fault));
-        assert_eq!(rt; format!(in rt.alloc(); "{fault}")?.as_str(), name);
-    }
-    let (ended, open, time, memory) = (
-        PushFault::Ended,
-        PushFault::OpenSegment,
-        PushFault::TimeEnd,
-        PushFault::Memory,
-    );
-    assert_eq!(rt;
-        format!(in rt.alloc(); "{ended} {open} {time} {memory}")?.as_str(),
-        "Ended OpenSegment TimeEnd Memory"
-    );
     Ok(())
 }
 
 #[test]
 fn a_refused_item_changes_nothing(rt: HostRuntime) -> Result<(), Fail> {
-    let mut window = window(rt.alloc(), 7, 0)?;
-    window.push(item(ENDS))?;
-    window.push(item(GOES_ON))?;
-    for (refused, fault) in [
-        (item((0, false)), PushFault::BadDuration),
-        (item((500_000, true)), PushFault::TooLong),
-        (BREAK, PushFault::OpenSegment),
+    let parts = [(false, 1_000_000, true), (false, 1_000_000, false)];
+    let mut window = window_of(rt.alloc(), 7, 0, &parts)?;
+    for (next, answer, text) in [
+        (
+            item((0, false)),
+            Err(PushFault::BadDuration),
+            "1 1 8 2000000 0 Some((8, 0)) false",
+        ),
+        (
+            item((500_000, true)),
+            Err(PushFault::TooLong),
+            "1 1 8 2000000 0 Some((8, 0)) false",
+        ),
+        (
+            BREAK,
+            Err(PushFault::OpenSegment),
+            "1 1 8 2000000 0 Some((8, 0)) false",
+        ),
+        (
+            item((1, true)),
+            Ok(()),
+            "2 0 9 2000001 0 Some((8, 1)) false",
+        ),
+        (BREAK, Ok(()), "2 0 9 2000001 0 Some((8, 1)) false"),
+        (
+            item((1, false)),
+            Ok(()),
+            "2 1 9 2000002 0 Some((9, 0)) false",
+        ),
+        (END, Ok(()), "3 0 10 2000002 0 Some((9, 0)) true"),
+        (
+            item(ENDS),
+            Err(PushFault::Ended),
+            "3 0 10 2000002 0 Some((9, 0)) true",
+        ),
+        (
+            BREAK,
+            Err(PushFault::Ended),
+            "3 0 10 2000002 0 Some((9, 0)) true",
+        ),
+        (
+            END,
+            Err(PushFault::Ended),
+            "3 0 10 2000002 0 Some((9, 0)) true",
+        ),
     ] {
-        assert_eq!(rt; window.test(&refused), Err(fault));
-        assert_eq!(rt; window.push(refused), Err(fault));
-        expect_window(&rt, &window, (1, 1, 8, 2_000_000));
+        let answers = (window.test(&next), window.push(next));
+        let told = (answers, state(rt.alloc(), &window)?);
+        assert_eq!(rt; (told.0, told.1.as_str()), ((answer, answer), text));
     }
-    window.push(item((1, true)))?;
-    expect_window(&rt, &window, (2, 0, 9, 2_000_001));
-    assert_eq!(rt;
-        window.segment(1).map(|segment| segment.broken),
-        Some(false)
-    );
     Ok(())
 }
 
@@ -199,10 +226,11 @@ fn segments_leave_the_window(rt: HostRuntime) -> Result<(), Fail> {
             }
         }
         window.push(item(GOES_ON))?;
-        assert_eq!(rt; window.segment_count(), count);
-        let first = window.segment(0).ok_or("the first")?;
-        assert_eq!(rt; (first.number, first.time), (number, time));
-        assert_eq!(rt; window.segment(count), None);
+        let first = window.segment(0).map(|first| (first.number, first.time));
+        assert_eq!(rt;
+            (window.segment_count(), first),
+            (count, Some((number, time)))
+        );
     }
     Ok(())
 }
@@ -227,125 +255,72 @@ fn segments_past_the_limit_are_skipped(rt: HostRuntime) -> Result<(), Fail> {
     Ok(())
 }
 
-/// Parts after a finished segment of two parts, and how many parts are listed of it then.
+/// Parts, each after a break where that is told of it, and what the window tells of segments then.
 #[test]
-fn parts_are_listed_near_the_end(rt: HostRuntime) -> Result<(), Fail> {
-    for (after, listed) in [
-        ([ENDS, ENDS, (999_999, true)], 2),
-        ([ENDS, ENDS, ENDS], 0),
-        ([ENDS, ENDS, (999_999, false)], 2),
-        ([ENDS, ENDS, GOES_ON], 0),
-        ([ENDS, (500_000, false), (999_999, true)], 2),
+fn segments_are_told_with_their_breaks_and_parts(rt: HostRuntime) -> Result<(), Fail> {
+    let whole = (false, 1_000_000, true);
+    let broken = (true, 1_000_000, true);
+    for (parts, breaks, text) in [
+        (
+            [
+                broken,
+                (true, 500_000, false),
+                (false, 250_000, true),
+                whole,
+                (true, 750_000, false),
+            ]
+            .as_slice(),
+            0,
+            "7 true 1 1000 1000000 1;8 true 2 1001000 750000 2;9 false 2 1751000 1000000 1;10 true 3 2751000 750000 0;",
+        ),
+        (
+            [
+                (false, 600_000, false),
+                (false, 400_000, true),
+                whole,
+                whole,
+                (false, 999_999, true),
+            ]
+            .as_slice(),
+            0,
+            "7 false 0 1000 1000000 2;8 false 0 1001000 1000000 1;9 false 0 2001000 1000000 1;10 false 0 3001000 999999 1;",
+        ),
+        (
+            [
+                (false, 600_000, false),
+                (false, 400_000, true),
+                whole,
+                whole,
+                (false, 1_000_000, false),
+            ]
+            .as_slice(),
+            0,
+            "7 false 0 1000 1000000 0;8 false 0 1001000 1000000 1;9 false 0 2001000 1000000 1;10 false 0 3001000 1000000 0;",
+        ),
+        (
+            [
+                broken,
+                (true, 750_000, true),
+                whole,
+                broken,
+                broken,
+                whole,
+                whole,
+                whole,
+                whole,
+                whole,
+                whole,
+            ]
+            .as_slice(),
+            2,
+            "9 false 2 1751000 1000000 0;10 true 3 2751000 1000000 0;11 true 4 3751000 1000000 0;12 false 4 4751000 1000000 0;\
+            13 false 4 5751000 1000000 0;14 false 4 6751000 1000000 0;15 false 4 7751000 1000000 1;16 false 4 8751000 1000000 1;\
+            17 false 4 9751000 1000000 1;",
+        ),
     ] {
-        let mut window = window(rt.alloc(), 0, 0)?;
-        for part in [(600_000, false), (400_000, true)] {
-            window.push(item(part))?;
-        }
-        for part in after {
-            window.push(item(part))?;
-        }
-        assert_eq!(rt; window.shown_parts(0).len(), listed);
-        assert_eq!(rt; window.shown_parts(1).is_empty(), false);
-        assert_eq!(rt; window.shown_parts(4).is_empty(), true);
+        let window = window_of(rt.alloc(), 7, 1, parts)?;
+        let told = (window.discontinuity(), segments(rt.alloc(), &window)?);
+        assert_eq!(rt; (told.0, told.1.as_str()), (breaks, text));
     }
-    Ok(())
-}
-
-#[test]
-fn breaks_are_told_where_they_stand(rt: HostRuntime) -> Result<(), Fail> {
-    let mut window = window(rt.alloc(), 7, 1)?;
-    window.push(BREAK)?;
-    push_parts(
-        &mut window,
-        &[
-            (true, 1_000_000, true),
-            (true, 500_000, false),
-            (false, 250_000, true),
-            (false, 1_000_000, true),
-            (true, 750_000, false),
-        ],
-    )?;
-    expect_segments(
-        &rt,
-        &window,
-        &[
-            segment(7, true, 1, 1_000, 1_000_000),
-            segment(8, true, 2, 1_001_000, 750_000),
-            segment(9, false, 2, 1_751_000, 1_000_000),
-        ],
-    );
-    let open = segment(10, true, 3, 2_751_000, 750_000);
-    assert_eq!(rt; window.open_segment(), Some(open));
-    let open_parts = [part(750_000, false, true)];
-    assert_eq!(rt; window.open_parts(), open_parts.as_slice());
-    let parts = [part(500_000, false, true), part(250_000, true, false)];
-    assert_eq!(rt; window.shown_parts(1), parts.as_slice());
-    Ok(())
-}
-
-#[test]
-fn breaks_are_counted_as_they_leave(rt: HostRuntime) -> Result<(), Fail> {
-    let mut window = window(rt.alloc(), 7, 1)?;
-    push_parts(
-        &mut window,
-        &[
-            (true, 1_000_000, true),
-            (true, 750_000, true),
-            (false, 1_000_000, true),
-            (true, 1_000_000, true),
-        ],
-    )?;
-    window.push(BREAK)?;
-    assert_eq!(rt; window.open_segment(), None);
-    push_parts(&mut window, &[(false, 1_000_000, true); 6])?;
-    assert_eq!(rt; window.discontinuity(), 0);
-    expect_window(&rt, &window, (10, 0, 17, 9_750_000));
-    window.push(item(ENDS))?;
-    assert_eq!(rt; window.discontinuity(), 2);
-    expect_window(&rt, &window, (9, 0, 18, 10_750_000));
-    expect_segments(
-        &rt,
-        &window,
-        &[
-            segment(9, false, 2, 1_751_000, 1_000_000),
-            segment(10, true, 3, 2_751_000, 1_000_000),
-            segment(11, true, 4, 3_751_000, 1_000_000),
-            segment(12, false, 4, 4_751_000, 1_000_000),
-        ],
-    );
-    Ok(())
-}
-
-#[test]
-fn the_end_finishes_the_open_segment(rt: HostRuntime) -> Result<(), Fail> {
-    let mut window = window(rt.alloc(), 7, 0)?;
-    assert_eq!(rt; window.last(), None);
-    push_parts(
-        &mut window,
-        &[
-            (false, 1_000_000, true),
-            (false, 400_000, false),
-            (false, 1, false),
-        ],
-    )?;
-    let last = Some(Place {
-        number: 8,
-        index: 1,
-    });
-    assert_eq!(rt; window.last(), last);
-    assert_eq!(rt; window.ended(), false);
-    window.push(END)?;
-    for refused in [item(ENDS), BREAK, END] {
-        assert_eq!(rt; window.test(&refused), Err(PushFault::Ended));
-        assert_eq!(rt; window.push(refused), Err(PushFault::Ended));
-        expect_window(&rt, &window, (2, 0, 9, 1_400_001));
-        assert_eq!(rt; window.last(), last);
-        assert_eq!(rt; window.ended(), true);
-    }
-    let segments = [
-        segment(7, false, 0, 0, 1_000_000),
-        segment(8, false, 0, 1_000_000, 400_001),
-    ];
-    expect_segments(&rt, &window, &segments);
     Ok(())
 }
