@@ -1,17 +1,32 @@
-# README.md says what each target does. Each works from any folder, as `make -s -C FOLDER TARGET`.
+# README.md says more of each target. Each works from any folder, as `make -s -C FOLDER TARGET`.
 HERE := $(dir $(lastword $(MAKEFILE_LIST)))
+PREFIX ?= /usr/local
 
-.PHONY: run test refused-memory bench
+.PHONY: help run test install refused-memory bench
 
-run:
+help:
+	@echo 'make run              proves and builds the program, and runs it on examples/first.script'
+	@echo 'make test             proves and tests everything from nothing'
+	@echo 'make install          builds the program and copies it to PREFIX/bin (PREFIX=$(PREFIX))'
+	@echo 'make refused-memory   refuses each allocation of the program in turn'
+	@echo 'make bench            measures speed and memory'
+
+run: kit
 	@$(HERE)tests/run.sh
 
-test:
+test: kit
 	@$(HERE)tests/all.sh
 
-refused-memory:
+install: kit
+	@program=$$($(HERE)tests/program.sh) && mkdir -p "$(DESTDIR)$(PREFIX)/bin" && install -m 755 "$$program" "$(DESTDIR)$(PREFIX)/bin/llhls"
+
+refused-memory: kit
 	@$(HERE)tests/refused_memory.sh
 
-bench:
+bench: kit
 	@$(HERE)bench/replay.sh
 	@$(HERE)bench/apply.sh
+
+.PHONY: kit
+kit:
+	@command -v rt >/dev/null || { echo 'rt, the command of the Rattle kit, is not on the path: README.md, "Build and test"' >&2; exit 1; }

@@ -1,7 +1,7 @@
 #!/usr/bin/env bash
 # Proves every crate from nothing, runs the crates' tests, and then each row of tests/rows: as `rt try --cases` builds the
-# program, with checks, and on the proved program, as each compiler of the toolchain builds it; then mutated playlists, on the
-# proved program once. The last line is the sum.
+# program, with checks, and on the proved program, as each compiler of the toolchain builds it; then, on the proved program once,
+# devices that give and take a few bytes at a time, large inputs and mutated playlists. The last line is the sum.
 set -u
 cd "$(dirname "${BASH_SOURCE[0]}")/.." || exit 2
 log=$(mktemp) || exit 2
@@ -35,6 +35,8 @@ add tests/rows.sh crates/llhls/out/llhls
 if [ -e crates/llhls/out/llhls.by-rattle ]; then
     add tests/rows.sh crates/llhls/out/llhls.by-rattle
 fi
+add tests/short_devices.sh crates/llhls/out/llhls
+add tests/large.sh crates/llhls/out/llhls
 add tests/mutated_playlists.sh crates/llhls/out/llhls
 echo "$passed passed, $failed failed"
 [ "$failed" = 0 ]

@@ -1,11 +1,13 @@
 #!/usr/bin/env bash
-# Puts all rows into a folder: those of tests/rows, and those of long lines, which are made here.
+# Puts all rows into a folder: those of tests/rows, the example of README.md, and those of long lines, which are made here.
 # A row is its script NAME, its output NAME.stdout, and NAME.args where it has words beside `replay`.
 # tests/endings says how a row ends that doesn't end with status 0.
 set -eu
 cd "$(dirname "${BASH_SOURCE[0]}")"
 to=$1
 cp rows/* "$to"
+cp ../examples/live.script "$to/live_example"
+cp ../examples/live.expected "$to/live_example.stdout"
 
 settings='channel cam target=4 part=1000000 skip=24 window=36 renditions=hi first=0 start=0'
 part='pub cam part hi 1000000 if'

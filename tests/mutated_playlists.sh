@@ -1,7 +1,7 @@
 #!/usr/bin/env bash
 # mutated_playlists.sh PROGRAM: makes a thousand mutated playlists from the rows of tests/apply, in turn of the base and of
 # the delta, and puts each in its row's place. `apply` then ends with status 3, nothing written and one fault, which is of
-# the mutated playlist or NotRecent; or with status 0, no fault, and a text that, put upon itself, is itself. At least a
+# the mutated playlist or NotRecent; or with status 0, no fault, and a text that, applied to itself, is itself. At least a
 # third end each way. The last line, `N passed, M failed`, counts playlists, and a third that was missed.
 set -u
 export LC_ALL=C
@@ -70,8 +70,8 @@ all_of() {
 is_right() {
     local side=$1 faults status
     case $side in
-    base) faults='BadBase( [0-9]+)?|NotRecent [0-9]+' ;;
-    delta) faults='BadDelta( [0-9]+)?|NotRecent [0-9]+' ;;
+    base) faults='BadBase|NotRecent [0-9]+' ;;
+    delta) faults='BadDelta|NotRecent [0-9]+' ;;
     esac
     timeout 10 "$program" apply "$base" "$delta" </dev/null >"$room/stdout" 2>"$room/stderr"
     status=$?

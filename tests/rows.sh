@@ -61,7 +61,10 @@ for row in "$here"/apply/*/; do
     expect "apply ${row##*/}" "$row/stdout" "$status" "$fault" apply "$row/base" "$row/delta" </dev/null
 done
 
-first=$here/../examples/first.script
+examples=$here/../examples
+expect apply_example "$examples/full.m3u8" 0 '' apply "$examples/base.m3u8" "$examples/delta.m3u8" </dev/null
+
+first=$examples/first.script
 expect usage_of_no_word /dev/null 2 'llhls: usage' <"$first"
 expect usage_of_another_word /dev/null 2 'llhls: usage' play <"$first"
 expect usage_of_a_longer_word /dev/null 2 'llhls: usage' replays <"$first"

@@ -71,7 +71,7 @@ fn state(alloc: Global, window: &Window) -> Result<String, Fail> {
 /// duration, and how many parts are listed.
 fn segments(alloc: Global, window: &Window) -> Result<String, Fail> {
     let mut text = String::new(alloc);
-    for place in 0..window.segment_count() + 1 {
+    for place in 0..=window.segment_count() {
         let listed = window.shown_parts(place).len();
         if let Some(s) = window.segment(place).or(window.open_segment()) {
             let (number, map, time, duration) = (s.number, s.map_number, s.time, s.duration);
