@@ -83,10 +83,7 @@ fn read_part(alloc: Global, attributes: &[Attribute], part: &str) -> Result<Attr
     let Some((quoted, value)) = value_text(value) else {
         return Err(AttrFault::BadValue);
     };
-    match owned(alloc, name, quoted, value) {
-        Ok(attribute) => Ok(attribute),
-        Err(AllocError) => Err(AttrFault::Memory),
-    }
+    Ok(owned(alloc, name, quoted, value)?)
 }
 
 /// An attribute of this name whose value has this text.

@@ -8,7 +8,7 @@ use std::marker::Model;
 use thiserror::Error;
 
 /// The value of an attribute (section 4.2).
-#[derive(Debug, Drop)]
+#[derive(Debug, PartialEq, Drop)]
 pub enum AttrValue {
     /// What stands between quotation marks: any text without a quotation mark, CR or LF (quoted-string).
     Quoted(Text),
@@ -17,7 +17,7 @@ pub enum AttrValue {
 }
 
 /// A name and its value.
-#[derive(Debug, Drop)]
+#[derive(Debug, PartialEq, Drop)]
 pub struct Attribute {
     /// One or more characters A-Z, 0-9 and `-`, compared byte by byte.
     pub name: Text,
@@ -41,6 +41,16 @@ pub enum AttrFault {
     /// No memory was found.
     #[error("Memory")]
     Memory,
+}
+
+impl From<AllocError> for AttrFault {
+    ghost use Rattle.ll_attr.specs.declared.attributes.AttrFault.TheVariants.{Memory};
+
+    ghost from_gives = { λ error fault. fault ≡ Memory };
+
+    fn from(_error: AllocError) -> AttrFault {
+        AttrFault::Memory
+    }
 }
 
 /// An attribute list: names with their values, in the order in which they were written, none twice (section 4.2). A list

@@ -66,6 +66,16 @@ pub enum ItemFault {
     Memory,
 }
 
+impl From<AllocError> for ItemFault {
+    ghost use Rattle.ll_item.specs.declared.item.ItemFault.TheVariants.{Memory};
+
+    ghost from_gives = { λ error fault. fault ≡ Memory };
+
+    fn from(_error: AllocError) -> ItemFault {
+        ItemFault::Memory
+    }
+}
+
 impl Item {
     /// The index of the rendition that it belongs to, in the order of the settings.
     pub fn rendition(&self) -> usize

@@ -11,7 +11,7 @@ use crate::name::is_name;
 use crate::settings::Settings;
 use crate::words::one_word;
 use ll_attr::{AttrFault, AttrList, AttrValue, Attribute, Text, after, cut, parse_number};
-use std::alloc::{AllocError, Global};
+use std::alloc::Global;
 
 impl Item {
     /// The item that a line spells: `part RENDITION MICROSECONDS FLAGS`, where the flags are `-` for none, `i` for independent,
@@ -158,10 +158,8 @@ fn read_unrange(alloc: Global, settings: &Settings, text: &str) -> Result<Item, 
         return Err(ItemFault::BadLine);
     };
     let rendition = named(settings, name)?;
-    match Text::from_str(alloc, id) {
-        Ok(id) => Ok(Item::Unrange { rendition, id }),
-        Err(AllocError) => Err(ItemFault::Memory),
-    }
+    let id = Text::from_str(alloc, id)?;
+    Ok(Item::Unrange { rendition, id })
 }
 
 /// The index of the rendition whose name this text is, or what is wrong with it.

@@ -43,6 +43,16 @@ pub enum SettingsFault {
     Memory,
 }
 
+impl From<AllocError> for SettingsFault {
+    ghost use Rattle.ll_item.specs.declared.settings.SettingsFault.TheVariants.{Memory};
+
+    ghost from_gives = { λ error fault. fault ≡ Memory };
+
+    fn from(_error: AllocError) -> SettingsFault {
+        SettingsFault::Memory
+    }
+}
+
 /// What one channel is configured to, within the limits.
 #[derive(Debug, Drop)]
 pub struct Settings {

@@ -32,10 +32,8 @@ impl Settings {
         if let Some(fault) = first_fault(&numbers, named, name_count(renditions)) {
             return Err(fault);
         }
-        match texts_of(alloc, channel, renditions) {
-            Ok((channel, renditions)) => Ok(Settings::of(channel, numbers, renditions)),
-            Err(AllocError) => Err(SettingsFault::Memory),
-        }
+        let (channel, renditions) = texts_of(alloc, channel, renditions)?;
+        Ok(Settings::of(channel, numbers, renditions))
     }
 }
 
