@@ -11,4 +11,4 @@ use Rattle.ll_page.specs.Worked.{WorkedPlaylists}
 
 pub worked : WorkedPlaylists
 unfolding first_lines target_line control_front control_end part_target_line sequence_line discontinuity_line date_range_line skip_front broken_line map_line time_line independent_flag part_line report_line hint_line end_line finished_lines segment_uri part_uri map_uri report_uri seconds digits configuration_of nth_date time_of digits_2 digits_3 digits_4
-worked = record { settings = refl; empty = refl; one_segment = refl; date_ranges = refl; delta_update = refl; open_segment = refl; has_ended = refl }
+worked = record { settings = refl; empty = refl; one_segment = refl; date_ranges = refl; delta_update = refl; open_segment = refl; has_ended = refl; afternoon = refl; ends_open = refl }

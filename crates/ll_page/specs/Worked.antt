@@ -1,4 +1,4 @@
--- The definitions at worked examples: five streams, and the whole text of a playlist of each, byte for byte.
+-- The definitions at worked examples: small streams, and the whole text of a playlist of each, byte for byte.
 use Rattle.std.specs.Prelude.{◌≡◌, ℕ, List, [], ◌∷◌, ◌++◌, true, false, Ok, codes}
 use Rattle.ll_attr.specs.declared.attributes.Attribute.{Attribute}
 use Rattle.ll_attr.specs.declared.attributes.AttrValue.TheVariants.{Quoted, Bare}
@@ -49,6 +49,19 @@ short_segments = record {
   start = 0;
 }
 
+-- two renditions, a target duration of 1 s; the first segments have number 40, and their time is 2026-03-07T15:04:05.250Z
+abbrev pub afternoon : Configuration
+afternoon = record {
+  channel = codes "cam";
+  target = 1;
+  part_target = 1000000;
+  skip = 6;
+  window = 9;
+  renditions = codes "hi" ∷ codes "lo" ∷ [];
+  first = 40;
+  start = 1772895845250;
+}
+
 abbrev pub whole_part : Item
 whole_part = item.Part 0 1000000 true true
 
@@ -78,6 +91,21 @@ abbrev pub mixed_parts : List Item
 mixed_parts =
     item.Part 1 334000 true false ∷ item.Part 0 300000 true true ∷ item.Part 1 333999 false true ∷ item.Break 1 ∷ item.Break 0
     ∷ item.Part 1 1 true false ∷ item.End 0 ∷ []
+
+abbrev pub dependent_part : Item
+dependent_part = item.Part 0 1000000 false true
+
+-- eleven segments of a second, of which the first, the second and the sixth are broken, then two parts that go on; two parts
+-- of the other rendition among them
+abbrev pub afternoon_parts : List Item
+afternoon_parts =
+    item.Break 0 ∷ whole_part ∷ item.Break 0 ∷ dependent_part ∷ item.Part 1 300000 true false ∷ dependent_part ∷ dependent_part ∷ dependent_part
+    ∷ item.Break 0 ∷ dependent_part ∷ dependent_part ∷ dependent_part ∷ dependent_part ∷ dependent_part ∷ dependent_part
+    ∷ item.Part 1 200000 false false ∷ item.Part 0 500000 true false ∷ item.Part 0 250000 false false ∷ []
+
+-- the end comes while a segment is open
+abbrev pub ends_open : List Item
+ends_open = item.Part 0 1000000 true false ∷ item.Part 0 500000 false false ∷ item.End 0 ∷ []
 
 abbrev pub header_text : List ℕ
 header_text =
@@ -191,6 +219,66 @@ delta_update_text =
     ++ codes "s7.m4s\n"
     ++ codes "#EXT-X-PRELOAD-HINT:TYPE=PART,URI=\"s8.0.m4s\"\n"
 
+-- two broken segments have left the window; parts are listed of the last three segments and of the open one
+abbrev pub afternoon_text : List ℕ
+afternoon_text =
+    codes "#EXTM3U\n"
+    ++ codes "#EXT-X-VERSION:9\n"
+    ++ codes "#EXT-X-TARGETDURATION:1\n"
+    ++ codes "#EXT-X-SERVER-CONTROL:CAN-BLOCK-RELOAD=YES,PART-HOLD-BACK=3.000000,CAN-SKIP-UNTIL=6.000000\n"
+    ++ codes "#EXT-X-PART-INF:PART-TARGET=1.000000\n"
+    ++ codes "#EXT-X-MEDIA-SEQUENCE:42\n"
+    ++ codes "#EXT-X-DISCONTINUITY-SEQUENCE:2\n"
+    ++ codes "#EXT-X-MAP:URI=\"init2.mp4\"\n"
+    ++ codes "#EXT-X-PROGRAM-DATE-TIME:2026-03-07T15:04:07.250Z\n"
+    ++ codes "#EXTINF:1.000000,\n"
+    ++ codes "s42.m4s\n"
+    ++ codes "#EXT-X-PROGRAM-DATE-TIME:2026-03-07T15:04:08.250Z\n"
+    ++ codes "#EXTINF:1.000000,\n"
+    ++ codes "s43.m4s\n"
+    ++ codes "#EXT-X-PROGRAM-DATE-TIME:2026-03-07T15:04:09.250Z\n"
+    ++ codes "#EXTINF:1.000000,\n"
+    ++ codes "s44.m4s\n"
+    ++ codes "#EXT-X-DISCONTINUITY\n"
+    ++ codes "#EXT-X-MAP:URI=\"init3.mp4\"\n"
+    ++ codes "#EXT-X-PROGRAM-DATE-TIME:2026-03-07T15:04:10.250Z\n"
+    ++ codes "#EXTINF:1.000000,\n"
+    ++ codes "s45.m4s\n"
+    ++ codes "#EXT-X-PROGRAM-DATE-TIME:2026-03-07T15:04:11.250Z\n"
+    ++ codes "#EXTINF:1.000000,\n"
+    ++ codes "s46.m4s\n"
+    ++ codes "#EXT-X-PROGRAM-DATE-TIME:2026-03-07T15:04:12.250Z\n"
+    ++ codes "#EXTINF:1.000000,\n"
+    ++ codes "s47.m4s\n"
+    ++ codes "#EXT-X-PROGRAM-DATE-TIME:2026-03-07T15:04:13.250Z\n"
+    ++ codes "#EXT-X-PART:DURATION=1.000000,URI=\"s48.0.m4s\"\n"
+    ++ codes "#EXTINF:1.000000,\n"
+    ++ codes "s48.m4s\n"
+    ++ codes "#EXT-X-PROGRAM-DATE-TIME:2026-03-07T15:04:14.250Z\n"
+    ++ codes "#EXT-X-PART:DURATION=1.000000,URI=\"s49.0.m4s\"\n"
+    ++ codes "#EXTINF:1.000000,\n"
+    ++ codes "s49.m4s\n"
+    ++ codes "#EXT-X-PROGRAM-DATE-TIME:2026-03-07T15:04:15.250Z\n"
+    ++ codes "#EXT-X-PART:DURATION=1.000000,URI=\"s50.0.m4s\"\n"
+    ++ codes "#EXTINF:1.000000,\n"
+    ++ codes "s50.m4s\n"
+    ++ codes "#EXT-X-PROGRAM-DATE-TIME:2026-03-07T15:04:16.250Z\n"
+    ++ codes "#EXT-X-PART:DURATION=0.500000,URI=\"s51.0.m4s\",INDEPENDENT=YES\n"
+    ++ codes "#EXT-X-PART:DURATION=0.250000,URI=\"s51.1.m4s\"\n"
+    ++ codes "#EXT-X-RENDITION-REPORT:URI=\"../lo/live.m3u8\",LAST-MSN=40,LAST-PART=1\n"
+    ++ codes "#EXT-X-PRELOAD-HINT:TYPE=PART,URI=\"s51.2.m4s\"\n"
+
+abbrev pub ends_open_text : List ℕ
+ends_open_text =
+    header_text
+    ++ codes "#EXT-X-MAP:URI=\"init0.mp4\"\n"
+    ++ codes "#EXT-X-PROGRAM-DATE-TIME:1970-01-01T00:00:00.000Z\n"
+    ++ codes "#EXT-X-PART:DURATION=1.000000,URI=\"s0.0.m4s\",INDEPENDENT=YES\n"
+    ++ codes "#EXT-X-PART:DURATION=0.500000,URI=\"s0.1.m4s\"\n"
+    ++ codes "#EXTINF:1.500000,\n"
+    ++ codes "s0.m4s\n"
+    ++ codes "#EXT-X-ENDLIST\n"
+
 pub record WorkedPlaylists : Type 0 where
   -- the settings of the first three examples are those that a line spells
   pub settings :
@@ -201,3 +289,5 @@ pub record WorkedPlaylists : Type 0 where
   pub delta_update : delta_text Yes (seen short_segments eight_seconds 0) ≡ delta_update_text
   pub open_segment : text_after two_renditions mixed_parts 1 ≡ open_segment_text
   pub has_ended : text_after two_renditions mixed_parts 0 ≡ ended_text
+  pub afternoon : text_after afternoon afternoon_parts 0 ≡ afternoon_text
+  pub ends_open : text_after whole_seconds ends_open 0 ≡ ends_open_text
