@@ -1,4 +1,4 @@
--- A chain of tests names no fault just where each test fails, which is one fact of the law.
+-- A chain of tests names no fault exactly when each test fails, which is one fact of the law.
 use Rattle.std.proofs.Common.{◌≡◌, None, arith}
 use Rattle.std.proofs.lemmas.Bool.Decides.{nat_tests}
 use Rattle.ll_item.specs.Settings.{Configuration, IsWithin, limit_broken}
@@ -13,6 +13,7 @@ within c h = record {
   window_low = grind (arith, nat_tests);
   window_high = grind (arith, nat_tests);
   channel_named = grind (arith, nat_tests);
+  channel_short = grind (arith, nat_tests);
   renditions_named = grind (arith, nat_tests);
   some_rendition = grind (arith, nat_tests);
   few_renditions = grind (arith, nat_tests);

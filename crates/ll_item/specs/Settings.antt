@@ -58,13 +58,16 @@ pub record IsWithin (c : Configuration) : Type 0 where
   pub window_low : c.skip + 3 * c.target ≤ c.window
   pub window_high : c.window ≤ 86400
   pub channel_named : is_name c.channel ≡ true
+  pub channel_short : length c.channel ≤ 32
   pub renditions_named : are_names c.renditions ≡ true
   pub some_rendition : 1 ≤ length c.renditions
   pub few_renditions : length c.renditions ≤ 8
-  pub first_high : c.first ≤ number_end
-  pub start_high : c.start ≤ last_milli
+  -- 2^60
+  pub first_high : c.first ≤ 1152921504606846976
+  -- the last millisecond of the year 9999
+  pub start_high : c.start ≤ 253402300799999
 
--- a configuration breaks no limit just where each of them holds
+-- a configuration breaks no limit exactly when each of them holds
 abbrev pub LimitsLaw : Type 0
 LimitsLaw = (c : Configuration) → (limit_broken c ≡ None → IsWithin c) × (IsWithin c → limit_broken c ≡ None)
 
