@@ -1,9 +1,9 @@
 #!/usr/bin/env bash
-# apply.sh [SEGMENTS..]: puts a delta update upon a playlist that shows so many segments (100 and 20,000 where none are given;
+# apply.sh [SEGMENTS..]: applies a delta update to a playlist that shows so many segments (100 and 20,000 where none are given;
 # 9 to 86,400), each of one part of a second. The update is 4 segments younger, and skips all but its last 7. For each number
 # it prints the bytes per second of `llhls apply`, the bytes of both files, and their ratio to the first number's; then the
 # peak memory, and the memory that a byte takes. Times are the median of RUNS runs (99 where it isn't set), less that of as
-# many runs that put a playlist without segments upon itself, which is the start of the program, each before one of the
+# many runs that apply a playlist without segments to itself, which is the start of the program, each before one of the
 # others; after them stand the slower and the faster quartile. Memory is a median too, and for a byte less that of the
 # start. With few segments the start outweighs the rest, and the numbers say little. It judges nothing.
 set -eu

@@ -1,6 +1,6 @@
 #!/usr/bin/env bash
 # refused_memory.sh [ROW..]: for each row, refuses the Nth allocation of the program, for N from 1 until a run meets no
-# refusal. A run that meets one ends with status 4 and `llhls: Memory`, and has written a front of the row's output; or it
+# refusal. A run that meets one ends with status 4 and `llhls: Memory`, and has written a prefix of the row's output; or it
 # ends as the row does, where what was refused is not needed for the answer, as for a list that is refused anyway. The
 # last run ends as the row does. A row of tests/apply is named apply/NAME. Where the texts of such a row have a fault, Memory
 # comes only of the program's arguments and of reading the files: no run ends in it after one that ended in the fault. It
