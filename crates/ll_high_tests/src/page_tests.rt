@@ -1,4 +1,3 @@
-use ll_attr::{AttrList, Text};
 use ll_item::{Item, Settings};
 use ll_page::{Rendition, SkipKind, View, delta, full};
 use ll_range::Ranges;
@@ -72,81 +71,103 @@ const SKIPPED: &str = "#EXTM3U\n\
     s7.m4s\n\
     #EXT-X-ENDLIST\n";
 
-/// The settings, an ended rendition of a date range and no parts, and that of the items of `BROKEN`.
-fn renditions(alloc: Global) -> Result<(Settings, Vec<Rendition>), Fail> {
-    let line =
-        "channel cam target=4 part=1000000 skip=24 window=36 renditions=hi,lo first=0 start=0";
+/// Two renditions, of which the first has ended.
+const TWO: &str =
+    "channel cam target=4 part=1000000 skip=24 window=36 renditions=hi,lo first=0 start=0";
+
+const TWO_ITEMS: &[&str] = &[
+    "part lo 999999 if",
+    "break lo",
+    "part lo 1000000 -",
+    "range hi ID=\"ad 1\",START-DATE=\"1970-01-01T00:00:00Z\",DURATION=1.5",
+    "end hi",
+];
+
+/// Segments of a second, of which delta updates skip those that have more than 6 s after them.
+const ONE: &str = "channel cam target=1 part=1000000 skip=6 window=9 renditions=hi first=0 start=0";
+
+const ONE_ITEMS: &[&str] = &[
+    "part hi 1000000 f",
+    "part hi 1000000 f",
+    "part hi 1000000 f",
+    "part hi 1000000 f",
+    "part hi 1000000 f",
+    "part hi 1000000 f",
+    "part hi 1000000 f",
+    "part hi 1000000 f",
+    "end hi",
+];
+
+/// The settings that a line spells, and what is kept of their renditions after these items.
+fn channel(alloc: Global, line: &str, items: &[&str]) -> Result<(Settings, Vec<Rendition>), Fail> {
     let settings = Settings::read(alloc, line)?;
-    let mut broken = Window::new(alloc, &settings)?;
-    broken.push(Item::Part {
-        rendition: 1,
-        duration: 999_999,
-        independent: true,
-        finish: true,
-    })?;
-    broken.push(Item::Break { rendition: 1 })?;
-    broken.push(Item::Part {
-        rendition: 1,
-        duration: 1_000_000,
-        independent: false,
-        finish: false,
-    })?;
-    let mut ended = Window::new(alloc, &settings)?;
-    ended.push(Item::End { rendition: 0 })?;
-    let mut ranges = Ranges::new(alloc, &settings);
-    let attributes = AttrList::parse(alloc, "START-DATE=\"1970-01-01T00:00:00Z\",DURATION=1.5")?;
-    ranges.add(0, Text::from_str(alloc, "ad 1")?, attributes)?;
-    let ended = Rendition {
-        window: ended,
-        ranges,
-    };
-    let broken = Rendition {
-        window: broken,
-        ranges: Ranges::new(alloc, &settings),
-    };
-    let renditions = vec![in alloc; ended, broken]?;
+    let mut renditions = Vec::new(alloc);
+    for _ in settings.renditions() {
+        let window = Window::new(alloc, &settings)?;
+        let ranges = Ranges::new(alloc, &settings);
+        renditions.push(Rendition { window, ranges })?;
+    }
+    for item in items {
+        let item = Item::read(alloc, &settings, item)?;
+        let kept = renditions.get_mut(item.rendition()).ok_or("the rendition")?;
+        push(kept, item)?;
+    }
     Ok((settings, renditions))
+}
+
+/// Adds an item.
+fn push(kept: &mut Rendition, item: Item) -> Result<(), Fail> {
+    let end = kept.window.end_time();
+    match item {
+        Item::Range { id, attributes, .. } => Ok(kept.ranges.add(end, id, attributes)?),
+        item => Ok(kept.window.push(item)?),
+    }
 }
 
 #[test]
 fn playlists_of_views_are_written(rt: HostRuntime) -> Result<(), Fail> {
-    let (settings, renditions) = renditions(rt.alloc())?;
-    assert_eq!(rt; View::new(&settings, &renditions, 2, 9).is_none(), true);
-    for (rendition, ranges, segments, text) in [(0, 1, 0, ENDED), (1, 0, 1, BROKEN)] {
+    for (line, items, rendition, skip, text) in [
+        (TWO, TWO_ITEMS, 0, None, ENDED),
+        (TWO, TWO_ITEMS, 1, None, BROKEN),
+        (TWO, TWO_ITEMS, 0, Some(SkipKind::Yes), ENDED),
+        (TWO, TWO_ITEMS, 1, Some(SkipKind::V2), BROKEN),
+        (ONE, ONE_ITEMS, 0, Some(SkipKind::Yes), SKIPPED),
+        (ONE, ONE_ITEMS, 0, Some(SkipKind::V2), SKIPPED),
+    ] {
+        let (settings, renditions) = channel(rt.alloc(), line, items)?;
         let view = View::new(&settings, &renditions, rendition, 9).ok_or("the rendition")?;
-        assert_eq!(rt; view.rendition(), rendition);
-        assert_eq!(rt; view.count(), 9);
-        assert_eq!(rt; view.settings().channel(), "cam");
-        assert_eq!(rt; view.window().segment_count(), segments);
-        assert_eq!(rt; view.ranges().count(), ranges);
-        assert_eq!(rt; view.renditions().len(), 2);
-        assert_eq!(rt; full(rt.alloc(), &view)?.as_str(), text);
-        for kind in [SkipKind::Yes, SkipKind::V2] {
-            assert_eq!(rt; delta(rt.alloc(), &view, kind)?.as_str(), text);
-        }
+        let written = match skip {
+            None => full(rt.alloc(), &view)?,
+            Some(kind) => delta(rt.alloc(), &view, kind)?,
+        };
+        assert_eq!(rt; written.as_str(), text);
     }
     Ok(())
 }
 
+/// What a view tells: its rendition, its count, the channel, segments and date ranges of its rendition, and how many
+/// renditions there are.
+fn told<'a>(view: &View<'a>) -> (usize, u64, &'a str, usize, usize, usize) {
+    (
+        view.rendition(),
+        view.count(),
+        view.settings().channel(),
+        view.window().segment_count(),
+        view.ranges().count(),
+        view.renditions().len(),
+    )
+}
+
 #[test]
-fn delta_updates_skip_segments(rt: HostRuntime) -> Result<(), Fail> {
-    let line = "channel cam target=1 part=1000000 skip=6 window=9 renditions=hi first=0 start=0";
-    let settings = Settings::read(rt.alloc(), line)?;
-    let mut window = Window::new(rt.alloc(), &settings)?;
-    for _ in 0..8 {
-        window.push(Item::Part {
-            rendition: 0,
-            duration: 1_000_000,
-            independent: false,
-            finish: true,
-        })?;
-    }
-    window.push(Item::End { rendition: 0 })?;
-    let ranges = Ranges::new(rt.alloc(), &settings);
-    let renditions = vec![in rt.alloc(); Rendition { window, ranges }]?;
-    let view = View::new(&settings, &renditions, 0, 9).ok_or("the rendition")?;
-    for kind in [SkipKind::Yes, SkipKind::V2] {
-        assert_eq!(rt; delta(rt.alloc(), &view, kind)?.as_str(), SKIPPED);
+fn views_are_of_one_rendition(rt: HostRuntime) -> Result<(), Fail> {
+    let (settings, renditions) = channel(rt.alloc(), TWO, TWO_ITEMS)?;
+    for (rendition, wanted) in [
+        (0, Some((0, 9, "cam", 0, 1, 2))),
+        (1, Some((1, 9, "cam", 1, 0, 2))),
+        (2, None),
+    ] {
+        let view = View::new(&settings, &renditions, rendition, 9);
+        assert_eq!(rt; view.as_ref().map(told), wanted);
     }
     Ok(())
 }

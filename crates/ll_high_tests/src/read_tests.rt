@@ -1,4 +1,4 @@
-use ll_read::{ReadFault, read};
+use ll_read::{Outline, ReadFault, read, read_outline};
 use std::alloc::Global;
 use std::process::Abort;
 use std::test::Fail;
