@@ -4,6 +4,8 @@
 #[cfg(test)]
 mod apply_tests;
 #[cfg(test)]
+mod fault_tests;
+#[cfg(test)]
 mod page_tests;
 #[cfg(test)]
 mod read_table_tests;

@@ -64,9 +64,8 @@ fn expect_written(
 ) -> Result<(), Fail> {
     let playlist = read(alloc, text.as_bytes())?;
     let written = playlist.write(alloc)?;
-    assert_eq!(rt; written.as_str(), again);
-    assert_eq!(rt; playlist.outline(), outline);
-    assert_eq!(rt; read_outline(text.as_bytes()), outline);
+    let outlines = (playlist.outline(), read_outline(text.as_bytes()));
+    assert_eq!(rt; (written.as_str(), outlines), (again, (outline, outline)));
     Ok(())
 }
 
