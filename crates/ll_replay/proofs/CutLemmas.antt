@@ -1,5 +1,5 @@
 -- A stream one byte on: what it stands for, and what a fault there says of the whole script.
-use Rattle.std.proofs.Common.{◌≡◌, ◌≢◌, ℕ, ◌+◌, ◌<◌, List, [], ◌∷◌, ◌++◌, Option, Some, option_map, Result, Ok, Err, IsErrOf, IfErr, IsErrAnd, refl, ap, ◌∙◌, sym, subst, length, arith, append_assoc, append-nil, length-append, ◌==◌, true, false}
+use Rattle.std.proofs.Common.{◌≡◌, ◌≢◌, ℕ, ◌+◌, ◌<◌, ◌≤◌, List, [], ◌∷◌, ◌++◌, Option, Some, option_map, Result, Ok, Err, IsErrOf, IfErr, IsErrAnd, refl, ap, ◌∙◌, sym, subst, length, arith, append_assoc, append-nil, length-append, ◌==◌, true, false}
 use Rattle.std.proofs.lemmas.Bool.Decides.{nat_tests}
 use Rattle.std.specs.Str.Lines.{strip_carriage_return}
 use Rattle.ll_replay.specs.declared.outcome.RunFault.{RunFault}
@@ -10,9 +10,10 @@ use Rattle.ll_replay.specs.World.{World, BadLine, LineTooLong, line, summary_of}
 use Rattle.ll_replay.specs.Stream.{StandsFor, IsCutAt, IsWhole, Wrote, WroteFront, world_of, world_so_far, open_line}
 use Rattle.ll_replay.proofs.StreamLemmas.{world_so_far-other, world_so_far-end, open_line-other, open_line-end, world_of-ended, script-front, world_of-too_long, world_of-all_ended, world_of-last_open}
 
-pub StandsFor-other : (held : List ℕ) (kept : Kept) (base written : Option (List ℕ)) (bytes : List ℕ) (b : ℕ) → b ≢ 10
+pub StandsFor-other : (held : List ℕ) (kept : Kept) (base written : Option (List ℕ)) (bytes : List ℕ) (b : ℕ) → b ≢ 10 → length held ≤ 65536
     → StandsFor held kept base written bytes → StandsFor (held ++ b ∷ []) kept base written (bytes ++ b ∷ [])
-StandsFor-other held kept base written bytes b h s = record {
+StandsFor-other held kept base written bytes b h short s = record {
+  fits = simp length-append (omega arith);
   holds = ap (λ r. r ++ b ∷ []) s.holds ∙ sym (open_line-other bytes b h);
   stands = subst (λ (w : World). Stands kept base written w) (sym (world_so_far-other bytes b h)) s.stands;
 }
@@ -27,6 +28,7 @@ pub StandsFor-line_end : (held text : List ℕ) (kept kept' : Kept) (base writte
     → (Stands kept base written (world_so_far bytes) → Stands kept' base after (line (world_so_far bytes) text))
     → StandsFor [] kept' base after (bytes ++ b ∷ [])
 StandsFor-line_end held text kept kept' base written after bytes b h t s next = record {
+  fits = omega arith;
   holds = sym (open_line-end bytes b h);
   stands = subst (λ (w : World). Stands kept' base after w) (sym (world_so_far-line_end held text kept base written bytes b h t s)) (next s.stands);
 }
@@ -81,11 +83,11 @@ IsCutAt-memory held kept base written bytes more s =
 pub IsCutAt-too_long : (held : List ℕ) (kept : Kept) (base written : Option (List ℕ)) (bytes : List ℕ) (b : ℕ) (more : List ℕ) → b ≢ 10 → 65536 < length held
     → StandsFor held kept base written bytes → IsCutAt base written (world_of (bytes ++ b ∷ more)) (fault.LineTooLong (kept.lines + 1))
 IsCutAt-too_long held kept base written bytes b more h long s =
-    let s' = StandsFor-other held kept base written bytes b h s in
-    let longer : 65537 < length (open_line (bytes ++ b ∷ [])) = rw (← s'.holds, length-append) (omega arith) in
-    let p = world_of-too_long (bytes ++ b ∷ []) more s'.stands.goes_on longer in
+    let stands : Stands kept base written (world_so_far (bytes ++ b ∷ [])) = subst (λ (w : World). Stands kept base written w) (sym (world_so_far-other bytes b h)) s.stands in
+    let longer : 65537 < length (open_line (bytes ++ b ∷ [])) = rw (open_line-other bytes b h, ← s.holds, length-append) (omega arith) in
+    let p = world_of-too_long (bytes ++ b ∷ []) more stands.goes_on longer in
     subst (λ (bs : List ℕ). IsCutAt base written (world_of bs) (fault.LineTooLong (kept.lines + 1))) (append_assoc bytes (b ∷ []) more)
-    (p.0 ∙ ap (λ n. Some (LineTooLong (n + 1))) (sym (ap (λ (k : Kept). k.lines) s'.stands.stands)), s'.stands.wrote ∙ ap (λ t. option_map (λ x. x ++ t) base) (sym p.1))
+    (p.0 ∙ ap (λ n. Some (LineTooLong (n + 1))) (sym (ap (λ (k : Kept). k.lines) stands.stands)), stands.wrote ∙ ap (λ t. option_map (λ x. x ++ t) base) (sym p.1))
 
 -- a fault that is handed on
 pub IfErr-handed : {X : Type 0} (P : RunFault → Type 0) (r : Result X RunFault) (f : RunFault) → IsErrAnd r (λ y. y ≡ f) → P f → IfErr r P

@@ -6,7 +6,7 @@ use Rattle.std.proofs.lemmas.Result.{IfErr-at_err, IfOk-weaker}
 use Rattle.ll_replay.specs.declared.outcome.RunFault.{RunFault}
 use Rattle.ll_replay.specs.declared.outcome.Summary.{Summary}
 use Rattle.ll_replay.specs.Kept.{Kept}
-use Rattle.ll_replay.specs.Stream.{StandsFor, StopsAfter, IsCutAt, IsWhole, IsNothing, world_of}
+use Rattle.ll_replay.specs.Stream.{StandsFor, StopsAfter, IsCutAt, IsWhole, IsNothing, open_line, world_of}
 
 -- these bytes were read between
 abbrev pub WasRead : (before after : Option (List ℕ)) → List ℕ → Type 0
@@ -35,7 +35,9 @@ WasRead-some before mid (Some more) bytes piece input p q e =
 
 pub StopsAfter-now : (held : List ℕ) (kept : Kept) (base written before left after : Option (List ℕ)) (bytes : List ℕ)
     → StandsFor held kept base written bytes → WasRead before left bytes → after ≡ left → StopsAfter before after base written
-StopsAfter-now held kept base written before left after bytes s p e = (bytes, p ∙ ap (λ o. option_map (λ rest. bytes ++ rest) o) (sym e), s.stands.wrote)
+StopsAfter-now held kept base written before left after bytes s p e =
+    let fits : length (open_line bytes) ≤ 65537 = rw (← s.holds) s.fits in
+    (bytes, p ∙ ap (λ o. option_map (λ rest. bytes ++ rest) o) (sym e), s.stands.goes_on, fits, s.stands.wrote)
 
 -- at the end
 pub IsWhole-at_end : (r : Result Summary RunFault) (held : List ℕ) (kept : Kept) (base written after before left : Option (List ℕ)) (bytes input : List ℕ)

@@ -1,5 +1,5 @@
 -- A script as a stream of bytes. Its lines end in LF or CR LF; the last end may be missing.
-use Rattle.std.specs.Prelude.{◌≡◌, ◌≢◌, ◌≤◌, ℕ, ◌==◌, List, [], ◌∷◌, ◌++◌, Option, Some, None, option_map, fold, length, IsOk, ⊤}
+use Rattle.std.specs.Prelude.{◌≡◌, ◌≢◌, ◌≤◌, ◌+◌, ℕ, ◌==◌, List, [], ◌∷◌, ◌++◌, Option, Some, None, option_map, fold, length, IsOk, ⊤}
 use Rattle.std.specs.List.{slice_split}
 use Rattle.std.specs.Str.Lines.{lines, strip_carriage_return}
 use Rattle.ll_item.specs.Settings.{settings_in}
@@ -58,10 +58,12 @@ IsWhole base written input summary =
 abbrev pub EndsBy : Ending → Option (List ℕ) → Option (List ℕ) → List ℕ → Type 0
 EndsBy ending base written input = ((world_of input).ending ≡ Some ending) × Wrote base written (script input)
 
--- a run stopped after some bytes, of which each line that LF ends was run since base
+-- a run stopped after some bytes, of which each line that LF ends was run since base; none of these ends the script, and the
+-- line after them isn't longer than the longest with its CR
 abbrev pub StopsAfter : (before after base written : Option (List ℕ)) → Type 0
 StopsAfter before after base written =
-    (bytes : List ℕ) × (before ≡ option_map (λ rest. bytes ++ rest) after) × Wrote base written (world_so_far bytes).text
+    (bytes : List ℕ) × (before ≡ option_map (λ rest. bytes ++ rest) after) × ((world_so_far bytes).ending ≡ None)
+    × (length (open_line bytes) ≤ line_end + 1) × Wrote base written (world_so_far bytes).text
 
 -- a line that may want memory: it isn't too long, and it means something, or else it spells settings (which take memory
 -- before their place is looked at)
@@ -92,6 +94,7 @@ IsCutAt base written w fault.Endless = ⊥
 -- a stream stands for the bytes so far: it holds the bytes after the last LF, and its driver what the ended lines come to
 pub record StandsFor (held : List ℕ) (kept : Kept) (base written : Option (List ℕ)) (bytes : List ℕ) : Type 0 where
   pub holds : held ≡ open_line bytes
+  pub fits : length held ≤ 65537
   pub stands : Stands kept base written (world_so_far bytes)
 
 -- a fault of an act: an answer was written in part or not at all

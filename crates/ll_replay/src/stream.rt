@@ -165,6 +165,7 @@ pub fn run<R: Reader, W: Writer>(
     ensures steady { OnOk result ((R.failures reader.new ≡ R.failures reader.old) × (W.failures writer.new ≡ W.failures writer.old)) }
     ensures read_failed { IsErrOf result RunFault.Read → R.failures reader.old < R.failures reader.new }
     ensures write_failed { IsErrOf result RunFault.Write → W.failures writer.old < W.failures writer.new }
+    ensures few_reads { R.reads reader.new ≤ R.reads reader.old + 2 ^ 32 }
     ensures endless { IsErrOf result RunFault.Endless → R.reads reader.new ≡ R.reads reader.old + 2 ^ 32 }
 {
     let mut stream = Stream::new(alloc);
