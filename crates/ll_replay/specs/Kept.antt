@@ -1,5 +1,6 @@
--- What a driver keeps in place of all events.
-use Rattle.std.specs.Prelude.{◌≡◌, ℕ, List, ◌++◌, Option, None, length, map, min, option_map, sum_by}
+-- For private contracts: what a driver keeps in place of all events.
+use Rattle.std.specs.Prelude.{◌≡◌, ℕ, List, Option, None, length, map, min, sum_by}
+use Rattle.std.specs.Io.KnownBytes.{Appends}
 use Rattle.ll_item.specs.Settings.{Configuration}
 use Rattle.ll_page.specs.View.{renditions}
 use Rattle.ll_page.specs.declared.rendition.Rendition.{Rendition}
@@ -43,7 +44,7 @@ kept w = record {
 pub record Stands (driver : Kept) (base written : Option (List ℕ)) (w : World) : Type 0 where
   pub stands : driver ≡ kept w
   pub goes_on : w.ending ≡ None
-  pub wrote : written ≡ option_map (λ b. b ++ w.text) base
+  pub wrote : Appends base written w.text
 
 abbrev pub settings_kept : List KeptChannel → List Configuration
 settings_kept channels = map (λ (c : KeptChannel). c.settings) channels

@@ -1,15 +1,15 @@
 //! Takes the lines of a script, one after another.
-ghost use Rattle.std.specs.Prelude.{◌≡◌, ◌≢◌, ◌<◌, ◌+◌, ◌-◌, ◌^◌, ◌++◌, ◌∷◌, [], ℕ, List, Option, Some, None, Ok, Err, IfOk, MatchOption, IfSome, IfNone, OnOk, OnErr, IfErr, IsErrOf, IsOk, ◌≤◌, length, slice_get, slice_set, string_bytes};
-ghost use Rattle.ll_replay.specs.World.{World, start, line, summary_of, wanted_text, Ending};
+ghost use Rattle.std.specs.Prelude.{◌≡◌, ◌≢◌, ◌<◌, ◌≤◌, ◌+◌, ◌-◌, ◌^◌, ◌++◌, ℕ, List, Option, Some, IfOk, MatchOption, OnOk, OnErr, IfErr, IsErrOf, length, slice_get, slice_set, string_bytes};
+ghost use Rattle.std.specs.Io.KnownBytes.{Appends};
+ghost use Rattle.ll_replay.specs.World.{World, start, line, summary_of, wanted_text};
 ghost use Rattle.ll_replay.specs.World as world;
 ghost use Rattle.ll_replay.specs.Events.{items, refusal, full_by};
 ghost use Rattle.ll_replay.specs.Events as events;
 ghost use Rattle.ll_replay.specs.Answers as answers;
 ghost use Rattle.ll_replay.specs.Answers.{told};
-ghost use Rattle.ll_replay.specs.Kept.{Stands, kept, kept_channel, settings_kept};
-ghost use Rattle.ll_replay.specs.Lines.{acts};
-ghost use Rattle.ll_item.specs.Settings.{settings_in};
-ghost use Rattle.ll_replay.specs.Stream.{Wrote, WroteFront, IsBroken, IsDevice};
+ghost use Rattle.ll_replay.specs.Kept.{Stands, kept, kept_channel};
+ghost use Rattle.ll_replay.specs.Cuts.{IsCutBetween};
+ghost use Rattle.ll_replay.specs.Stream.{AppendsPrefix};
 
 use crate::act::{Act, Want};
 use crate::answers::{no_line, ok_line, text_reply, unavailable_reply};
@@ -24,7 +24,7 @@ use std::alloc::{AllocError, Global};
 use std::marker::Model;
 
 /// The most bytes of a line, without its end.
-const LINE_END: usize = 65_536;
+pub(crate) const LONGEST_LINE: usize = 65_536;
 
 /// The channels of a script, and what was counted.
 #[derive(Debug, Drop)]
@@ -88,24 +88,13 @@ impl Driver {
         ensures ok { OnOk result ((w : World) (base : Option (List ℕ)) → Stands self.old base (W.written writer.old) w
             → Stands self.new base (W.written writer.new) (line w text.now)) }
         ensures lines { OnOk result (self.new.lines ≡ self.old.lines + 1) }
-        ensures bad_line { (n : ℕ) → IsErrOf result (RunFault.BadLine n) → (w : World) (base : Option (List ℕ)) → Stands self.old base (W.written writer.old) w
-            → ((line w text.now).ending ≡ Some (world.BadLine n)) × Wrote base (W.written writer.new) (line w text.now).text }
-        ensures too_long { (n : ℕ) → IsErrOf result (RunFault.LineTooLong n) → (w : World) (base : Option (List ℕ)) → Stands self.old base (W.written writer.old) w
-            → ((line w text.now).ending ≡ Some (world.LineTooLong n)) × Wrote base (W.written writer.new) (line w text.now).text }
-        ensures write { IsErrOf result RunFault.Write → (w : World) (base : Option (List ℕ)) → Stands self.old base (W.written writer.old) w
-            → WroteFront base (W.written writer.new) (line w text.now).text }
-        ensures memory { IsErrOf result RunFault.Memory → (w : World) (base : Option (List ℕ)) → Stands self.old base (W.written writer.old) w
-            → WroteFront base (W.written writer.new) (line w text.now).text }
-        ensures memory_line { IsErrOf result RunFault.Memory → (length text.now ≤ 65536)
-            × (acts (settings_kept self.old.channels) self.old.last_id text.now ≡ None → IsOk (settings_in text.now)) }
-        ensures silent { IsErrOf result RunFault.Memory → W.written writer.new ≡ W.written writer.old }
-        ensures not_read { result ≢ Err RunFault.Read }
-        ensures not_endless { result ≢ Err RunFault.Endless }
+        ensures cut { IfErr result (λ f. (w : World) (base : Option (List ℕ)) → Stands self.old base (W.written writer.old) w
+            → IsCutBetween base (W.written writer.new) w (line w text.now) f) }
         ensures steady { OnOk result (W.failures writer.new ≡ W.failures writer.old) }
         ensures write_failed { IsErrOf result RunFault.Write → W.failures writer.old < W.failures writer.new }
     {
         let line = self.lines + 1;
-        if text.len() > LINE_END {
+        if text.len() > LONGEST_LINE {
             return Err(RunFault::LineTooLong { line });
         }
         self.lines = line;
@@ -123,9 +112,7 @@ impl Driver {
             → Stands self.new base (W.written writer.new) (world.act w act)) }
         ensures lines { OnOk result (self.new.lines ≡ self.old.lines) }
         ensures cut { IfErr result (λ f. (w : World) (base : Option (List ℕ)) → Stands self.old base (W.written writer.old) w
-            → IsBroken base (W.written writer.new) (world.act w act).text f) }
-        ensures kind { IfErr result IsDevice }
-        ensures silent { IsErrOf result RunFault.Memory → W.written writer.new ≡ W.written writer.old }
+            → IsCutBetween base (W.written writer.new) w (world.act w act) f) }
         ensures steady { OnOk result (W.failures writer.new ≡ W.failures writer.old) }
         ensures write_failed { IsErrOf result RunFault.Write → W.failures writer.old < W.failures writer.new }
     {
@@ -250,8 +237,8 @@ fn ask_at(
 
 /// Writes an answer, where there is one.
 fn say<W: Writer>(answer: Option<String>, writer: &mut W) -> Result<(), RunFault>
-    ensures ok { OnOk result (Wrote (W.written writer.old) (W.written writer.new) (told answer)) }
-    ensures cut { OnErr result (WroteFront (W.written writer.old) (W.written writer.new) (told answer)) }
+    ensures ok { OnOk result (Appends (W.written writer.old) (W.written writer.new) (told answer)) }
+    ensures cut { OnErr result (AppendsPrefix (W.written writer.old) (W.written writer.new) (told answer)) }
     ensures kind { IfErr result (λ f. f ≡ RunFault.Write) }
     ensures steady { OnOk result (W.failures writer.new ≡ W.failures writer.old) }
     ensures write_failed { OnErr result (W.failures writer.old < W.failures writer.new) }

@@ -1,5 +1,5 @@
 //! What the lines of a script mean.
-ghost use Rattle.std.specs.Prelude.{◌≡◌, ◌∷◌, [], IfOk, IsErrOf, IsOk, MatchOption, MatchResult, None, Some, true, false, ℕ, List, Option};
+ghost use Rattle.std.specs.Prelude.{◌≡◌, ◌∷◌, [], IfOk, IsErrOf, IsSome, MatchOption, Ok, MatchResult, None, Some, is_some, true, false, ℕ, List, Option};
 ghost use Rattle.std.specs.List.{after_first, before_first, list_any};
 ghost use Rattle.std.specs.Str.{is_utf8};
 ghost use Rattle.std.specs.Option.{option_to_list};
@@ -7,7 +7,7 @@ ghost use Rattle.ll_attr.specs.Words.{words, parts_at};
 ghost use Rattle.ll_item.specs.Items.{item_in};
 ghost use Rattle.ll_item.specs.Settings.{Configuration, settings_in};
 ghost use Rattle.ll_replay.specs.Kept.{settings_kept};
-ghost use Rattle.ll_replay.specs.Lines.{WantsMemory, is_offer, is_question};
+ghost use Rattle.ll_replay.specs.Lines.{is_question};
 ghost use Rattle.ll_replay.specs.Lines as spec;
 
 use crate::act::{Act, Want};
@@ -37,7 +37,7 @@ pub(crate) fn read_line(
 ) -> Result<Option<Act>, Unread>
     ensures act { IfOk result (λ a. spec.acts (settings_kept channels.now) last line.now ≡ Some (option_to_list a)) }
     ensures bad { IsErrOf result Unread.BadLine → spec.acts (settings_kept channels.now) last line.now ≡ None }
-    ensures memory { IsErrOf result Unread.Memory → WantsMemory (settings_kept channels.now) last line.now }
+    ensures memory { IsErrOf result Unread.Memory → IsSome (spec.acts (settings_kept channels.now) last line.now) }
 {
     match str::from_utf8(line) {
         Ok(text) => read_text(alloc, channels, last, text),
@@ -70,7 +70,7 @@ fn read_text(
 ) -> Result<Option<Act>, Unread>
     ensures act { IfOk result (λ a. spec.acts (settings_kept channels.now) last line.now ≡ Some (option_to_list a)) }
     ensures bad { IsErrOf result Unread.BadLine → spec.acts (settings_kept channels.now) last line.now ≡ None }
-    ensures memory { IsErrOf result Unread.Memory → WantsMemory (settings_kept channels.now) last line.now }
+    ensures memory { IsErrOf result Unread.Memory → IsSome (spec.acts (settings_kept channels.now) last line.now) }
 {
     if line.is_empty() || line.starts_with('#') {
         return Ok(None);
@@ -106,7 +106,6 @@ fn find<'a>(channels: &'a [Channel], name: &str) -> Option<(usize, &'a Settings)
 fn read_offer(alloc: Global, channels: &[Channel], text: &str) -> Result<Act, Unread>
     ensures act { IfOk result (λ a. a ≡ spec.offer (settings_kept channels.now) text.now) }
     ensures never_bad { IsErrOf result Unread.BadLine → ⊥ }
-    ensures memory { IsErrOf result Unread.Memory → is_offer (spec.offer (settings_kept channels.now) text.now) ≡ true }
 {
     let Some((name, line)) = text.split_once(' ') else {
         return Ok(Act::Refuse(Refusal::BadLine));
@@ -121,7 +120,6 @@ fn read_offer(alloc: Global, channels: &[Channel], text: &str) -> Result<Act, Un
 fn read_item(alloc: Global, place: usize, settings: &Settings, line: &str) -> Result<Act, Unread>
     ensures act { IfOk result (λ a. a ≡ spec.item_act place (item_in settings.now line.now)) }
     ensures never_bad { IsErrOf result Unread.BadLine → ⊥ }
-    ensures memory { IsErrOf result Unread.Memory → is_offer (spec.item_act place (item_in settings.now line.now)) ≡ true }
 {
     match Item::read(alloc, settings, line) {
         Ok(item) => Ok(Act::Offer { place, item }),
@@ -213,16 +211,33 @@ fn target_names(target: &str) -> Option<(&str, &str)>
 fn read_declaration(alloc: Global, channels: &[Channel], line: &str) -> Result<Option<Act>, Unread>
     ensures act { IfOk result (λ a. a ≡ spec.declaration (settings_kept channels.now) (settings_in line.now)) }
     ensures never_bad { IsErrOf result Unread.BadLine → ⊥ }
-    ensures memory { IsErrOf result Unread.Memory → IsOk (settings_in line.now) }
+    ensures memory { IsErrOf result Unread.Memory → IsSome (spec.declaration (settings_kept channels.now) (settings_in line.now)) }
 {
+    if is_declared(channels, line) {
+        return Ok(None);
+    }
     match Settings::read(alloc, line) {
-        Ok(settings) => {
-            if find(channels, settings.channel()).is_some() {
-                return Ok(None);
-            }
-            Ok(Some(Act::Declare(settings)))
-        }
+        Ok(settings) => Ok(Some(Act::Declare(settings))),
         Err(SettingsFault::Memory) => Err(Unread::Memory),
         Err(_) => Ok(None),
     }
+}
+
+/// Whether a settings line names a channel that is declared. It takes no memory.
+fn is_declared(channels: &[Channel], line: &str) -> bool
+    ensures { (c : Configuration) → settings_in line.now ≡ Ok c → result ≡ is_some (spec.channel_named (settings_kept channels.now) 0 c.channel) }
+{
+    match second_word(line) {
+        Some(name) => find(channels, name).is_some(),
+        None => false,
+    }
+}
+
+/// The second word of a line that has more; in a settings line it is the channel's name.
+fn second_word(line: &str) -> Option<&str>
+    ensures { (c : Configuration) → settings_in line.now ≡ Ok c → MatchOption result ⊥ (λ name. name.now ≡ c.channel) }
+{
+    let (_, rest) = cut(line, ' ')?;
+    let (name, _) = cut(rest, ' ')?;
+    Some(name)
 }

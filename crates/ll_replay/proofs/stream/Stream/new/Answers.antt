@@ -3,4 +3,4 @@ use Rattle.std.proofs.Common.{arith}
 use Rattle.ll_replay.proofs.stream.Stream.new.Goals as goal
 
 pub returns-clause-stands : goal.returns-clause-stands
-returns-clause-stands c base = record { holds = c.new-2.ensures.items; fits = rw c.new-2.ensures.items (omega arith); stands = c.new.ensures.stands base }
+returns-clause-stands c base = record { holds = c.new-2.ensures; fits = rw c.new-2.ensures (omega arith); stands = c.new.ensures.stands base }
