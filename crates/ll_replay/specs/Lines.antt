@@ -20,7 +20,7 @@ use Rattle.ll_replay.specs.declared.refusal.Refusal.TheVariants as refused
 -- the place of the channel of this name, and its settings; the first of these channels has this place
 abbrev pub channel_named : List Configuration → ℕ → List ℕ → Option (ℕ × Configuration)
 channel_named [] place name = None
-channel_named (c ∷ more) place name = if bytes_eq c.channel name then Some (place, c) else channel_named more (place + 1) name
+channel_named (c ∷ more) place name = if bytes_eq name c.channel then Some (place, c) else channel_named more (place + 1) name
 
 -- a comment or an empty line
 abbrev pub is_passed_over : List ℕ → Bool

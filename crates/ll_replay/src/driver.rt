@@ -13,13 +13,12 @@ ghost use Rattle.ll_replay.specs.Stream.{AppendsPrefix};
 
 use crate::act::{Act, Want};
 use crate::answers::{no_line, ok_line, text_reply, unavailable_reply};
-use crate::channel::Channel;
+use crate::channels::Channels;
 use crate::device::{Failed, Writer, write_all};
 use crate::outcome::{RunFault, Summary};
 use crate::reading::{Unread, read_line};
 use crate::refusal::Refusal;
-use ll_attr::Text;
-use ll_item::{Item, Settings};
+use ll_item::Item;
 use std::alloc::{AllocError, Global};
 use std::marker::Model;
 
@@ -27,10 +26,10 @@ use std::marker::Model;
 pub(crate) const LONGEST_LINE: usize = 65_536;
 
 /// The channels of a script, and what was counted.
-#[derive(Debug, Drop)]
+#[derive(Drop)]
 pub(crate) struct Driver {
     alloc: Global,
-    channels: Vec<Channel>,
+    channels: Channels,
     lines: u64,
     last_id: Option<u64>,
     events: u64,
@@ -42,7 +41,7 @@ impl Model for Driver {
 
     ghost Value = { Kept };
 
-    ghost view = { λ d. record { channels = d.channels.items; lines = d.lines; last_id = d.last_id; events = d.events; replies = d.replies } };
+    ghost view = { λ d. record { channels = d.channels; lines = d.lines; last_id = d.last_id; events = d.events; replies = d.replies } };
 }
 
 impl Driver {
@@ -53,7 +52,7 @@ impl Driver {
     {
         Driver {
             alloc,
-            channels: Vec::new(alloc),
+            channels: Channels::new(alloc),
             lines: 0,
             last_id: None,
             events: 0,
@@ -130,7 +129,7 @@ impl Driver {
     {
         match act {
             Act::Declare(settings) => {
-                self.channels.push(Channel::new(self.alloc, settings)?)?;
+                self.channels.declare(self.alloc, settings)?;
                 Ok(None)
             }
             Act::Offer { place, item } => self.offer(place, item),
@@ -148,7 +147,7 @@ impl Driver {
         if place >= self.channels.len() {
             return Ok(None);
         }
-        match publish_at(&mut self.channels, place, item) {
+        match self.channels.publish_at(place, item) {
             Ok(count) => {
                 self.events = self.events.saturating_add(1);
                 Ok(Some(ok_line(self.alloc, count)?))
@@ -166,7 +165,7 @@ impl Driver {
         if place >= self.channels.len() {
             return Ok(None);
         }
-        match ask_at(self.alloc, &mut self.channels, place, want) {
+        match self.channels.ask_at(self.alloc, place, want) {
             Ok(None) => Ok(None),
             Ok(Some(text)) => {
                 self.events = self.events.saturating_add(1);
@@ -201,38 +200,6 @@ fn unavailable(alloc: Global, id: u64, reason: Refusal) -> Result<String, AllocE
         return Err(AllocError);
     }
     unavailable_reply(alloc, id, reason)
-}
-
-/// Publishes an item to the channel at this place.
-fn publish_at(channels: &mut [Channel], place: usize, item: Item) -> Result<u64, Refusal>
-    requires { place < length channels.old }
-    ensures accepted { (c : world.Channel) → slice_get channels.old place ≡ Some (kept_channel c) → IfOk result (λ n.
-        (refusal c.settings c.events item ≡ None) × (n ≡ length (items c.events) + 1)
-        × (channels.new ≡ slice_set channels.old place (kept_channel (world.with_event (events.Publish item) c)))) }
-    ensures refused { (c : world.Channel) → slice_get channels.old place ≡ Some (kept_channel c) → IfErr result (λ r.
-        (r ≢ Refusal.Memory → refusal c.settings c.events item ≡ Some r) × (channels.new ≡ channels.old)) }
-{
-    channels[place].publish(item)
-}
-
-/// The text that is wanted of the channel at this place, where there is that rendition.
-fn ask_at(
-    alloc: Global,
-    channels: &mut [Channel],
-    place: usize,
-    want: Want,
-) -> Result<Option<Text>, Refusal>
-    requires { place < length channels.old }
-    ensures text { (c : world.Channel) → slice_get channels.old place ≡ Some (kept_channel c) → IfOk result (λ t. MatchOption t
-        ((length c.settings.renditions ≤ want.rendition) × (channels.new ≡ channels.old))
-        (λ text. (want.rendition < length c.settings.renditions) × (full_by c.events ≡ None)
-        × (text ≡ wanted_text c.settings (items c.events) want)
-        × (channels.new ≡ slice_set channels.old place (kept_channel (world.with_event (events.Ask want) c))))) }
-    ensures refused { (c : world.Channel) → slice_get channels.old place ≡ Some (kept_channel c) → IfErr result (λ r.
-        (r ≢ Refusal.Memory → (want.rendition < length c.settings.renditions) × (full_by c.events ≡ Some r))
-        × (channels.new ≡ channels.old)) }
-{
-    channels[place].ask(alloc, want)
 }
 
 /// Writes an answer, where there is one.

@@ -11,7 +11,7 @@ ghost use Rattle.ll_replay.specs.Lines.{is_question};
 ghost use Rattle.ll_replay.specs.Lines as spec;
 
 use crate::act::{Act, Want};
-use crate::channel::Channel;
+use crate::channels::Channels;
 use crate::refusal::Refusal;
 use ll_attr::{after, cut, parse_number};
 use ll_item::{Item, ItemFault, Settings, SettingsFault};
@@ -20,7 +20,7 @@ use std::alloc::Global;
 use std::str;
 
 /// Why a line makes nothing happen.
-#[derive(Clone, Copy, Debug, PartialEq, Eq)]
+#[derive(Clone, Copy)]
 pub(crate) enum Unread {
     /// No script has this line in its place.
     BadLine,
@@ -31,7 +31,7 @@ pub(crate) enum Unread {
 /// What a line makes happen; a line that is passed over, nothing.
 pub(crate) fn read_line(
     alloc: Global,
-    channels: &[Channel],
+    channels: &Channels,
     last: Option<u64>,
     line: &[u8],
 ) -> Result<Option<Act>, Unread>
@@ -64,7 +64,7 @@ fn read_bytes(line: &[u8]) -> Result<Option<Act>, Unread>
 /// What a line of UTF-8 makes happen.
 fn read_text(
     alloc: Global,
-    channels: &[Channel],
+    channels: &Channels,
     last: Option<u64>,
     line: &str,
 ) -> Result<Option<Act>, Unread>
@@ -88,29 +88,15 @@ fn read_text(
     }
 }
 
-/// The place of the channel of this name, and its settings.
-fn find<'a>(channels: &'a [Channel], name: &str) -> Option<(usize, &'a Settings)>
-    ensures { MatchOption result (spec.channel_named (settings_kept channels.now) 0 name.now ≡ None)
-        (λ f. spec.channel_named (settings_kept channels.now) 0 name.now ≡ Some (f.0, f.1.now)) }
-{
-    for (place, channel) in channels.iter().enumerate() {
-        let settings = channel.settings();
-        if settings.channel() == name {
-            return Some((place, settings));
-        }
-    }
-    None
-}
-
 /// A publisher's line.
-fn read_offer(alloc: Global, channels: &[Channel], text: &str) -> Result<Act, Unread>
+fn read_offer(alloc: Global, channels: &Channels, text: &str) -> Result<Act, Unread>
     ensures act { IfOk result (λ a. a ≡ spec.offer (settings_kept channels.now) text.now) }
     ensures never_bad { IsErrOf result Unread.BadLine → ⊥ }
 {
     let Some((name, line)) = text.split_once(' ') else {
         return Ok(Act::Refuse(Refusal::BadLine));
     };
-    let Some((place, settings)) = find(channels, name) else {
+    let Some((place, settings)) = channels.find(name) else {
         return Ok(Act::Refuse(Refusal::UnknownChannel));
     };
     read_item(alloc, place, settings, line)
@@ -131,7 +117,7 @@ fn read_item(alloc: Global, place: usize, settings: &Settings, line: &str) -> Re
 }
 
 /// A request, where its number rises and its target is there.
-fn read_get(channels: &[Channel], last: Option<u64>, text: &str) -> Option<Act>
+fn read_get(channels: &Channels, last: Option<u64>, text: &str) -> Option<Act>
     ensures { result ≡ spec.get_of (settings_kept channels.now) last (words text.now) }
 {
     let (id, target) = cut(text, ' ')?;
@@ -147,7 +133,7 @@ fn read_get(channels: &[Channel], last: Option<u64>, text: &str) -> Option<Act>
 }
 
 /// The place of the channel, and what a target wants of it.
-fn read_want(channels: &[Channel], target: &str) -> Option<(usize, Want)>
+fn read_want(channels: &Channels, target: &str) -> Option<(usize, Want)>
     ensures { result ≡ spec.want_in (settings_kept channels.now) target.now }
 {
     let Some((path, query)) = split_query(target) else {
@@ -185,11 +171,11 @@ fn read_skip(query: &str) -> Option<SkipKind>
 }
 
 /// The places of the channel and the rendition of `/CHANNEL/RENDITION/live.m3u8`.
-fn read_path(channels: &[Channel], path: &str) -> Option<(usize, usize)>
+fn read_path(channels: &Channels, path: &str) -> Option<(usize, usize)>
     ensures { result ≡ spec.target_of (settings_kept channels.now) (parts_at 47 path.now) }
 {
     let (channel, rendition) = target_names(path)?;
-    let (place, settings) = find(channels, channel)?;
+    let (place, settings) = channels.find(channel)?;
     Some((place, settings.rendition(rendition)?))
 }
 
@@ -208,7 +194,7 @@ fn target_names(target: &str) -> Option<(&str, &str)>
 }
 
 /// A new channel, whose name no other has.
-fn read_declaration(alloc: Global, channels: &[Channel], line: &str) -> Result<Option<Act>, Unread>
+fn read_declaration(alloc: Global, channels: &Channels, line: &str) -> Result<Option<Act>, Unread>
     ensures act { IfOk result (λ a. a ≡ spec.declaration (settings_kept channels.now) (settings_in line.now)) }
     ensures never_bad { IsErrOf result Unread.BadLine → ⊥ }
     ensures memory { IsErrOf result Unread.Memory → IsSome (spec.declaration (settings_kept channels.now) (settings_in line.now)) }
@@ -224,11 +210,11 @@ fn read_declaration(alloc: Global, channels: &[Channel], line: &str) -> Result<O
 }
 
 /// Whether a settings line names a channel that is declared. It takes no memory.
-fn is_declared(channels: &[Channel], line: &str) -> bool
+fn is_declared(channels: &Channels, line: &str) -> bool
     ensures { (c : Configuration) → settings_in line.now ≡ Ok c → result ≡ is_some (spec.channel_named (settings_kept channels.now) 0 c.channel) }
 {
     match second_word(line) {
-        Some(name) => find(channels, name).is_some(),
+        Some(name) => channels.find(name).is_some(),
         None => false,
     }
 }
