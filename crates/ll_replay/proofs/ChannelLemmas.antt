@@ -1,5 +1,5 @@
 -- A channel that is kept, and what it answers from it.
-use Rattle.std.proofs.Common.{◌≡◌, ◌≢◌, ℕ, ◌+◌, ◌<◌, ◌≤◌, List, [], ◌∷◌, ◌++◌, Bool, true, false, Option, Some, None, refl, ap, ap₂, sym, ◌∙◌, length, arith, cond, MatchOption, nat_le, nat_lt, length-append}
+use Rattle.std.proofs.Common.{◌≡◌, ◌≢◌, ℕ, ◌+◌, ◌<◌, ◌≤◌, List, [], ◌∷◌, ◌++◌, Bool, true, false, Some, None, refl, ap, ap₂, sym, ◌∙◌, length, arith, cond, MatchOption, nat_le, nat_lt, length-append}
 use Rattle.std.specs.Prelude.{slice_get, slice_set, fold, IfErr, IsErrOf, OnOk, Result, Ok, Err}
 use Rattle.std.proofs.lemmas.Bool.Decides.{nat_tests}
 use Rattle.ll_item.specs.Items.{rendition_of}

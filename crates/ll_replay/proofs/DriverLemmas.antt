@@ -1,6 +1,6 @@
 -- What a driver keeps goes on as the world does, act by act.
 use Rattle.std.proofs.Common.{◌≡◌, ◌≢◌, ℕ, ◌+◌, ◌<◌, ◌≤◌, List, [], ◌∷◌, ◌++◌, true, false, cond, Option, Some, None, refl, ap, ap₂, sym, ◌∙◌, length, length-append, map, min, nat_lt, get_or, arith, append-nil, subst, sum_by}
-use Rattle.std.specs.Prelude.{slice_get, slice_set, option_map, IfErr, OnErr, Result, Ok, Err, String}
+use Rattle.std.specs.Prelude.{slice_get, slice_set, option_map, IfErr, OnErr, OnOk, Result, Ok, Err, String}
 use Rattle.std.specs.declared.alloc.Global.{Global}
 use Rattle.std.proofs.lemmas.Bool.Decides.{nat_tests}
 use Rattle.std.proofs.lemmas.List.{map-set, length-map}
@@ -11,13 +11,17 @@ use Rattle.ll_replay.specs.declared.act.Want.{Want}
 use Rattle.ll_replay.specs.Answers.{no_line, ok_line, text_reply, unavailable_reply, told}
 use Rattle.ll_replay.specs.Events.{Event, Publish, Ask, items, refusal, full_by}
 use Rattle.ll_replay.specs.Kept.{Kept, KeptChannel, Stands, kept, kept_channel}
-use Rattle.ll_replay.specs.Stream.{IsBroken, WroteFront}
+use Rattle.ll_replay.specs.Cuts.{IsCutBetween}
+use Rattle.ll_replay.specs.Stream.{AppendsPrefix, StopsBetween}
 use Rattle.ll_replay.specs.World.{World, Channel, act, count_end, get_at, got, happens, offer_at, offered, wanted_text, with_event}
 use Rattle.ll_replay.specs.declared.act.Act.{Act}
 use Rattle.ll_replay.specs.declared.act.Act.TheVariants.{Offer, Get}
 use Rattle.ll_replay.specs.declared.outcome.RunFault.{RunFault}
 use Rattle.ll_replay.specs.declared.outcome.RunFault.TheVariants as fault
-use Rattle.ll_replay.proofs.WriteLemmas.{WroteFront-more}
+use Rattle.ll_replay.proofs.WorldLaws.{Follows, act-follows}
+use Rattle.ll_replay.proofs.WriteLemmas.{AppendsPrefix-after}
+use Rattle.std.proofs.KnownBytes.{Appends-trans}
+use Rattle.std.specs.Io.KnownBytes.{Appends}
 use Rattle.ll_replay.specs.declared.refusal.Refusal.{Refusal}
 use Rattle.ll_replay.specs.declared.refusal.Refusal.TheVariants as refused
 
@@ -178,12 +182,28 @@ get-refused w id place want ks ds new lines last events replies r line h same wi
       ap (λ (v : World). v.text) is ∙ ap (λ t. w.text ++ t) (sym told),
     )
 
--- a fault in writing the answer to an act
-pub cut-by-write : (new old : Kept) (a : Act) (answer : Option (String Global)) (r : Result Unit RunFault) (mid after : Option (List ℕ))
+-- an act whose answer was written
+pub act-said : (new old : Kept) (a : Act) (answer : Option (String Global)) (r : Result Unit RunFault) (mid after : Option (List ℕ))
     → ((w : World) → old ≡ kept w → (new ≡ kept (act w a)) × ((act w a).text ≡ w.text ++ told answer))
-    → IfErr r (λ f. f ≡ fault.Write) → OnErr r (WroteFront mid after (told answer))
-    → IfErr r (λ f. (w : World) (base : Option (List ℕ)) → Stands old base mid w → IsBroken base after (act w a).text f)
-cut-by-write new old a answer (Ok x) mid after steps kind front = tt
-cut-by-write new old a answer (Err f) mid after steps kind front = λ w base s.
-    let more = WroteFront-more base mid after w.text (told answer) (act w a).text (steps w s.stands).1 s.wrote front in
-    subst (IsBroken base after (act w a).text) (sym kind) more
+    → OnOk r (Appends mid after (told answer)) → OnOk r ((w : World) (base : Option (List ℕ)) → Stands old base mid w → Stands new base after (act w a))
+act-said new old a answer (Err f) mid after steps said = tt
+act-said new old a answer (Ok x) mid after steps said = λ w base s.
+    let is = steps w s.stands in record {
+      stands = is.0;
+      goes_on = (act-follows w a).2 ∙ s.goes_on;
+      wrote = subst (Appends base after) (sym is.1) (Appends-trans base mid after w.text (told answer) s.wrote said);
+    }
+
+-- a fault in writing the answer to an act
+pub act-cut : (new old : Kept) (a : Act) (answer : Option (String Global)) (r : Result Unit RunFault) (mid after : Option (List ℕ))
+    → ((w : World) → old ≡ kept w → (new ≡ kept (act w a)) × ((act w a).text ≡ w.text ++ told answer))
+    → IfErr r (λ f. f ≡ fault.Write) → OnErr r (AppendsPrefix mid after (told answer))
+    → IfErr r (λ f. (w : World) (base : Option (List ℕ)) → Stands old base mid w → IsCutBetween base after w (act w a) f)
+act-cut new old a answer (Ok x) mid after steps kind prefix = tt
+act-cut new old a answer (Err f) mid after steps kind prefix = λ w base s.
+    let more = AppendsPrefix-after base mid after w.text (told answer) (act w a).text (steps w s.stands).1 s.wrote prefix in
+    subst (IsCutBetween base after w (act w a)) (sym kind) more
+
+-- a run that stops before it says anything of what comes next
+pub stops-before : (k : Kept) (base written : Option (List ℕ)) (w v : World) → Stands k base written w → Follows w v → StopsBetween base written w v
+stops-before k base written w v s m = ([], m.0, m.1, subst (Appends base written) (sym (append-nil w.text)) s.wrote, m.2 ∙ s.goes_on)

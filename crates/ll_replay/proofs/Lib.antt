@@ -1,13 +1,12 @@
 pub mod ChannelLemmas
-pub mod CutLemmas
 pub mod DriverLemmas
 pub mod LineLemmas
-pub mod MemoryLemmas
 pub mod PlaceLemmas
 pub mod PublishLemmas
 pub mod ReadingLemmas
 pub mod RenditionLemmas
 pub mod RunLemmas
+pub mod SettingsLemmas
 pub mod StreamLemmas
 pub mod TakeLemmas
 pub mod WorkedExamples

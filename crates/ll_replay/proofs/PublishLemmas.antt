@@ -1,5 +1,5 @@
 -- What one more item makes of what is kept of its rendition: of its window, and then of its date ranges.
-use Rattle.std.proofs.Common.{◌≡◌, ◌≢◌, ℕ, List, [], ◌∷◌, ◌++◌, Bool, true, false, Option, None, Some, ap, ap₂, sym, ◌∙◌}
+use Rattle.std.proofs.Common.{◌≡◌, ◌≢◌, ℕ, List, [], ◌∷◌, ◌++◌, true, false, None, Some, ap, ap₂, sym, ◌∙◌}
 use Rattle.std.specs.Prelude.{Result, Ok, Err, OnOk, IfErr}
 use Rattle.ll_item.specs.Items.{is_about_ranges}
 use Rattle.ll_item.specs.Settings.{Configuration}

@@ -1,9 +1,13 @@
--- What a driver keeps in place of all events.
-use Rattle.std.specs.Prelude.{◌≡◌, ℕ, List, ◌++◌, Option, None, length, map, min, option_map, sum_by}
+-- For private contracts: what a driver keeps in place of all events.
+use Rattle.std.specs.Prelude.{◌≡◌, ℕ, List, Option, None, String, bytes_eq, length, map, min, option_map, string_bytes, sum_by}
+use Rattle.std.specs.declared.alloc.Global.{Global}
+use Rattle.std.specs.Map.{lookup}
+use Rattle.std.specs.Io.KnownBytes.{Appends}
 use Rattle.ll_item.specs.Settings.{Configuration}
 use Rattle.ll_page.specs.View.{renditions}
 use Rattle.ll_page.specs.declared.rendition.Rendition.{Rendition}
 use Rattle.ll_replay.specs.Events.{items}
+use Rattle.ll_replay.specs.Lines.{channel_named}
 use Rattle.ll_replay.specs.World.{Channel, World, count_end}
 
 pub record KeptChannel : Type 0 where
@@ -43,7 +47,15 @@ kept w = record {
 pub record Stands (driver : Kept) (base written : Option (List ℕ)) (w : World) : Type 0 where
   pub stands : driver ≡ kept w
   pub goes_on : w.ending ≡ None
-  pub wrote : written ≡ option_map (λ b. b ++ w.text) base
+  pub wrote : Appends base written w.text
 
 abbrev pub settings_kept : List KeptChannel → List Configuration
 settings_kept channels = map (λ (c : KeptChannel). c.settings) channels
+
+-- the place that a map gives to a name
+abbrev pub place_in : List (String Global × ℕ) → List ℕ → Option ℕ
+place_in entries name = lookup (λ key. bytes_eq name (string_bytes key)) entries
+
+-- a map gives to each name the place of the first channel of that name
+abbrev pub FindsPlaces : List (String Global × ℕ) → List KeptChannel → Type 0
+FindsPlaces entries channels = (name : List ℕ) → place_in entries name ≡ option_map (λ f. f.0) (channel_named (settings_kept channels) 0 name)

@@ -1,4 +1,5 @@
 pub mod Answers
+pub mod Cuts
 pub mod Events
 pub mod Kept
 pub mod Lines

@@ -1,7 +1,6 @@
 -- What the lines of a script mean.
-use Rattle.std.specs.Prelude.{ℕ, ◌+◌, List, [], ◌∷◌, Bool, true, false, ◌≡◌, ◌&&◌, ◌||◌, ◌==◌, Option, Some, None, Result, Ok, Err, if◌then◌else◌, is_none, option_map, nat_lt, bytes_eq, codes}
+use Rattle.std.specs.Prelude.{ℕ, ◌+◌, List, [], ◌∷◌, Bool, true, ◌&&◌, ◌==◌, Option, Some, None, Result, Ok, Err, if◌then◌else◌, is_none, option_map, nat_lt, bytes_eq, codes}
 use Rattle.std.specs.List.{list_any, before_first, after_first}
-use Rattle.std.specs.Result.{is_ok}
 use Rattle.std.specs.Str.{is_utf8}
 use Rattle.ll_attr.specs.Numbers.{number_in}
 use Rattle.ll_attr.specs.Words.{parts_at, words, after}
@@ -21,7 +20,7 @@ use Rattle.ll_replay.specs.declared.refusal.Refusal.TheVariants as refused
 -- the place of the channel of this name, and its settings; the first of these channels has this place
 abbrev pub channel_named : List Configuration → ℕ → List ℕ → Option (ℕ × Configuration)
 channel_named [] place name = None
-channel_named (c ∷ more) place name = if bytes_eq c.channel name then Some (place, c) else channel_named more (place + 1) name
+channel_named (c ∷ more) place name = if bytes_eq name c.channel then Some (place, c) else channel_named more (place + 1) name
 
 -- a comment or an empty line
 abbrev pub is_passed_over : List ℕ → Bool
@@ -116,18 +115,3 @@ acts_by channels last line None =
 -- what a line makes happen, one after another; a line that no script has in its place means nothing
 abbrev pub acts : List Configuration → Option ℕ → List ℕ → Option (List Act)
 acts channels last line = if is_passed_over line then Some [] else acts_by channels last line (after (codes "pub ") line)
-
-abbrev pub is_offer : Act → Bool
-is_offer (Offer place item) = true
-is_offer (Declare settings) = false
-is_offer (Refuse reason) = false
-is_offer (Get id place rendition) = false
-
--- whether a line is an item for a channel
-abbrev pub offers : Option (List Act) → Bool
-offers (Some (a ∷ [])) = is_offer a
-offers other = false
-
--- a line that wants memory to be read: it spells settings, or it is an item for a channel
-abbrev pub WantsMemory : List Configuration → Option ℕ → List ℕ → Type 0
-WantsMemory channels last line = (is_ok (settings_in line) || offers (acts channels last line)) ≡ true

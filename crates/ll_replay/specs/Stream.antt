@@ -1,14 +1,10 @@
 -- A script as a stream of bytes. Its lines end in LF or CR LF; the last end may be missing.
-use Rattle.std.specs.Prelude.{◌≡◌, ◌≢◌, ◌≤◌, ℕ, ◌==◌, List, [], ◌∷◌, ◌++◌, Option, Some, None, option_map, fold, length, IsOk, ⊤}
+use Rattle.std.specs.Prelude.{◌≡◌, ◌≤◌, ◌+◌, ℕ, ◌==◌, List, [], ◌∷◌, ◌++◌, Option, Some, None, fold, length}
+use Rattle.std.specs.Io.KnownBytes.{Appends, Consumes}
 use Rattle.std.specs.List.{slice_split}
 use Rattle.std.specs.Str.Lines.{lines, strip_carriage_return}
-use Rattle.ll_item.specs.Settings.{settings_in}
-use Rattle.ll_replay.specs.declared.outcome.RunFault.{RunFault}
-use Rattle.ll_replay.specs.declared.outcome.RunFault.TheVariants as fault
 use Rattle.ll_replay.specs.declared.outcome.Summary.{Summary}
-use Rattle.ll_replay.specs.Kept.{Kept, Stands}
-use Rattle.ll_replay.specs.Lines.{acts}
-use Rattle.ll_replay.specs.World.{World, Ending, BadLine, LineTooLong, start, line, line_end, settings_of, summary_of}
+use Rattle.ll_replay.specs.World.{World, Ending, start, line, longest_line, summary_of}
 
 -- what a script comes to
 abbrev pub world_of : List ℕ → World
@@ -18,96 +14,59 @@ world_of bytes = fold line start (lines bytes)
 abbrev pub script : List ℕ → List ℕ
 script bytes = (world_of bytes).text
 
-abbrev pub ended_parts : List (List ℕ) → List (List ℕ)
-ended_parts [] = []
-ended_parts (part ∷ []) = []
-ended_parts (part ∷ next ∷ more) = strip_carriage_return part ∷ ended_parts (next ∷ more)
-
--- what a script comes to with those of its lines that LF ends
-abbrev pub world_so_far : List ℕ → World
-world_so_far bytes = fold line start (ended_parts (slice_split (λ b. b == 10) bytes))
-
-abbrev pub last_part : List (List ℕ) → List ℕ
-last_part [] = []
-last_part (part ∷ []) = part
-last_part (part ∷ next ∷ more) = last_part (next ∷ more)
-
--- the bytes after the last LF
-abbrev pub open_line : List ℕ → List ℕ
-open_line bytes = last_part (slice_split (λ b. b == 10) bytes)
-
--- this text was written since base
-abbrev pub Wrote : Option (List ℕ) → Option (List ℕ) → List ℕ → Type 0
-Wrote base written text = written ≡ option_map (λ b. b ++ text) base
-
--- a front of this text was written since base
-abbrev pub WroteFront : Option (List ℕ) → Option (List ℕ) → List ℕ → Type 0
-WroteFront base written text = (front : List ℕ) × (rest : List ℕ) × (text ≡ front ++ rest) × Wrote base written front
-
--- there is nothing, where it is told
-abbrev pub IsNothing : Option (List ℕ) → Type 0
-IsNothing None = ⊤
-IsNothing (Some bytes) = bytes ≡ []
-
 -- the whole of a script was run and written since base, and this is what it came to
 abbrev pub IsWhole : Option (List ℕ) → Option (List ℕ) → List ℕ → Summary → Type 0
 IsWhole base written input summary =
-    ((world_of input).ending ≡ None) × (summary ≡ summary_of (world_of input)) × Wrote base written (script input)
+    ((world_of input).ending ≡ None) × (summary ≡ summary_of (world_of input)) × Appends base written (script input)
 
 -- a line of a script ended it, and all that the script writes was written since base
 abbrev pub EndsBy : Ending → Option (List ℕ) → Option (List ℕ) → List ℕ → Type 0
-EndsBy ending base written input = ((world_of input).ending ≡ Some ending) × Wrote base written (script input)
+EndsBy ending base written input = ((world_of input).ending ≡ Some ending) × Appends base written (script input)
 
--- a run stopped after some bytes, of which each line that LF ends was run since base
-abbrev pub StopsAfter : (before after base written : Option (List ℕ)) → Type 0
-StopsAfter before after base written =
-    (bytes : List ℕ) × (before ≡ option_map (λ rest. bytes ++ rest) after) × Wrote base written (world_so_far bytes).text
+-- a prefix of this text was written since base
+abbrev pub AppendsPrefix : Option (List ℕ) → Option (List ℕ) → List ℕ → Type 0
+AppendsPrefix base written text = (prefix : List ℕ) × (rest : List ℕ) × (text ≡ prefix ++ rest) × Appends base written prefix
 
--- a line that may want memory: it isn't too long, and it means something, or else it spells settings (which take memory
--- before their place is looked at)
-abbrev pub MayWant : World → List ℕ → Type 0
-MayWant w text = (length text ≤ line_end) × (acts (settings_of w) w.last_id text ≡ None → IsOk (settings_in text))
+-- a run stopped on its way from one world to the next, which ends no script: what the first had said was written since base, and
+-- then a prefix of what the next says besides
+abbrev pub StopsBetween : (base written : Option (List ℕ)) → (before after : World) → Type 0
+StopsBetween base written before after =
+    (prefix : List ℕ) × (rest : List ℕ) × (after.text ≡ before.text ++ (prefix ++ rest)) × Appends base written (before.text ++ prefix)
+    × (after.ending ≡ None)
 
--- what may want memory where these bytes of a line were read: the next byte, or the line, if it ends here
-abbrev pub WantsAt : World → (held left : List ℕ) → Type 0
-WantsAt w held [] = MayWant w held
-WantsAt w held (b ∷ more) = (b ≢ 10 → length held ≤ line_end) × (b ≡ 10 → MayWant w (strip_carriage_return held))
-
--- a run stopped at a line for want of memory: no line before it ends the script, and all that was written since base are the
--- answers to those lines
+-- a run stopped at a line that is allowed after the lines before it: their answers were written since base, and then a prefix of
+-- this line's
 abbrev pub StopsForMemory : Option (List ℕ) → Option (List ℕ) → List ℕ → Type 0
 StopsForMemory base written input =
-    (bytes : List ℕ) × (left : List ℕ) × (input ≡ bytes ++ left) × ((world_so_far bytes).ending ≡ None)
-    × Wrote base written (world_so_far bytes).text × WantsAt (world_so_far bytes) (open_line bytes) left
+    (before : List (List ℕ)) × (text : List ℕ) × (later : List (List ℕ)) × (lines input ≡ before ++ text ∷ later)
+    × StopsBetween base written (fold line start before) (line (fold line start before) text)
 
--- what a fault says of a script that comes to w
-abbrev pub IsCutAt : Option (List ℕ) → Option (List ℕ) → World → RunFault → Type 0
-IsCutAt base written w (fault.BadLine n) = (w.ending ≡ Some (BadLine n)) × Wrote base written w.text
-IsCutAt base written w (fault.LineTooLong n) = (w.ending ≡ Some (LineTooLong n)) × Wrote base written w.text
-IsCutAt base written w fault.Write = WroteFront base written w.text
-IsCutAt base written w fault.Memory = WroteFront base written w.text
-IsCutAt base written w fault.Read = ⊥
-IsCutAt base written w fault.Endless = ⊥
+-- of the pieces between LFs, those that LF ends, as lines
+abbrev pub ended_pieces : List (List ℕ) → List (List ℕ)
+ended_pieces [] = []
+ended_pieces (piece ∷ []) = []
+ended_pieces (piece ∷ next ∷ more) = strip_carriage_return piece ∷ ended_pieces (next ∷ more)
 
--- a stream stands for the bytes so far: it holds the bytes after the last LF, and its driver what the ended lines come to
-pub record StandsFor (held : List ℕ) (kept : Kept) (base written : Option (List ℕ)) (bytes : List ℕ) : Type 0 where
-  pub holds : held ≡ open_line bytes
-  pub stands : Stands kept base written (world_so_far bytes)
+-- the lines of a script that LF ends
+abbrev pub ended_lines : List ℕ → List (List ℕ)
+ended_lines bytes = ended_pieces (slice_split (λ b. b == 10) bytes)
 
--- a fault of an act: an answer was written in part or not at all
-abbrev pub IsBroken : Option (List ℕ) → Option (List ℕ) → List ℕ → RunFault → Type 0
-IsBroken base written text (fault.BadLine n) = ⊥
-IsBroken base written text (fault.LineTooLong n) = ⊥
-IsBroken base written text fault.Write = WroteFront base written text
-IsBroken base written text fault.Memory = WroteFront base written text
-IsBroken base written text fault.Read = ⊥
-IsBroken base written text fault.Endless = ⊥
+-- what a script comes to with those lines
+abbrev pub world_so_far : List ℕ → World
+world_so_far bytes = fold line start (ended_lines bytes)
 
--- a fault that no line is to blame for
-abbrev pub IsDevice : RunFault → Type 0
-IsDevice (fault.BadLine n) = ⊥
-IsDevice (fault.LineTooLong n) = ⊥
-IsDevice fault.Write = Unit
-IsDevice fault.Memory = Unit
-IsDevice fault.Read = ⊥
-IsDevice fault.Endless = ⊥
+abbrev pub last_piece : List (List ℕ) → List ℕ
+last_piece [] = []
+last_piece (piece ∷ []) = piece
+last_piece (piece ∷ next ∷ more) = last_piece (next ∷ more)
+
+-- the bytes after the last LF
+abbrev pub open_line : List ℕ → List ℕ
+open_line bytes = last_piece (slice_split (λ b. b == 10) bytes)
+
+-- a run stopped after some bytes, of which each line that LF ends was run since base; none of these ends the script, and the
+-- line after them isn't longer than the longest with its CR
+abbrev pub StopsAfter : (before after base written : Option (List ℕ)) → Type 0
+StopsAfter before after base written =
+    (bytes : List ℕ) × Consumes before after bytes × ((world_so_far bytes).ending ≡ None)
+    × (length (open_line bytes) ≤ longest_line + 1) × Appends base written (world_so_far bytes).text

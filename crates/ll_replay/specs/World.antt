@@ -102,8 +102,8 @@ abbrev pub counted : World → World
 counted w = record w { lines = w.lines + 1 }
 
 -- the most bytes of a line, without its end
-abbrev pub line_end : ℕ
-line_end = 65536
+abbrev pub longest_line : ℕ
+longest_line = 65536
 
 abbrev pub read_by : Bool → World → List ℕ → World
 read_by true w text = record (counted w) { ending = Some (LineTooLong (w.lines + 1)) }
@@ -111,7 +111,7 @@ read_by false w text = acted (counted w) (acts (settings_of w) w.last_id text)
 
 abbrev pub line_by : Option Ending → World → List ℕ → World
 line_by (Some ending) w text = w
-line_by None w text = read_by (nat_lt line_end (length text)) w text
+line_by None w text = read_by (nat_lt longest_line (length text)) w text
 
 -- one more line; none is read after one that ends the script
 unfoldable pub line : World → List ℕ → World

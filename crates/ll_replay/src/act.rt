@@ -3,7 +3,7 @@ use ll_item::{Item, Settings};
 use ll_page::SkipKind;
 
 /// What a request wants of a channel.
-#[derive(Clone, Copy, Debug)]
+#[derive(Clone, Copy)]
 pub struct Want {
     /// The rendition's index in the order of the settings.
     pub rendition: usize,
@@ -12,7 +12,7 @@ pub struct Want {
 }
 
 /// What a line of a script makes happen. A channel and a rendition are named by their places.
-#[derive(Debug, Drop)]
+#[derive(Drop)]
 pub enum Act {
     /// A new channel.
     Declare(Settings),

@@ -22,7 +22,7 @@ use std::marker::Model;
 const EVENT_END: u64 = 1 << 60;
 
 /// What is kept of a channel's events.
-#[derive(Debug, Drop)]
+#[derive(Drop)]
 pub(crate) struct Channel {
     settings: Settings,
     renditions: Vec<Rendition>,
@@ -72,6 +72,7 @@ impl Channel {
         ensures refused { (c : world.Channel) → self.old ≡ kept_channel c
             → IfErr result (λ r. r ≢ Refusal.Memory → refusal c.settings c.events item ≡ Some r) }
         ensures memory { (c : world.Channel) → self.old ≡ kept_channel c → IsErrOf result Refusal.Memory → refusal c.settings c.events item ≡ None }
+        ensures settings { self.new.settings ≡ self.old.settings }
         ensures unchanged { OnErr result (self.new ≡ self.old) }
     {
         push_to(&mut self.renditions, item, self.events == EVENT_END)?;
@@ -90,6 +91,7 @@ impl Channel {
         ensures refused { (c : world.Channel) → self.old ≡ kept_channel c
             → IfErr result (λ r. r ≢ Refusal.Memory → (want.rendition < length c.settings.renditions) × (full_by c.events ≡ Some r)) }
         ensures memory { (c : world.Channel) → self.old ≡ kept_channel c → IsErrOf result Refusal.Memory → (want.rendition < length c.settings.renditions) × (full_by c.events ≡ None) }
+        ensures settings { self.new.settings ≡ self.old.settings }
         ensures unchanged { OnErr result (self.new ≡ self.old) }
     {
         let Some(view) = View::new(&self.settings, &self.renditions, want.rendition, self.count)

@@ -1,5 +1,5 @@
 //! The devices of std as a reader and a writer, with counts that only proofs see.
-ghost use Rattle.std.specs.Prelude.{◌≡◌, ◌+◌, None};
+ghost use Rattle.std.specs.Prelude.{◌≡◌, ◌+◌};
 
 use crate::device::{Failed, Reader, Writer};
 use std::io::{Read, Write};
@@ -53,7 +53,7 @@ impl<L: Ledger> Uses<L> {
     }
 }
 
-/// A reader over one of std, whose bytes it does not tell.
+/// A reader over one of std, which tells the bytes that are left as far as std's does.
 #[derive(Drop)]
 pub struct CountedReader<R: Read + Drop, L: Ledger> {
     source: R,
@@ -77,7 +77,7 @@ impl<R: Read + Drop, L: Ledger> CountedReader<R, L> {
 }
 
 impl<R: Read + Drop, L: Ledger> Reader for CountedReader<R, L> {
-    ghost left = { λ _. None };
+    ghost left = { λ r. R.remaining r.source };
 
     ghost reads = { λ r. r.uses.uses };
 
@@ -97,7 +97,7 @@ impl<R: Read + Drop, L: Ledger> Reader for CountedReader<R, L> {
     }
 }
 
-/// A writer over one of std, whose bytes it does not tell.
+/// A writer over one of std, which tells the bytes that it holds as far as std's does.
 #[derive(Drop)]
 pub struct CountedWriter<W: Write + Drop, L: Ledger> {
     sink: W,
@@ -120,11 +120,11 @@ impl<W: Write + Drop, L: Ledger> CountedWriter<W, L> {
 }
 
 impl<W: Write + Drop, L: Ledger> Writer for CountedWriter<W, L> {
-    ghost written = { λ _. None };
+    ghost written = { λ w. W.contents w.sink };
 
     ghost failures = { λ w. w.uses.failures };
 
-    /// A write that takes nothing of a text failed too.
+    /// A write that takes nothing of a text that isn't empty failed too.
     fn write(&mut self, text: &[u8]) -> Result<usize, Failed> {
         match self.sink.write(text) {
             Ok(count) if count > 0 || text.is_empty() => {

@@ -1,5 +1,6 @@
-ghost use Rattle.std.specs.Prelude.{◌≡◌, ◌<◌, ◌≤◌, ◌+◌, ◌++◌, [], ℕ, List, Option, option_map, IfOk, OnOk, OnErr, take, length};
-ghost use Rattle.ll_replay.specs.Stream.{IsNothing, Wrote, WroteFront};
+ghost use Rattle.std.specs.Prelude.{◌≡◌, ◌<◌, ◌≤◌, ◌+◌, [], ℕ, List, Option, IfOk, OnOk, OnErr, take, length};
+ghost use Rattle.std.specs.Io.KnownBytes.{Appends, Consumes, IsAtEnd, Keeps};
+ghost use Rattle.ll_replay.specs.Stream.{AppendsPrefix};
 
 /// A device failed in a read or a write.
 #[derive(Clone, Copy, Debug, PartialEq, Eq)]
@@ -16,12 +17,12 @@ pub trait Reader {
     /// How often a read failed.
     ghost failures: { Self → ℕ };
 
-    /// One read: how many bytes it put at the front of `buf`, 0 only at the end.
+    /// One read: how many bytes it put first in `buf`, 0 only at the end or where `buf` is empty.
     fn read(&mut self, buf: &mut [u8]) -> Result<usize, Failed>
         ensures count { IfOk result (λ n. n ≤ length buf.new) }
-        ensures bytes { IfOk result (λ n. left self.old ≡ option_map (λ rest. take n buf.new ++ rest) (left self.new)) }
-        ensures end { IfOk result (λ n. n ≡ 0 → IsNothing (left self.old)) }
-        ensures kept { OnErr result (left self.new ≡ left self.old) }
+        ensures bytes { IfOk result (λ n. Consumes (left self.old) (left self.new) (take n buf.new)) }
+        ensures end { IfOk result (λ n. n ≡ 0 → 0 < length buf.new → IsAtEnd (left self.new)) }
+        ensures kept { OnErr result (Keeps (left self.old) (left self.new)) }
         ensures read_once { reads self.new ≡ reads self.old + 1 }
         ensures steady { OnOk result (failures self.new ≡ failures self.old) }
         ensures failed { OnErr result (failures self.old < failures self.new) };
@@ -35,20 +36,20 @@ pub trait Writer {
     /// How often a write failed.
     ghost failures: { Self → ℕ };
 
-    /// One write: how many bytes of the front of `text` it took, 0 only of an empty text.
+    /// One write: how many bytes it took of `text`, from its first on; 0 only of an empty text.
     fn write(&mut self, text: &[u8]) -> Result<usize, Failed>
         ensures count { IfOk result (λ n. n ≤ length text.now) }
         ensures some { IfOk result (λ n. n ≡ 0 → text.now ≡ []) }
-        ensures bytes { IfOk result (λ n. written self.new ≡ option_map (λ b. b ++ take n text.now) (written self.old)) }
-        ensures kept { OnErr result (written self.new ≡ written self.old) }
+        ensures bytes { IfOk result (λ n. Appends (written self.old) (written self.new) (take n text.now)) }
+        ensures kept { OnErr result (Keeps (written self.old) (written self.new)) }
         ensures steady { OnOk result (failures self.new ≡ failures self.old) }
         ensures failed { OnErr result (failures self.old < failures self.new) };
 }
 
 /// Writes a whole text, in as many writes as the writer takes.
 pub(crate) fn write_all<W: Writer>(writer: &mut W, text: &[u8]) -> Result<(), Failed>
-    ensures whole { OnOk result (Wrote (W.written writer.old) (W.written writer.new) text.now) }
-    ensures cut { OnErr result (WroteFront (W.written writer.old) (W.written writer.new) text.now) }
+    ensures whole { OnOk result (Appends (W.written writer.old) (W.written writer.new) text.now) }
+    ensures cut { OnErr result (AppendsPrefix (W.written writer.old) (W.written writer.new) text.now) }
     ensures steady { OnOk result (W.failures writer.new ≡ W.failures writer.old) }
     ensures failed { OnErr result (W.failures writer.old < W.failures writer.new) }
 {

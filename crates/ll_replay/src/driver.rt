@@ -1,36 +1,35 @@
 //! Takes the lines of a script, one after another.
-ghost use Rattle.std.specs.Prelude.{◌≡◌, ◌≢◌, ◌<◌, ◌+◌, ◌-◌, ◌^◌, ◌++◌, ◌∷◌, [], ℕ, List, Option, Some, None, Ok, Err, IfOk, MatchOption, IfSome, IfNone, OnOk, OnErr, IfErr, IsErrOf, IsOk, ◌≤◌, length, slice_get, slice_set, string_bytes};
-ghost use Rattle.ll_replay.specs.World.{World, start, line, summary_of, wanted_text, Ending};
+ghost use Rattle.std.specs.Prelude.{◌≡◌, ◌≢◌, ◌<◌, ◌≤◌, ◌+◌, ◌-◌, ◌^◌, ◌++◌, ℕ, List, Option, Some, IfOk, MatchOption, OnOk, OnErr, IfErr, IsErrOf, length, slice_get, slice_set, string_bytes};
+ghost use Rattle.std.specs.Io.KnownBytes.{Appends};
+ghost use Rattle.ll_replay.specs.World.{World, start, line, summary_of, wanted_text};
 ghost use Rattle.ll_replay.specs.World as world;
 ghost use Rattle.ll_replay.specs.Events.{items, refusal, full_by};
 ghost use Rattle.ll_replay.specs.Events as events;
 ghost use Rattle.ll_replay.specs.Answers as answers;
 ghost use Rattle.ll_replay.specs.Answers.{told};
-ghost use Rattle.ll_replay.specs.Kept.{Stands, kept, kept_channel, settings_kept};
-ghost use Rattle.ll_replay.specs.Lines.{acts};
-ghost use Rattle.ll_item.specs.Settings.{settings_in};
-ghost use Rattle.ll_replay.specs.Stream.{Wrote, WroteFront, IsBroken, IsDevice};
+ghost use Rattle.ll_replay.specs.Kept.{Stands, kept, kept_channel};
+ghost use Rattle.ll_replay.specs.Cuts.{IsCutBetween};
+ghost use Rattle.ll_replay.specs.Stream.{AppendsPrefix};
 
 use crate::act::{Act, Want};
 use crate::answers::{no_line, ok_line, text_reply, unavailable_reply};
-use crate::channel::Channel;
+use crate::channels::Channels;
 use crate::device::{Failed, Writer, write_all};
 use crate::outcome::{RunFault, Summary};
 use crate::reading::{Unread, read_line};
 use crate::refusal::Refusal;
-use ll_attr::Text;
-use ll_item::{Item, Settings};
+use ll_item::Item;
 use std::alloc::{AllocError, Global};
 use std::marker::Model;
 
 /// The most bytes of a line, without its end.
-const LINE_END: usize = 65_536;
+pub(crate) const LONGEST_LINE: usize = 65_536;
 
 /// The channels of a script, and what was counted.
-#[derive(Debug, Drop)]
+#[derive(Drop)]
 pub(crate) struct Driver {
     alloc: Global,
-    channels: Vec<Channel>,
+    channels: Channels,
     lines: u64,
     last_id: Option<u64>,
     events: u64,
@@ -42,7 +41,7 @@ impl Model for Driver {
 
     ghost Value = { Kept };
 
-    ghost view = { λ d. record { channels = d.channels.items; lines = d.lines; last_id = d.last_id; events = d.events; replies = d.replies } };
+    ghost view = { λ d. record { channels = d.channels; lines = d.lines; last_id = d.last_id; events = d.events; replies = d.replies } };
 }
 
 impl Driver {
@@ -53,7 +52,7 @@ impl Driver {
     {
         Driver {
             alloc,
-            channels: Vec::new(alloc),
+            channels: Channels::new(alloc),
             lines: 0,
             last_id: None,
             events: 0,
@@ -88,24 +87,13 @@ impl Driver {
         ensures ok { OnOk result ((w : World) (base : Option (List ℕ)) → Stands self.old base (W.written writer.old) w
             → Stands self.new base (W.written writer.new) (line w text.now)) }
         ensures lines { OnOk result (self.new.lines ≡ self.old.lines + 1) }
-        ensures bad_line { (n : ℕ) → IsErrOf result (RunFault.BadLine n) → (w : World) (base : Option (List ℕ)) → Stands self.old base (W.written writer.old) w
-            → ((line w text.now).ending ≡ Some (world.BadLine n)) × Wrote base (W.written writer.new) (line w text.now).text }
-        ensures too_long { (n : ℕ) → IsErrOf result (RunFault.LineTooLong n) → (w : World) (base : Option (List ℕ)) → Stands self.old base (W.written writer.old) w
-            → ((line w text.now).ending ≡ Some (world.LineTooLong n)) × Wrote base (W.written writer.new) (line w text.now).text }
-        ensures write { IsErrOf result RunFault.Write → (w : World) (base : Option (List ℕ)) → Stands self.old base (W.written writer.old) w
-            → WroteFront base (W.written writer.new) (line w text.now).text }
-        ensures memory { IsErrOf result RunFault.Memory → (w : World) (base : Option (List ℕ)) → Stands self.old base (W.written writer.old) w
-            → WroteFront base (W.written writer.new) (line w text.now).text }
-        ensures memory_line { IsErrOf result RunFault.Memory → (length text.now ≤ 65536)
-            × (acts (settings_kept self.old.channels) self.old.last_id text.now ≡ None → IsOk (settings_in text.now)) }
-        ensures silent { IsErrOf result RunFault.Memory → W.written writer.new ≡ W.written writer.old }
-        ensures not_read { result ≢ Err RunFault.Read }
-        ensures not_endless { result ≢ Err RunFault.Endless }
+        ensures cut { IfErr result (λ f. (w : World) (base : Option (List ℕ)) → Stands self.old base (W.written writer.old) w
+            → IsCutBetween base (W.written writer.new) w (line w text.now) f) }
         ensures steady { OnOk result (W.failures writer.new ≡ W.failures writer.old) }
         ensures write_failed { IsErrOf result RunFault.Write → W.failures writer.old < W.failures writer.new }
     {
         let line = self.lines + 1;
-        if text.len() > LINE_END {
+        if text.len() > LONGEST_LINE {
             return Err(RunFault::LineTooLong { line });
         }
         self.lines = line;
@@ -123,9 +111,7 @@ impl Driver {
             → Stands self.new base (W.written writer.new) (world.act w act)) }
         ensures lines { OnOk result (self.new.lines ≡ self.old.lines) }
         ensures cut { IfErr result (λ f. (w : World) (base : Option (List ℕ)) → Stands self.old base (W.written writer.old) w
-            → IsBroken base (W.written writer.new) (world.act w act).text f) }
-        ensures kind { IfErr result IsDevice }
-        ensures silent { IsErrOf result RunFault.Memory → W.written writer.new ≡ W.written writer.old }
+            → IsCutBetween base (W.written writer.new) w (world.act w act) f) }
         ensures steady { OnOk result (W.failures writer.new ≡ W.failures writer.old) }
         ensures write_failed { IsErrOf result RunFault.Write → W.failures writer.old < W.failures writer.new }
     {
@@ -143,7 +129,7 @@ impl Driver {
     {
         match act {
             Act::Declare(settings) => {
-                self.channels.push(Channel::new(self.alloc, settings)?)?;
+                self.channels.declare(self.alloc, settings)?;
                 Ok(None)
             }
             Act::Offer { place, item } => self.offer(place, item),
@@ -161,7 +147,7 @@ impl Driver {
         if place >= self.channels.len() {
             return Ok(None);
         }
-        match publish_at(&mut self.channels, place, item) {
+        match self.channels.publish_at(place, item) {
             Ok(count) => {
                 self.events = self.events.saturating_add(1);
                 Ok(Some(ok_line(self.alloc, count)?))
@@ -179,7 +165,7 @@ impl Driver {
         if place >= self.channels.len() {
             return Ok(None);
         }
-        match ask_at(self.alloc, &mut self.channels, place, want) {
+        match self.channels.ask_at(self.alloc, place, want) {
             Ok(None) => Ok(None),
             Ok(Some(text)) => {
                 self.events = self.events.saturating_add(1);
@@ -216,42 +202,10 @@ fn unavailable(alloc: Global, id: u64, reason: Refusal) -> Result<String, AllocE
     unavailable_reply(alloc, id, reason)
 }
 
-/// Publishes an item to the channel at this place.
-fn publish_at(channels: &mut [Channel], place: usize, item: Item) -> Result<u64, Refusal>
-    requires { place < length channels.old }
-    ensures accepted { (c : world.Channel) → slice_get channels.old place ≡ Some (kept_channel c) → IfOk result (λ n.
-        (refusal c.settings c.events item ≡ None) × (n ≡ length (items c.events) + 1)
-        × (channels.new ≡ slice_set channels.old place (kept_channel (world.with_event (events.Publish item) c)))) }
-    ensures refused { (c : world.Channel) → slice_get channels.old place ≡ Some (kept_channel c) → IfErr result (λ r.
-        (r ≢ Refusal.Memory → refusal c.settings c.events item ≡ Some r) × (channels.new ≡ channels.old)) }
-{
-    channels[place].publish(item)
-}
-
-/// The text that is wanted of the channel at this place, where there is that rendition.
-fn ask_at(
-    alloc: Global,
-    channels: &mut [Channel],
-    place: usize,
-    want: Want,
-) -> Result<Option<Text>, Refusal>
-    requires { place < length channels.old }
-    ensures text { (c : world.Channel) → slice_get channels.old place ≡ Some (kept_channel c) → IfOk result (λ t. MatchOption t
-        ((length c.settings.renditions ≤ want.rendition) × (channels.new ≡ channels.old))
-        (λ text. (want.rendition < length c.settings.renditions) × (full_by c.events ≡ None)
-        × (text ≡ wanted_text c.settings (items c.events) want)
-        × (channels.new ≡ slice_set channels.old place (kept_channel (world.with_event (events.Ask want) c))))) }
-    ensures refused { (c : world.Channel) → slice_get channels.old place ≡ Some (kept_channel c) → IfErr result (λ r.
-        (r ≢ Refusal.Memory → (want.rendition < length c.settings.renditions) × (full_by c.events ≡ Some r))
-        × (channels.new ≡ channels.old)) }
-{
-    channels[place].ask(alloc, want)
-}
-
 /// Writes an answer, where there is one.
 fn say<W: Writer>(answer: Option<String>, writer: &mut W) -> Result<(), RunFault>
-    ensures ok { OnOk result (Wrote (W.written writer.old) (W.written writer.new) (told answer)) }
-    ensures cut { OnErr result (WroteFront (W.written writer.old) (W.written writer.new) (told answer)) }
+    ensures ok { OnOk result (Appends (W.written writer.old) (W.written writer.new) (told answer)) }
+    ensures cut { OnErr result (AppendsPrefix (W.written writer.old) (W.written writer.new) (told answer)) }
     ensures kind { IfErr result (λ f. f ≡ RunFault.Write) }
     ensures steady { OnOk result (W.failures writer.new ≡ W.failures writer.old) }
     ensures write_failed { OnErr result (W.failures writer.old < W.failures writer.new) }

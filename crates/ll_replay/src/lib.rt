@@ -4,6 +4,7 @@
 mod act;
 mod answers;
 mod channel;
+mod channels;
 mod counted;
 mod device;
 mod driver;

@@ -1,5 +1,5 @@
 //! What the lines of a script mean.
-ghost use Rattle.std.specs.Prelude.{◌≡◌, ◌∷◌, [], IfOk, IsErrOf, IsOk, MatchOption, MatchResult, None, Some, true, false, ℕ, List, Option};
+ghost use Rattle.std.specs.Prelude.{◌≡◌, ◌∷◌, [], IfOk, IsErrOf, IsSome, MatchOption, Ok, MatchResult, None, Some, is_some, true, false, ℕ, List, Option};
 ghost use Rattle.std.specs.List.{after_first, before_first, list_any};
 ghost use Rattle.std.specs.Str.{is_utf8};
 ghost use Rattle.std.specs.Option.{option_to_list};
@@ -7,11 +7,11 @@ ghost use Rattle.ll_attr.specs.Words.{words, parts_at};
 ghost use Rattle.ll_item.specs.Items.{item_in};
 ghost use Rattle.ll_item.specs.Settings.{Configuration, settings_in};
 ghost use Rattle.ll_replay.specs.Kept.{settings_kept};
-ghost use Rattle.ll_replay.specs.Lines.{WantsMemory, is_offer, is_question};
+ghost use Rattle.ll_replay.specs.Lines.{is_question};
 ghost use Rattle.ll_replay.specs.Lines as spec;
 
 use crate::act::{Act, Want};
-use crate::channel::Channel;
+use crate::channels::Channels;
 use crate::refusal::Refusal;
 use ll_attr::{after, cut, parse_number};
 use ll_item::{Item, ItemFault, Settings, SettingsFault};
@@ -20,7 +20,7 @@ use std::alloc::Global;
 use std::str;
 
 /// Why a line makes nothing happen.
-#[derive(Clone, Copy, Debug, PartialEq, Eq)]
+#[derive(Clone, Copy)]
 pub(crate) enum Unread {
     /// No script has this line in its place.
     BadLine,
@@ -31,13 +31,13 @@ pub(crate) enum Unread {
 /// What a line makes happen; a line that is passed over, nothing.
 pub(crate) fn read_line(
     alloc: Global,
-    channels: &[Channel],
+    channels: &Channels,
     last: Option<u64>,
     line: &[u8],
 ) -> Result<Option<Act>, Unread>
     ensures act { IfOk result (λ a. spec.acts (settings_kept channels.now) last line.now ≡ Some (option_to_list a)) }
     ensures bad { IsErrOf result Unread.BadLine → spec.acts (settings_kept channels.now) last line.now ≡ None }
-    ensures memory { IsErrOf result Unread.Memory → WantsMemory (settings_kept channels.now) last line.now }
+    ensures memory { IsErrOf result Unread.Memory → IsSome (spec.acts (settings_kept channels.now) last line.now) }
 {
     match str::from_utf8(line) {
         Ok(text) => read_text(alloc, channels, last, text),
@@ -64,13 +64,13 @@ fn read_bytes(line: &[u8]) -> Result<Option<Act>, Unread>
 /// What a line of UTF-8 makes happen.
 fn read_text(
     alloc: Global,
-    channels: &[Channel],
+    channels: &Channels,
     last: Option<u64>,
     line: &str,
 ) -> Result<Option<Act>, Unread>
     ensures act { IfOk result (λ a. spec.acts (settings_kept channels.now) last line.now ≡ Some (option_to_list a)) }
     ensures bad { IsErrOf result Unread.BadLine → spec.acts (settings_kept channels.now) last line.now ≡ None }
-    ensures memory { IsErrOf result Unread.Memory → WantsMemory (settings_kept channels.now) last line.now }
+    ensures memory { IsErrOf result Unread.Memory → IsSome (spec.acts (settings_kept channels.now) last line.now) }
 {
     if line.is_empty() || line.starts_with('#') {
         return Ok(None);
@@ -88,30 +88,15 @@ fn read_text(
     }
 }
 
-/// The place of the channel of this name, and its settings.
-fn find<'a>(channels: &'a [Channel], name: &str) -> Option<(usize, &'a Settings)>
-    ensures { MatchOption result (spec.channel_named (settings_kept channels.now) 0 name.now ≡ None)
-        (λ f. spec.channel_named (settings_kept channels.now) 0 name.now ≡ Some (f.0, f.1.now)) }
-{
-    for (place, channel) in channels.iter().enumerate() {
-        let settings = channel.settings();
-        if settings.channel() == name {
-            return Some((place, settings));
-        }
-    }
-    None
-}
-
 /// A publisher's line.
-fn read_offer(alloc: Global, channels: &[Channel], text: &str) -> Result<Act, Unread>
+fn read_offer(alloc: Global, channels: &Channels, text: &str) -> Result<Act, Unread>
     ensures act { IfOk result (λ a. a ≡ spec.offer (settings_kept channels.now) text.now) }
     ensures never_bad { IsErrOf result Unread.BadLine → ⊥ }
-    ensures memory { IsErrOf result Unread.Memory → is_offer (spec.offer (settings_kept channels.now) text.now) ≡ true }
 {
     let Some((name, line)) = text.split_once(' ') else {
         return Ok(Act::Refuse(Refusal::BadLine));
     };
-    let Some((place, settings)) = find(channels, name) else {
+    let Some((place, settings)) = channels.find(name) else {
         return Ok(Act::Refuse(Refusal::UnknownChannel));
     };
     read_item(alloc, place, settings, line)
@@ -121,7 +106,6 @@ fn read_offer(alloc: Global, channels: &[Channel], text: &str) -> Result<Act, Un
 fn read_item(alloc: Global, place: usize, settings: &Settings, line: &str) -> Result<Act, Unread>
     ensures act { IfOk result (λ a. a ≡ spec.item_act place (item_in settings.now line.now)) }
     ensures never_bad { IsErrOf result Unread.BadLine → ⊥ }
-    ensures memory { IsErrOf result Unread.Memory → is_offer (spec.item_act place (item_in settings.now line.now)) ≡ true }
 {
     match Item::read(alloc, settings, line) {
         Ok(item) => Ok(Act::Offer { place, item }),
@@ -133,7 +117,7 @@ fn read_item(alloc: Global, place: usize, settings: &Settings, line: &str) -> Re
 }
 
 /// A request, where its number rises and its target is there.
-fn read_get(channels: &[Channel], last: Option<u64>, text: &str) -> Option<Act>
+fn read_get(channels: &Channels, last: Option<u64>, text: &str) -> Option<Act>
     ensures { result ≡ spec.get_of (settings_kept channels.now) last (words text.now) }
 {
     let (id, target) = cut(text, ' ')?;
@@ -149,7 +133,7 @@ fn read_get(channels: &[Channel], last: Option<u64>, text: &str) -> Option<Act>
 }
 
 /// The place of the channel, and what a target wants of it.
-fn read_want(channels: &[Channel], target: &str) -> Option<(usize, Want)>
+fn read_want(channels: &Channels, target: &str) -> Option<(usize, Want)>
     ensures { result ≡ spec.want_in (settings_kept channels.now) target.now }
 {
     let Some((path, query)) = split_query(target) else {
@@ -187,11 +171,11 @@ fn read_skip(query: &str) -> Option<SkipKind>
 }
 
 /// The places of the channel and the rendition of `/CHANNEL/RENDITION/live.m3u8`.
-fn read_path(channels: &[Channel], path: &str) -> Option<(usize, usize)>
+fn read_path(channels: &Channels, path: &str) -> Option<(usize, usize)>
     ensures { result ≡ spec.target_of (settings_kept channels.now) (parts_at 47 path.now) }
 {
     let (channel, rendition) = target_names(path)?;
-    let (place, settings) = find(channels, channel)?;
+    let (place, settings) = channels.find(channel)?;
     Some((place, settings.rendition(rendition)?))
 }
 
@@ -210,19 +194,36 @@ fn target_names(target: &str) -> Option<(&str, &str)>
 }
 
 /// A new channel, whose name no other has.
-fn read_declaration(alloc: Global, channels: &[Channel], line: &str) -> Result<Option<Act>, Unread>
+fn read_declaration(alloc: Global, channels: &Channels, line: &str) -> Result<Option<Act>, Unread>
     ensures act { IfOk result (λ a. a ≡ spec.declaration (settings_kept channels.now) (settings_in line.now)) }
     ensures never_bad { IsErrOf result Unread.BadLine → ⊥ }
-    ensures memory { IsErrOf result Unread.Memory → IsOk (settings_in line.now) }
+    ensures memory { IsErrOf result Unread.Memory → IsSome (spec.declaration (settings_kept channels.now) (settings_in line.now)) }
 {
+    if is_declared(channels, line) {
+        return Ok(None);
+    }
     match Settings::read(alloc, line) {
-        Ok(settings) => {
-            if find(channels, settings.channel()).is_some() {
-                return Ok(None);
-            }
-            Ok(Some(Act::Declare(settings)))
-        }
+        Ok(settings) => Ok(Some(Act::Declare(settings))),
         Err(SettingsFault::Memory) => Err(Unread::Memory),
         Err(_) => Ok(None),
     }
+}
+
+/// Whether a settings line names a channel that is declared. It takes no memory.
+fn is_declared(channels: &Channels, line: &str) -> bool
+    ensures { (c : Configuration) → settings_in line.now ≡ Ok c → result ≡ is_some (spec.channel_named (settings_kept channels.now) 0 c.channel) }
+{
+    match second_word(line) {
+        Some(name) => channels.find(name).is_some(),
+        None => false,
+    }
+}
+
+/// The second word of a line that has more; in a settings line it is the channel's name.
+fn second_word(line: &str) -> Option<&str>
+    ensures { (c : Configuration) → settings_in line.now ≡ Ok c → MatchOption result ⊥ (λ name. name.now ≡ c.channel) }
+{
+    let (_, rest) = cut(line, ' ')?;
+    let (name, _) = cut(rest, ' ')?;
+    Some(name)
 }

@@ -1,28 +1,30 @@
-ghost use Rattle.std.specs.Prelude.{◌≡◌, ◌<◌, ◌≤◌, ◌+◌, ◌-◌, ◌^◌, ◌++◌, [], ◌∷◌, ℕ, List, Option, Some, Err, ◌≢◌, IfOk, IfErr, OnOk, IsErrOf, length, vec_len};
+ghost use Rattle.std.specs.Prelude.{◌≡◌, ◌<◌, ◌≤◌, ◌+◌, ◌-◌, ◌^◌, ◌++◌, [], ◌∷◌, ℕ, List, Option, Some, IfOk, IfErr, OnOk, OnErr, IsErrOf, length};
 ghost use Rattle.std.specs.Str.Lines.{strip_carriage_return};
+ghost use Rattle.ll_replay.specs.Cuts.{HasFailed, IsCutAt, IsStopped, StandsFor};
+ghost use Rattle.ll_replay.specs.Stream.{AppendsPrefix, EndsBy, IsWhole, StopsAfter, StopsForMemory, script};
 ghost use Rattle.ll_replay.specs.World as world;
-ghost use Rattle.ll_replay.specs.Stream.{StandsFor, IsCutAt, IsWhole, EndsBy, StopsAfter, StopsForMemory, WroteFront, script, world_of};
 
 use crate::device::{Reader, Writer};
-use crate::driver::Driver;
+use crate::driver::{Driver, LONGEST_LINE};
 use crate::outcome::{RunFault, Summary};
+use arrayvec::ArrayVec;
 use std::alloc::Global;
-
-/// The bytes of the longest line, without its end.
-const LONGEST_LINE: usize = 65_536;
 
 /// The bytes of a read.
 const PIECE: usize = 65_536;
 
+/// The bytes of the longest line with a CR.
+const ROOM: usize = LONGEST_LINE + 1;
+
 /// A run that was not at the end after so many reads takes its reader for one that has none.
 const MOST_READS: u64 = 1 << 32;
 
-/// A script in the midst of its bytes: what drives its lines, and the bytes since the last LF, which are at most the longest line and a CR.
+/// A script in the midst of its bytes: what drives its lines, and the bytes since the last LF, with room for the longest line and a CR.
+/// Keeping a byte takes no memory, so that a line's fault is told whatever memory there is.
 #[derive(Drop)]
 struct Stream {
     driver: Driver,
-    line: Vec<u8>,
-    ghost bounded: { vec_len line ≤ 65537 },
+    line: ArrayVec<u8, ROOM>,
 }
 
 /// A line less the CR that stands before its LF.
@@ -30,7 +32,7 @@ fn without_carriage_return(line: &[u8]) -> &[u8]
     ensures { result.now ≡ strip_carriage_return line.now }
 {
     match line {
-        [front @ .., b'\r'] => front,
+        [text @ .., b'\r'] => text,
         _ => line,
     }
 }
@@ -43,32 +45,24 @@ impl Stream {
     {
         Stream {
             driver: Driver::new(alloc),
-            line: Vec::new(alloc),
+            line: ArrayVec::new(),
         }
     }
 
     /// Keeps a byte that ends no line, unless the line is too long whatever follows.
     fn keep(&mut self, b: u8) -> Result<(), RunFault>
-        requires counts { self.old.driver.lines < 2 ^ 64 - 1 }
-        requires ends_none { b ≢ 10 }
-        ensures ok { OnOk result ((bytes : List ℕ) (base written : Option (List ℕ))
-            → StandsFor self.old.line.items self.old.driver base written bytes
-            → StandsFor self.new.line.items self.new.driver base written (bytes ++ b ∷ [])) }
-        ensures lines { OnOk result (self.new.driver.lines ≡ self.old.driver.lines) }
-        ensures cut { IfErr result (λ fault. (bytes : List ℕ) (base written : Option (List ℕ))
-            → StandsFor self.old.line.items self.old.driver base written bytes
-            → (more : List ℕ) → IsCutAt base written (world_of (bytes ++ b ∷ more)) fault) }
-        ensures not_write { result ≢ Err RunFault.Write }
-        ensures memory { IsErrOf result RunFault.Memory → vec_len self.old.line ≤ 65536 }
+        requires { self.old.driver.lines < 2 ^ 64 - 1 }
+        ensures kept { OnOk result (self.new.line.items ≡ self.old.line.items ++ b ∷ []) }
+        ensures room { OnOk result (length self.old.line.items ≤ 65536) }
+        ensures driver { OnOk result (self.new.driver ≡ self.old.driver) }
+        ensures full { OnErr result (length self.old.line.items ≡ 65537) }
+        ensures fault { IfErr result (λ f. f ≡ RunFault.LineTooLong (self.old.driver.lines + 1)) }
     {
-        if self.line.len() > LONGEST_LINE {
-            return Err(RunFault::LineTooLong {
-                line: self.driver.lines() + 1,
-            });
-        }
-        match self.line.push(b) {
+        match self.line.try_push(b) {
             Ok(()) => Ok(()),
-            Err(_) => Err(RunFault::Memory),
+            Err(_) => Err(RunFault::LineTooLong {
+                line: self.driver.lines() + 1,
+            }),
         }
     }
 
@@ -79,19 +73,16 @@ impl Stream {
             → StandsFor self.old.line.items self.old.driver base (W.written writer.old) bytes
             → StandsFor self.new.line.items self.new.driver base (W.written writer.new) (bytes ++ b ∷ [])) }
         ensures lines { OnOk result (self.new.driver.lines ≤ self.old.driver.lines + 1) }
-        ensures cut { IfErr result (λ fault. (bytes : List ℕ) (base : Option (List ℕ))
+        ensures cut { IfErr result (λ f. (bytes : List ℕ) (base : Option (List ℕ))
             → StandsFor self.old.line.items self.old.driver base (W.written writer.old) bytes
-            → (more : List ℕ) → IsCutAt base (W.written writer.new) (world_of (bytes ++ b ∷ more)) fault) }
-        ensures memory { IsErrOf result RunFault.Memory → (bytes : List ℕ) (base : Option (List ℕ))
-            → StandsFor self.old.line.items self.old.driver base (W.written writer.old) bytes
-            → (more : List ℕ) → StopsForMemory base (W.written writer.new) (bytes ++ b ∷ more) }
+            → (more : List ℕ) → IsCutAt base (W.written writer.new) (bytes ++ b ∷ more) f) }
         ensures steady { OnOk result (W.failures writer.new ≡ W.failures writer.old) }
         ensures write_failed { IsErrOf result RunFault.Write → W.failures writer.old < W.failures writer.new }
     {
         if b != b'\n' {
             return self.keep(b);
         }
-        let text = without_carriage_return(&self.line);
+        let text = without_carriage_return(self.line.as_slice());
         self.driver.take_line(text, writer)?;
         self.line.clear();
         Ok(())
@@ -104,12 +95,9 @@ impl Stream {
             → StandsFor self.old.line.items self.old.driver base (W.written writer.old) bytes
             → StandsFor self.new.line.items self.new.driver base (W.written writer.new) (bytes ++ piece.now)) }
         ensures lines { OnOk result (self.new.driver.lines ≤ self.old.driver.lines + length piece.now) }
-        ensures cut { IfErr result (λ fault. (bytes : List ℕ) (base : Option (List ℕ))
+        ensures cut { IfErr result (λ f. (bytes : List ℕ) (base : Option (List ℕ))
             → StandsFor self.old.line.items self.old.driver base (W.written writer.old) bytes
-            → (more : List ℕ) → IsCutAt base (W.written writer.new) (world_of (bytes ++ (piece.now ++ more))) fault) }
-        ensures memory { IsErrOf result RunFault.Memory → (bytes : List ℕ) (base : Option (List ℕ))
-            → StandsFor self.old.line.items self.old.driver base (W.written writer.old) bytes
-            → (more : List ℕ) → StopsForMemory base (W.written writer.new) (bytes ++ (piece.now ++ more)) }
+            → (more : List ℕ) → IsCutAt base (W.written writer.new) (bytes ++ (piece.now ++ more)) f) }
         ensures steady { OnOk result (W.failures writer.new ≡ W.failures writer.old) }
         ensures write_failed { IsErrOf result RunFault.Write → W.failures writer.old < W.failures writer.new }
     {
@@ -125,47 +113,32 @@ impl Stream {
         ensures whole { IfOk result (λ summary. (bytes : List ℕ) (base : Option (List ℕ))
             → StandsFor self.old.line.items self.old.driver base (W.written writer.old) bytes
             → IsWhole base (W.written writer.new) bytes summary) }
-        ensures cut { IfErr result (λ fault. (bytes : List ℕ) (base : Option (List ℕ))
+        ensures cut { IfErr result (λ f. (bytes : List ℕ) (base : Option (List ℕ))
             → StandsFor self.old.line.items self.old.driver base (W.written writer.old) bytes
-            → IsCutAt base (W.written writer.new) (world_of bytes) fault) }
-        ensures memory { IsErrOf result RunFault.Memory → (bytes : List ℕ) (base : Option (List ℕ))
-            → StandsFor self.old.line.items self.old.driver base (W.written writer.old) bytes
-            → StopsForMemory base (W.written writer.new) bytes }
+            → IsCutAt base (W.written writer.new) bytes f) }
         ensures steady { OnOk result (W.failures writer.new ≡ W.failures writer.old) }
         ensures write_failed { IsErrOf result RunFault.Write → W.failures writer.old < W.failures writer.new }
     {
         if !self.line.is_empty() {
-            self.driver.take_line(&self.line, writer)?;
+            self.driver.take_line(self.line.as_slice(), writer)?;
         }
         Ok(self.driver.summary())
     }
 }
 
-/// Runs the script that the reader gives, and writes what it says to the writer.
-pub fn run<R: Reader, W: Writer>(
+/// Reads to the end, and takes each piece; one clause says what each fault means.
+fn read_all<R: Reader, W: Writer>(
     alloc: Global,
     reader: &mut R,
     writer: &mut W,
 ) -> Result<Summary, RunFault>
-    ensures whole { (input : List ℕ) → R.left reader.old ≡ Some input → IfOk result (IsWhole (W.written writer.old) (W.written writer.new) input) }
-    ensures bad_line { (input : List ℕ) (n : ℕ) → R.left reader.old ≡ Some input → IsErrOf result (RunFault.BadLine n)
-        → EndsBy (world.BadLine n) (W.written writer.old) (W.written writer.new) input }
-    ensures too_long { (input : List ℕ) (n : ℕ) → R.left reader.old ≡ Some input → IsErrOf result (RunFault.LineTooLong n)
-        → EndsBy (world.LineTooLong n) (W.written writer.old) (W.written writer.new) input }
-    ensures cut_by_write { (input : List ℕ) → R.left reader.old ≡ Some input → IsErrOf result RunFault.Write
-        → WroteFront (W.written writer.old) (W.written writer.new) (script input) }
-    ensures cut_by_memory { (input : List ℕ) → R.left reader.old ≡ Some input → IsErrOf result RunFault.Memory
-        → WroteFront (W.written writer.old) (W.written writer.new) (script input) }
-    ensures memory_last { (input : List ℕ) → R.left reader.old ≡ Some input → IsErrOf result RunFault.Memory
-        → StopsForMemory (W.written writer.old) (W.written writer.new) input }
-    ensures stopped_by_read { IsErrOf result RunFault.Read
-        → StopsAfter (R.left reader.old) (R.left reader.new) (W.written writer.old) (W.written writer.new) }
-    ensures stopped_by_endless { IsErrOf result RunFault.Endless
-        → StopsAfter (R.left reader.old) (R.left reader.new) (W.written writer.old) (W.written writer.new) }
+    ensures whole { IfOk result (λ summary. (input : List ℕ) → R.left reader.old ≡ Some input
+        → IsWhole (W.written writer.old) (W.written writer.new) input summary) }
+    ensures stopped { IfErr result (IsStopped (R.left reader.old) (R.left reader.new) (W.written writer.old) (W.written writer.new)) }
     ensures steady { OnOk result ((R.failures reader.new ≡ R.failures reader.old) × (W.failures writer.new ≡ W.failures writer.old)) }
-    ensures read_failed { IsErrOf result RunFault.Read → R.failures reader.old < R.failures reader.new }
-    ensures write_failed { IsErrOf result RunFault.Write → W.failures writer.old < W.failures writer.new }
-    ensures endless { IsErrOf result RunFault.Endless → R.reads reader.new ≡ R.reads reader.old + 2 ^ 32 }
+    ensures failed { IfErr result (HasFailed (R.failures reader.old < R.failures reader.new) (W.failures writer.old < W.failures writer.new)
+        (R.reads reader.new ≡ R.reads reader.old + 2 ^ 32)) }
+    ensures few_reads { R.reads reader.new ≤ R.reads reader.old + 2 ^ 32 }
 {
     let mut stream = Stream::new(alloc);
     let mut piece = [0u8; PIECE];
@@ -180,4 +153,34 @@ pub fn run<R: Reader, W: Writer>(
         stream.feed(&piece[..count], writer)?;
     }
     Err(RunFault::Endless)
+}
+
+/// Runs the script that the reader gives, and writes what it says to the writer.
+pub fn run<R: Reader, W: Writer>(
+    alloc: Global,
+    reader: &mut R,
+    writer: &mut W,
+) -> Result<Summary, RunFault>
+    ensures whole { (input : List ℕ) → R.left reader.old ≡ Some input → IfOk result (IsWhole (W.written writer.old) (W.written writer.new) input) }
+    ensures bad_line { (input : List ℕ) (n : ℕ) → R.left reader.old ≡ Some input → IsErrOf result (RunFault.BadLine n)
+        → EndsBy (world.BadLine n) (W.written writer.old) (W.written writer.new) input }
+    ensures too_long { (input : List ℕ) (n : ℕ) → R.left reader.old ≡ Some input → IsErrOf result (RunFault.LineTooLong n)
+        → EndsBy (world.LineTooLong n) (W.written writer.old) (W.written writer.new) input }
+    ensures cut_by_write { (input : List ℕ) → R.left reader.old ≡ Some input → IsErrOf result RunFault.Write
+        → AppendsPrefix (W.written writer.old) (W.written writer.new) (script input) }
+    ensures cut_by_memory { (input : List ℕ) → R.left reader.old ≡ Some input → IsErrOf result RunFault.Memory
+        → AppendsPrefix (W.written writer.old) (W.written writer.new) (script input) }
+    ensures memory_last { (input : List ℕ) → R.left reader.old ≡ Some input → IsErrOf result RunFault.Memory
+        → StopsForMemory (W.written writer.old) (W.written writer.new) input }
+    ensures stopped_by_read { IsErrOf result RunFault.Read
+        → StopsAfter (R.left reader.old) (R.left reader.new) (W.written writer.old) (W.written writer.new) }
+    ensures stopped_by_endless { IsErrOf result RunFault.Endless
+        → StopsAfter (R.left reader.old) (R.left reader.new) (W.written writer.old) (W.written writer.new) }
+    ensures steady { OnOk result ((R.failures reader.new ≡ R.failures reader.old) × (W.failures writer.new ≡ W.failures writer.old)) }
+    ensures read_failed { IsErrOf result RunFault.Read → R.failures reader.old < R.failures reader.new }
+    ensures write_failed { IsErrOf result RunFault.Write → W.failures writer.old < W.failures writer.new }
+    ensures few_reads { R.reads reader.new ≤ R.reads reader.old + 2 ^ 32 }
+    ensures endless { IsErrOf result RunFault.Endless → R.reads reader.new ≡ R.reads reader.old + 2 ^ 32 }
+{
+    read_all(alloc, reader, writer)
 }

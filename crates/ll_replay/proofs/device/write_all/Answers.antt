@@ -1,15 +1,15 @@
--- Each write takes a front of what is left, so the fronts join.
+-- Each write takes the first of what is left, so what was taken joins.
 use Rattle.std.proofs.Common.{◌∙◌}
-use Rattle.ll_replay.proofs.WriteLemmas.{taken_within, Wrote-taken, WroteFront-taken, OnErr-from}
+use Rattle.ll_replay.proofs.WriteLemmas.{taken_within, Appends-taken, AppendsPrefix-taken}
 use Rattle.ll_replay.proofs.device.write_all.Goals as goal
 
 pub returns-in_err-taken-clause-cut : goal.returns-in_err-taken-clause-cut
 returns-in_err-taken-clause-cut g c =
-    OnErr-from c.from_residual.result (WroteFront-taken _ _ _ c.args.text.now c.loop-taken.taken c.loop-taken.invariant.wrote c.in_err-taken.ensures.kept)
+    AppendsPrefix-taken c.from_residual.result _ _ _ c.args.text.now c.loop-taken.taken c.loop-taken.invariant.wrote c.in_err-taken.ensures.kept
 
 pub loop-taken-preserved : goal.loop-taken-preserved
 loop-taken-preserved g c = record {
   within = taken_within c.args.text.now c.loop-taken.taken c.in_ok-taken.field-0 c.loop-taken.invariant.within c.in_ok-taken.ensures.count;
-  wrote = Wrote-taken _ _ _ c.args.text.now c.loop-taken.taken c.in_ok-taken.field-0 c.loop-taken.invariant.wrote c.in_ok-taken.ensures.bytes;
+  wrote = Appends-taken _ _ _ c.args.text.now c.loop-taken.taken c.in_ok-taken.field-0 c.loop-taken.invariant.wrote c.in_ok-taken.ensures.bytes;
   steady = c.in_ok-taken.ensures.steady ∙ c.loop-taken.invariant.steady;
 }

@@ -1,12 +1,12 @@
 -- A front of the text is written, and no write has failed.
 use Rattle.std.proofs.Common.{length, ◌-◌, ◌≡◌, ◌≤◌, take}
-use Rattle.ll_replay.specs.Stream.{Wrote}
+use Rattle.std.specs.Io.KnownBytes.{Appends}
 use Rattle.ll_replay.proofs.device.write_all.Given as goal
 
 abbrev pub invariant-loop-taken : goal.invariant-loop-taken
 invariant-loop-taken g l = record {
   within : l.taken ≤ length l.text;
-  wrote : Wrote (g.W.Writer.written l.fn.writer) (g.W.Writer.written l.writer) (take l.taken l.text);
+  wrote : Appends (g.W.Writer.written l.fn.writer) (g.W.Writer.written l.writer) (take l.taken l.text);
   steady : g.W.Writer.failures l.writer ≡ g.W.Writer.failures l.fn.writer;
 }
 

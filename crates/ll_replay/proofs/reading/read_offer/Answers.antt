@@ -1,9 +1,8 @@
 -- The line is cut at its first space, and the channel of that name reads the rest.
-use Rattle.std.proofs.Common.{◌≡◌, true, sym, subst, ◌∙◌, ap, IfOk, IsErrOf}
+use Rattle.std.proofs.Common.{◌≡◌, sym, subst, ◌∙◌, ap, IfOk}
 use Rattle.std.proofs.lemmas.Option.{MatchOption-at_none, MatchOption-at_some}
 use Rattle.ll_replay.specs.Kept.{settings_kept}
 use Rattle.ll_replay.specs.Lines as spec
-use Rattle.ll_replay.specs.declared.reading.Unread.TheVariants as unread
 use Rattle.ll_replay.proofs.ReadingLemmas.{offer-cut}
 use Rattle.ll_replay.proofs.reading.read_offer.Goals as goal
 
@@ -22,9 +21,3 @@ returns-clause-act c =
     let cut = offer-cut (settings_kept c.args.channels.now) c.args.text.now c.split_once.result c.utf8.text c.split_once.ensures.cases in
     let is = MatchOption-at_some _ _ _ c.in-Some.is cut ∙ ap (λ d. spec.offer_to d c.in-Some.line.now) c.in-Some-find.ensures in
     subst (λ x. IfOk c.read_item.result (λ a. a ≡ x)) (sym is) c.read_item.ensures.act
-
-pub returns-clause-memory : goal.returns-clause-memory
-returns-clause-memory c =
-    let cut = offer-cut (settings_kept c.args.channels.now) c.args.text.now c.split_once.result c.utf8.text c.split_once.ensures.cases in
-    let is = MatchOption-at_some _ _ _ c.in-Some.is cut ∙ ap (λ d. spec.offer_to d c.in-Some.line.now) c.in-Some-find.ensures in
-    subst (λ x. IsErrOf c.read_item.result unread.Memory → spec.is_offer x ≡ true) (sym is) c.read_item.ensures.memory

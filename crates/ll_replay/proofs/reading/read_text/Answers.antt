@@ -12,3 +12,8 @@ returns-in-Some-act-clause-act c =
       | in-Some-after w ↦ grind (arith, common_steps)
       | in-None+in_ok-act-in-None w ↦ grind (arith, common_steps)
     ]
+
+pub returns-in_err-act-in-None-clause-memory : goal.returns-in_err-act-in-None-clause-memory
+returns-in_err-act-in-None-clause-memory c =
+    let utf8 = is_utf8-from_IsUtf8 c.args.line.now c.utf8.line in
+    grind (arith, common_steps)

@@ -1,6 +1,6 @@
 -- The stream stands for the bytes before the piece and those of it so far.
 use Rattle.std.proofs.Common.{◌≡◌, ◌≤◌, ◌+◌, ◌++◌, List, ℕ, Option, take}
-use Rattle.ll_replay.specs.Stream.{StandsFor}
+use Rattle.ll_replay.specs.Cuts.{StandsFor}
 use Rattle.ll_replay.proofs.stream.Stream.feed.Given as goal
 
 abbrev pub invariant-loop-b : goal.invariant-loop-b

@@ -1,8 +1,8 @@
 -- Each piece that was read was fed, and gave no more lines than bytes.
 use Rattle.std.proofs.Common.{◌≡◌, ◌≤◌, ◌+◌, ◌*◌, List, ℕ}
-use Rattle.ll_replay.specs.Stream.{StandsFor}
-use Rattle.ll_replay.proofs.RunLemmas.{WasRead}
-use Rattle.ll_replay.proofs.stream.run.Given as goal
+use Rattle.std.specs.Io.KnownBytes.{Consumes}
+use Rattle.ll_replay.specs.Cuts.{StandsFor}
+use Rattle.ll_replay.proofs.stream.read_all.Given as goal
 
 abbrev pub invariant-loop : goal.invariant-loop
 invariant-loop g l = record {
@@ -11,5 +11,5 @@ invariant-loop g l = record {
   write : g.W.Writer.failures l.writer ≡ g.W.Writer.failures l.fn.writer;
   lines : l.stream.driver.lines ≤ 65536 * l.counter;
   stands : (bytes : List ℕ) × StandsFor l.stream.line.items l.stream.driver (g.W.Writer.written l.fn.writer) (g.W.Writer.written l.writer) bytes
-      × WasRead (g.R.Reader.left l.fn.reader) (g.R.Reader.left l.reader) bytes;
+      × Consumes (g.R.Reader.left l.fn.reader) (g.R.Reader.left l.reader) bytes;
 }
