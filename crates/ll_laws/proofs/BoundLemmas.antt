@@ -14,8 +14,8 @@ use Rattle.ll_window.specs.Step.{with_part_by, with_break, with_item, ended_by}
 use Rattle.ll_window.proofs.KeptLemmas.{limits}
 use Rattle.ll_window.proofs.StepLemmas.{compact-snoc}
 use Rattle.ll_read.specs.Readable.{Where}
-use Rattle.ll_apply.proofs.ItemLemmas.{AreInOrder}
-use Rattle.ll_apply.proofs.OwnSegmentProof.{unended}
+use Rattle.ll_laws.proofs.ItemLemmas.{AreInOrder}
+use Rattle.ll_laws.proofs.OwnSegmentProof.{unended}
 
 -- the place of a part is within bounds
 abbrev pub IsPlaced : Place → Type 0

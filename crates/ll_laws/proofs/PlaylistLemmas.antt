@@ -1,6 +1,5 @@
 -- A delta update, put upon a full playlist: its numbers are those of the window's rows, and no skipped one is missing.
-use Rattle.std.proofs.Common.{◌≡◌, ℕ, zero, suc, ◌+◌, ◌-◌, ◌*◌, ◌≤◌, ◌<◌, List, [], ◌∷◌, ◌++◌, Bool, true, false, nat_le, nat_lt, ◌&&◌, drop, length, None, refl, ap, ◌∙◌, arith}
-use Rattle.std.proofs.lemmas.Bool.Decides.{nat_tests}
+use Rattle.std.proofs.Common.{◌≡◌, ℕ, zero, suc, ◌+◌, ◌-◌, ◌*◌, ◌≤◌, ◌<◌, List, [], ◌∷◌, ◌++◌, Bool, true, false, nat_lt, drop, length, refl, ap, ◌∙◌, arith}
 use Rattle.std.proofs.lemmas.List.{length-drop}
 use Rattle.ll_item.specs.Settings.{Configuration}
 use Rattle.ll_item.specs.declared.item.Item.{Item}
@@ -11,20 +10,9 @@ use Rattle.ll_window.specs.Segments.{own, segments, open_segment, duration}
 use Rattle.ll_window.specs.Window.{window_limit, near_limit, window, listed, shown_by}
 use Rattle.ll_window.proofs.WindowLemmas.{length_listed}
 use Rattle.ll_page.specs.declared.rendition.Rendition.{Rendition}
-use Rattle.ll_page.specs.Playlist.{Playlist}
 use Rattle.ll_page.specs.Full.{printed, sequence_of}
 use Rattle.ll_page.specs.View.{kept, renditions_from, at_place}
-use Rattle.ll_apply.specs.Applied.{missing, missing_by}
-use Rattle.ll_apply.proofs.RowLemmas.{left, left-le, window-drop}
-
-has_one : (low count m : ℕ) → low ≤ m → suc m ≤ low + count → (nat_le low m && nat_lt m (low + count)) ≡ true
-has_one low count m a b = grind (arith, nat_tests)
-
-pub missing-none : (base : Playlist) (m n : ℕ) → base.sequence ≤ m → m + n ≤ base.sequence + length base.segments → missing base m n ≡ None
-missing-none base m zero low high = refl
-missing-none base m (suc n) low high =
-    ap (λ b. missing_by b m (missing base (m + 1) n)) (has_one base.sequence (length base.segments) m low (omega arith))
-    ∙ missing-none base (m + 1) n (omega arith) (omega arith)
+use Rattle.ll_laws.proofs.RowLemmas.{left, left-le, window-drop}
 
 pub length-rows : (n m t : ℕ) (gs : List (List Part)) → length (rows n m t gs) ≡ length gs
 length-rows n m t [] = refl

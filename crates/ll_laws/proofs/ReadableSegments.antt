@@ -8,9 +8,9 @@ use Rattle.ll_window.specs.Segments.{duration}
 use Rattle.ll_page.specs.Full.{part_lines, map_of, block_of, printed, open_of}
 use Rattle.ll_read.specs.Readable.{Each, Where, duration_end, has_map, IsReadablePart, IsReadableBlock, AreReadableSegments, IsReadableOpen}
 use Rattle.ll_read.specs.Shape.{is_empty}
-use Rattle.ll_apply.proofs.ShortLemmas.{IsShort}
-use Rattle.ll_apply.proofs.SplitLemmas.{duration-cons}
-use Rattle.ll_apply.proofs.TextLemmas.{uri-segment, uri-part, uri-map, readable-time}
+use Rattle.ll_laws.proofs.ShortLemmas.{IsShort}
+use Rattle.ll_laws.proofs.SplitLemmas.{duration-cons}
+use Rattle.ll_laws.proofs.TextLemmas.{uri-segment, uri-part, uri-map, readable-time}
 
 parts_readable : (most number index : ℕ) (ps : List Part) → duration ps ≤ most → most < duration_end → Each IsReadablePart (part_lines number index ps)
 parts_readable most number index [] le low = tt

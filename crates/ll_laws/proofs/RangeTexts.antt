@@ -16,7 +16,7 @@ use Rattle.ll_attr.specs.declared.attributes.AttrValue.TheVariants.{Quoted}
 use Rattle.ll_attr.proofs.Spelled.{read_by, read_ok, then_ok}
 use Rattle.ll_page.specs.Spelling.{after_comma}
 use Rattle.ll_range.specs.Attributes.{is_id, is_id_byte, is_allowed, are_allowed}
-use Rattle.ll_apply.proofs.TextLemmas.{all-so}
+use Rattle.ll_laws.proofs.TextLemmas.{all-so}
 
 -- bytes of an ID may stand in quotes
 

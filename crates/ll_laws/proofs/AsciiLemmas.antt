@@ -20,8 +20,8 @@ use Rattle.ll_page.specs.Playlist.{PartLine, Report, Header}
 use Rattle.ll_page.specs.Spelling.{first_lines, target_line, control_end, control_front, control_line, part_target_line, sequence_line, discontinuity_line, skip_front, skip_line, skip_lines, broken_line, map_line, map_lines, time_line, independent_flag, part_line, finished_lines, header_lines, block_lines, segment_lines, open_lines, report_line, hint_line, end_line, last_line}
 use Rattle.ll_page.specs.Uris.{part_uri, segment_uri, map_uri, report_uri}
 use Rattle.ll_page.specs.View.{renditions_from}
-use Rattle.ll_apply.proofs.ReadableReports.{first-name}
-use Rattle.ll_apply.proofs.TextLemmas.{is_plain, ArePlain, all-append, all-so, plain-decimal, plain-segment, plain-part, plain-map, plain-report, plain-time}
+use Rattle.ll_laws.proofs.ReadableReports.{first-name}
+use Rattle.ll_laws.proofs.TextLemmas.{is_plain, ArePlain, all-append, all-so, plain-decimal, plain-segment, plain-part, plain-map, plain-report, plain-time}
 
 abbrev pub AreAscii : List ℕ → Type 0
 AreAscii text = list_all is_ascii text ≡ true

@@ -16,18 +16,19 @@ use Rattle.ll_page.specs.View.{Seen, seen, asked, kept, renditions}
 use Rattle.ll_read.specs.Lines.{number_end}
 use Rattle.ll_read.specs.Readable.{IsReadable, IsReadableHeader, IsReadableOpen, Where, duration_end}
 use Rattle.ll_read.specs.Shape.{is_empty}
-use Rattle.ll_apply.specs.Published.{ArePublished, ReadableLaw}
-use Rattle.ll_apply.proofs.AsciiLemmas.{ascii-skip, ascii-segments, ascii-open, ascii-reports, ascii-last}
-use Rattle.ll_apply.proofs.BoundLemmas.{IsBounded, bounded}
-use Rattle.ll_apply.proofs.EachLemmas.{each-drop}
-use Rattle.ll_apply.proofs.ItemLemmas.{in-order}
-use Rattle.ll_apply.proofs.OwnSegmentProof.{some-left}
-use Rattle.ll_apply.proofs.PlaylistLemmas.{sequence-is, asked-is}
-use Rattle.ll_apply.proofs.RangeItems.{accepted, listable, readable-ranges, distinct-ranges}
-use Rattle.ll_apply.proofs.ReadableReports.{readable-reports, readable-hint}
-use Rattle.ll_apply.proofs.ReadableSegments.{readable-segments, readable-open, empty-printed}
-use Rattle.ll_apply.proofs.ShortLemmas.{IsShort, short-window, short-open, few-left, few-breaks, few-window}
-use Rattle.ll_apply.proofs.Utf8Lemmas.{utf8-ranges, utf8-playlist}
+use Rattle.ll_laws.specs.Published.{ArePublished}
+use Rattle.ll_laws.specs.Laws.{ReadableLaw}
+use Rattle.ll_laws.proofs.AsciiLemmas.{ascii-skip, ascii-segments, ascii-open, ascii-reports, ascii-last}
+use Rattle.ll_laws.proofs.BoundLemmas.{IsBounded, bounded}
+use Rattle.ll_laws.proofs.EachLemmas.{each-drop}
+use Rattle.ll_laws.proofs.ItemLemmas.{in-order}
+use Rattle.ll_laws.proofs.OwnSegmentProof.{some-left}
+use Rattle.ll_laws.proofs.PlaylistLemmas.{sequence-is, asked-is}
+use Rattle.ll_laws.proofs.RangeItems.{accepted, listable, readable-ranges, distinct-ranges}
+use Rattle.ll_laws.proofs.ReadableReports.{readable-reports, readable-hint}
+use Rattle.ll_laws.proofs.ReadableSegments.{readable-segments, readable-open, empty-printed}
+use Rattle.ll_laws.proofs.ShortLemmas.{IsShort, short-window, short-open, few-left, few-breaks, few-window}
+use Rattle.ll_laws.proofs.Utf8Lemmas.{utf8-ranges, utf8-playlist}
 
 header_readable : (c : Configuration) → IsWithin c → IsReadableHeader (header_of c)
 header_readable c within = record {

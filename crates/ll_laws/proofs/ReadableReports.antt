@@ -12,9 +12,9 @@ use Rattle.ll_page.specs.Uris.{part_uri}
 use Rattle.ll_page.specs.View.{renditions_from}
 use Rattle.ll_read.specs.Lines.{is_uri}
 use Rattle.ll_read.specs.Readable.{Each, Where, IsReadableReport}
-use Rattle.ll_apply.proofs.BoundLemmas.{IsPlaced}
-use Rattle.ll_apply.proofs.EachLemmas.{each-append}
-use Rattle.ll_apply.proofs.TextLemmas.{uri-part, uri-report}
+use Rattle.ll_laws.proofs.BoundLemmas.{IsPlaced}
+use Rattle.ll_laws.proofs.EachLemmas.{each-append}
+use Rattle.ll_laws.proofs.TextLemmas.{uri-part, uri-report}
 
 one_report : (own_one : Bool) (name : List ℕ) (last : Option Place) → is_name name ≡ true → Where IsPlaced last → Each IsReadableReport (report_by own_one name last)
 one_report true name last named placed = tt

@@ -5,8 +5,8 @@ use Rattle.ll_window.specs.Rows.{Row}
 use Rattle.ll_window.specs.Window.{window, listed, skipped_in}
 use Rattle.ll_page.specs.Full.{finished_of, printed}
 use Rattle.ll_apply.specs.Applied.{in_force, mapped, without_parts}
-use Rattle.ll_apply.proofs.MapLemmas.{AreCounted, led, counted-window, counted-listed, in_force-printed, in_force-after, mapped-led, without_parts-led}
-use Rattle.ll_apply.proofs.RowLemmas.{left, window-drop, skipped-within, skipped-bare, kept-rows}
+use Rattle.ll_laws.proofs.MapLemmas.{AreCounted, led, counted-window, counted-listed, in_force-printed, in_force-after, mapped-led, without_parts-led}
+use Rattle.ll_laws.proofs.RowLemmas.{left, window-drop, skipped-within, skipped-bare, kept-rows}
 
 -- what is skipped stands in the first segments, where none of the others is
 pub within : (limit least b k : ℕ) (rs ss : List Row) → skipped_in limit b ss ≡ 0 → skipped_in limit b (window least (rs ++ ss)) ≡ suc k

@@ -14,8 +14,8 @@ use Rattle.ll_page.specs.Full.{range_line}
 use Rattle.ll_page.specs.Playlist.{Playlist}
 use Rattle.ll_page.specs.Spelling.{spelling, header_lines, sequence_line, discontinuity_line, date_range_line, after_comma, skip_lines, segment_lines, open_lines, report_line, last_line, front_lines}
 use Rattle.ll_read.specs.Readable.{Each}
-use Rattle.ll_apply.proofs.AsciiLemmas.{AreAscii, ascii-append, ascii-header, ascii-sequence, ascii-discontinuity}
-use Rattle.ll_apply.proofs.RangeItems.{IsListable}
+use Rattle.ll_laws.proofs.AsciiLemmas.{AreAscii, ascii-append, ascii-header, ascii-sequence, ascii-discontinuity}
+use Rattle.ll_laws.proofs.RangeItems.{IsListable}
 
 low : (b : ℕ) → is_ascii b ≡ true → b < 128
 low b h = grind (arith, nat_tests)

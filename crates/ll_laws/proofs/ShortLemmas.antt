@@ -11,9 +11,9 @@ use Rattle.ll_window.specs.Window.{window_limit, near_limit, gone, window, liste
 use Rattle.ll_window.proofs.SuffixLemmas.{suffix}
 use Rattle.ll_window.proofs.WindowLemmas.{broken-cons, length_listed}
 use Rattle.ll_read.specs.Readable.{Each}
-use Rattle.ll_apply.proofs.PlaylistLemmas.{length-rows, left_of}
-use Rattle.ll_apply.proofs.RowLemmas.{left-le, one_at_most}
-use Rattle.ll_apply.proofs.SplitLemmas.{total, total-cons, total-append, total-closed, whole-split}
+use Rattle.ll_laws.proofs.PlaylistLemmas.{length-rows, left_of}
+use Rattle.ll_laws.proofs.RowLemmas.{left-le, one_at_most}
+use Rattle.ll_laws.proofs.SplitLemmas.{total, total-cons, total-append, total-closed, whole-split}
 
 -- it lasts no longer than this, and neither do its listed parts
 abbrev pub IsShort : ℕ → Row → Type 0

@@ -14,13 +14,14 @@ use Rattle.ll_page.specs.Delta.{update_of, delta_by}
 use Rattle.ll_page.specs.View.{Seen, seen, asked, kept}
 use Rattle.ll_apply.specs.Applied as spec
 use Rattle.ll_apply.specs.Applied.{applied, missing, mapped, in_force, without_parts, unless_missing, put_upon}
-use Rattle.ll_apply.specs.Law.{CompanionLaw}
-use Rattle.ll_apply.proofs.ItemLemmas.{IsLater, in-order, is-later}
-use Rattle.ll_apply.proofs.MapLemmas.{AreCounted, counted-rows}
-use Rattle.ll_apply.proofs.PlaylistLemmas.{missing-none, rows-append, left_of, sequence-is, length-is, asked-is}
+use Rattle.ll_laws.specs.Laws.{CompanionLaw}
+use Rattle.ll_laws.proofs.ItemLemmas.{IsLater, in-order, is-later}
+use Rattle.ll_laws.proofs.MapLemmas.{AreCounted, counted-rows}
+use Rattle.ll_apply.proofs.MissingLemmas.{missing-none}
+use Rattle.ll_laws.proofs.PlaylistLemmas.{rows-append, left_of, sequence-is, length-is, asked-is}
 use Rattle.ll_window.proofs.SkipLemmas.{skipped-listed}
-use Rattle.ll_apply.proofs.RowLemmas.{left, left-append}
-use Rattle.ll_apply.proofs.SegmentLemmas.{within, segments-law}
+use Rattle.ll_laws.proofs.RowLemmas.{left, left-append}
+use Rattle.ll_laws.proofs.SegmentLemmas.{within, segments-law}
 
 -- the laws on segments, where all of them have a name
 

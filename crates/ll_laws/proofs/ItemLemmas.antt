@@ -11,8 +11,8 @@ use Rattle.ll_window.specs.Refusal.{refusal, refusal_by, refusal_before_end}
 use Rattle.ll_window.specs.Rows.{rows}
 use Rattle.ll_window.specs.Segments.{own, parts_from, parts, pending_after, ended, Split, split, finished_by, unfinished_by, closed, segments, open_segment, duration, end_time}
 use Rattle.ll_window.specs.Window.{skipped_in}
-use Rattle.ll_apply.specs.Law.{AreAccepted}
-use Rattle.ll_apply.proofs.SplitLemmas.{split-append, after, duration-append, none-later, going-unfinished}
+use Rattle.ll_laws.specs.Published.{AreAccepted}
+use Rattle.ll_laws.proofs.SplitLemmas.{split-append, after, duration-append, none-later, going-unfinished}
 
 -- each of these items of one rendition may follow those before it
 abbrev pub AreInOrder : Configuration → List Item → List Item → Type 0

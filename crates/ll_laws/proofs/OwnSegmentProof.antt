@@ -18,10 +18,11 @@ use Rattle.ll_window.proofs.StepLemmas.{compact-snoc, duration-snoc}
 use Rattle.ll_page.specs.Playlist.{Skip}
 use Rattle.ll_page.specs.Delta.{delta_by}
 use Rattle.ll_page.specs.View.{Seen, seen, asked}
-use Rattle.ll_apply.specs.Law.{AreAccepted, OwnSegmentLaw}
-use Rattle.ll_apply.proofs.ItemLemmas.{AreInOrder, in-order}
-use Rattle.ll_apply.proofs.PlaylistLemmas.{length-printed, asked-is}
-use Rattle.ll_apply.proofs.RowLemmas.{one_at_most}
+use Rattle.ll_laws.specs.Laws.{OwnSegmentLaw}
+use Rattle.ll_laws.specs.Published.{AreAccepted}
+use Rattle.ll_laws.proofs.ItemLemmas.{AreInOrder, in-order}
+use Rattle.ll_laws.proofs.PlaylistLemmas.{length-printed, asked-is}
+use Rattle.ll_laws.proofs.RowLemmas.{one_at_most}
 
 part_limit : (c : Configuration) (n lasts ends micros : ℕ) → part_refusal c n lasts ends micros ≡ None → (lasts + micros + 500000) / 1000000 ≤ c.target
 part_limit c n lasts ends micros e = grind (arith, nat_tests, e)

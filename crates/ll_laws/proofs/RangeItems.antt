@@ -18,11 +18,11 @@ use Rattle.ll_range.proofs.OneMore.{end_from, listed-silent, listed-range, liste
 use Rattle.ll_page.specs.Full.{range_line}
 use Rattle.ll_read.specs.Ranges.{has_id}
 use Rattle.ll_read.specs.Readable.{Each, IsReadableRange, are_distinct}
-use Rattle.ll_apply.specs.Law.{AreAccepted}
-use Rattle.ll_apply.specs.Published.{IsSpelled, HasTexts, ArePublished}
-use Rattle.ll_apply.proofs.EachLemmas.{each-append, each-filter, each-map}
-use Rattle.ll_apply.proofs.ItemLemmas.{own_one, same}
-use Rattle.ll_apply.proofs.RangeTexts.{read-with_id}
+use Rattle.ll_laws.specs.Published.{AreAccepted}
+use Rattle.ll_laws.specs.Published.{IsSpelled, HasTexts, ArePublished}
+use Rattle.ll_laws.proofs.EachLemmas.{each-append, each-filter, each-map}
+use Rattle.ll_laws.proofs.ItemLemmas.{own_one, same}
+use Rattle.ll_laws.proofs.RangeTexts.{read-with_id}
 
 pub accepted : (c : Configuration) (before items : List Item) → ArePublished c before items → AreAccepted c before items
 accepted c before [] h = tt
