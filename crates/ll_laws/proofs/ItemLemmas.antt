@@ -1,7 +1,8 @@
 -- The items of one rendition with more after them: nothing follows an end, and later segments are the earlier ones and more.
-use Rattle.std.proofs.Common.{◌≡◌, ℕ, ◌+◌, ◌≤◌, ◌==◌, List, [], ◌∷◌, ◌++◌, Bool, true, false, cond, append-nil, append_assoc, None, refl, ap, sym, ◌∙◌, arith}
+use Rattle.std.proofs.Common.{◌≡◌, ℕ, ◌+◌, ◌≤◌, ◌==◌, List, [], ◌∷◌, ◌++◌, Bool, true, false, cond, fold, append-nil, append_assoc, None, refl, ap, sym, ◌∙◌, arith}
 use Rattle.std.proofs.lemmas.Bool.Decides.{nat_tests}
 use Rattle.std.proofs.lemmas.List.Elements.{filter-append}
+use Rattle.std.proofs.lemmas.List.Sums.{fold-append}
 use Rattle.ll_item.specs.Items.{rendition_of}
 use Rattle.ll_item.specs.Settings.{Configuration}
 use Rattle.ll_item.specs.declared.item.Item.{Item}
@@ -9,8 +10,10 @@ use Rattle.ll_item.specs.declared.item.Item.TheVariants as item
 use Rattle.ll_window.specs.declared.part.Part.{Part}
 use Rattle.ll_window.specs.Refusal.{refusal, refusal_by, refusal_before_end}
 use Rattle.ll_window.specs.Rows.{rows}
-use Rattle.ll_window.specs.Segments.{own, parts_from, parts, pending_after, ended, Split, split, finished_by, unfinished_by, closed, segments, open_segment, duration, end_time}
+use Rattle.ll_window.specs.Segments.{own, parts, ended, Split, split, finished_by, unfinished_by, closed, segments, open_segment, duration, end_time}
+use Rattle.ll_window.specs.Told.{Told, start, step, told}
 use Rattle.ll_window.specs.Window.{skipped_in}
+use Rattle.ll_window.proofs.StepLemmas.{duration-snoc}
 use Rattle.ll_laws.specs.Published.{AreAccepted}
 use Rattle.ll_laws.proofs.SplitLemmas.{split-append, after, duration-append, none-later, going-unfinished}
 
@@ -45,13 +48,35 @@ accepted-after c before (x ∷ xs) ys h = rw (append_assoc before (x ∷ []) xs)
 pub in-order : (c : Configuration) (r : ℕ) (items more : List Item) → AreAccepted c [] (items ++ more) → AreInOrder c (own r items) (own r more)
 in-order c r items more h = in_order-own c r items more (accepted-after c [] items more h)
 
-parts-append : (b : Bool) (xs ys : List Item) → parts_from b (xs ++ ys) ≡ parts_from b xs ++ parts_from (pending_after b xs) ys
-parts-append b [] ys = refl
-parts-append b (item.Part q n i f ∷ xs) ys = ap (λ ps. (record { duration = n; independent = i; finish = f; after_break = b }) ∷ ps) (parts-append false xs ys)
-parts-append b (item.Break q ∷ xs) ys = parts-append true xs ys
-parts-append b (item.End q ∷ xs) ys = parts-append b xs ys
-parts-append b (item.Range q id attributes ∷ xs) ys = parts-append b xs ys
-parts-append b (item.Unrange q id ∷ xs) ys = parts-append b xs ys
+-- all parts last as long as it is told
+lasts_on : (t : Told) (ys : List Item) → t.end_time ≡ duration t.parts → (fold step t ys).end_time ≡ duration (fold step t ys).parts
+lasts_on t [] e = e
+lasts_on t (item.Part q n i f ∷ ys) e =
+    let d = duration-snoc t.parts (record { duration = n; independent = i; finish = f; after_break = t.pending }) in
+    lasts_on (step t (item.Part q n i f)) ys (omega (arith, d, e))
+lasts_on t (item.Break q ∷ ys) e = lasts_on (step t (item.Break q)) ys e
+lasts_on t (item.End q ∷ ys) e = lasts_on (step t (item.End q)) ys e
+lasts_on t (item.Range q id attributes ∷ ys) e = lasts_on (step t (item.Range q id attributes)) ys e
+lasts_on t (item.Unrange q id ∷ ys) e = lasts_on (step t (item.Unrange q id)) ys e
+
+pub lasts : (items : List Item) → end_time items ≡ duration (parts items)
+lasts items = lasts_on start items refl
+
+-- later parts are the earlier ones and more
+record HasMore (earlier later : List Part) : Type 0 where
+  pub more : List Part
+  pub longer : later ≡ earlier ++ more
+
+more_parts : (t : Told) (ys : List Item) → HasMore t.parts (fold step t ys).parts
+more_parts t [] = record { more = []; longer = sym (append-nil t.parts) }
+more_parts t (item.Part q n i f ∷ ys) =
+    let p : Part = record { duration = n; independent = i; finish = f; after_break = t.pending } in
+    let h = more_parts (step t (item.Part q n i f)) ys in
+    record { more = p ∷ h.more; longer = h.longer ∙ append_assoc t.parts (p ∷ []) h.more }
+more_parts t (item.Break q ∷ ys) = more_parts (step t (item.Break q)) ys
+more_parts t (item.End q ∷ ys) = more_parts (step t (item.End q)) ys
+more_parts t (item.Range q id attributes ∷ ys) = more_parts (step t (item.Range q id attributes)) ys
+more_parts t (item.Unrange q id ∷ ys) = more_parts (step t (item.Unrange q id)) ys
 
 -- later segments are the earlier ones and more, of which none is skipped, whatever their numbers and times
 pub record IsLater (limit : ℕ) (before after : List Item) : Type 0 where
@@ -76,12 +101,13 @@ later_by : (c : Configuration) (limit : ℕ) (xs ys : List Item) (b : Bool) → 
     → IsLater limit xs (xs ++ ys)
 later_by c limit xs ys true e h le =
     rw (nothing_after c xs ys e h) (rw (append-nil xs) (record { more = []; longer = sym (append-nil (segments xs)); none = λ n m t. refl }))
-later_by c limit xs ys false e h le =
+later_by c limit xs ys false e in_order le =
     let ps = parts xs in
-    let qs = parts_from (pending_after false xs) ys in
+    let h = more_parts (told xs) ys in
+    let qs = h.more in
     let u = (split ps).unfinished in
     let f = ended (xs ++ ys) in
-    let all = parts-append false xs ys ∙ refl in
+    let all = ap (λ (t : Told). t.parts) (fold-append step start xs ys) ∙ h.longer in
     record {
       more = finished_by f (split (u ++ qs));
       longer = ap (λ ps. finished_by f (split ps)) all ∙ ap (finished_by f) (split-append ps qs) ∙ finished_after f (split ps).finished (split (u ++ qs))
@@ -90,7 +116,7 @@ later_by c limit xs ys false e h le =
           ∙ ap (λ (s : Split). skipped_in limit (duration (unfinished_by f s)) (rows n m t (finished_by f (split (u ++ qs))))) (split-append ps qs)
           ∙ ap (λ ps. skipped_in limit (duration ps) (rows n m t (finished_by f (split (u ++ qs))))) (unfinished_after f (split ps).finished (split (u ++ qs)))
           ∙ none-later limit n m t f u qs (going-unfinished ps)
-          (let a = duration-append u qs in let b = duration-append ps qs in let d = ap duration all in omega arith);
+          (let a = duration-append u qs in let b = duration-append ps qs in let d = ap duration all in let x = lasts xs in let y = lasts (xs ++ ys) in omega arith);
     }
 
 pub is-later : (c : Configuration) (limit : ℕ) (xs ys : List Item) → AreInOrder c xs ys → end_time (xs ++ ys) ≤ end_time xs + limit → IsLater limit xs (xs ++ ys)

@@ -2,24 +2,26 @@
 use Rattle.std.proofs.Common.{◌≡◌, ℕ, ◌==◌, ◌&&◌, ◌||◌, Bool, true, false, not, cond, List, [], ◌∷◌, ◌++◌, map, filter, append-nil, append_assoc, refl, ap, sym, subst, ◌∙◌, bytes_eq, Some, None, if◌then◌else◌}
 use Rattle.std.proofs.lemmas.Bool.{and_from, or_parts, or_from}
 use Rattle.std.proofs.lemmas.List.Folds.{list_any-append}
+use Rattle.std.proofs.lemmas.List.Sums.{fold-append}
 use Rattle.std.proofs.lemmas.Slice.Eq.{bytes_eq-Decides}
 use Rattle.std.specs.List.{list_any}
 use Rattle.std.specs.Str.{is_utf8}
+use Rattle.ll_attr.specs.Attributes as attribute
+use Rattle.ll_attr.specs.declared.attributes.Attribute.{Attribute}
 use Rattle.ll_item.specs.Items.{rendition_of}
 use Rattle.ll_item.specs.Settings.{Configuration}
 use Rattle.ll_item.specs.declared.item.Item.{Item}
 use Rattle.ll_item.specs.declared.item.Item.TheVariants as item
-use Rattle.ll_window.specs.Segments.{own}
+use Rattle.ll_window.specs.Segments.{own, end_time}
+use Rattle.ll_window.specs.Told.{Told, Listed, start, step, told}
 use Rattle.ll_range.specs.Announced as range
-use Rattle.ll_range.specs.Announced.{Listed, listed, announced, add_refusal, is_listed, was_removed}
+use Rattle.ll_range.specs.Announced.{announced, is_listed, was_removed}
 use Rattle.ll_range.specs.Attributes.{is_id, are_allowed}
 use Rattle.ll_range.specs.declared.ranges.RangeFault.TheVariants.{IdTaken, BadAttribute}
-use Rattle.ll_range.proofs.OneMore.{end_from, listed-silent, listed-range, listed-unrange}
 use Rattle.ll_page.specs.Full.{range_line}
 use Rattle.ll_read.specs.Ranges.{has_id}
 use Rattle.ll_read.specs.Readable.{Each, IsReadableRange, are_distinct}
-use Rattle.ll_laws.specs.Published.{AreAccepted}
-use Rattle.ll_laws.specs.Published.{IsSpelled, HasTexts, ArePublished}
+use Rattle.ll_laws.specs.Published.{AreAccepted, IsSpelled, HasTexts, ArePublished}
 use Rattle.ll_laws.proofs.EachLemmas.{each-append, each-filter, each-map}
 use Rattle.ll_laws.proofs.ItemLemmas.{own_one, same}
 use Rattle.ll_laws.proofs.RangeTexts.{read-with_id}
@@ -46,11 +48,17 @@ told_own c r before (i ∷ items) h =
 
 -- what is listed
 
+-- the date ranges that are listed
+abbrev pub listed : List Item → List Listed
+listed items = (told items).listed
+
 pub record IsListable (x : Listed) : Type 0 where
+  pub attributes : List Attribute
   pub id : is_id x.id ≡ true
   pub utf8 : is_utf8 x.id ≡ true
-  pub allowed : are_allowed x.attributes ≡ true
-  pub spelled : IsSpelled x.attributes
+  pub allowed : are_allowed attributes ≡ true
+  pub spells : x.attributes ≡ attribute.spelling attributes
+  pub spelled : IsSpelled attributes
 
 abbrev has : List ℕ → List Listed → Bool
 has id xs = list_any (λ (x : Listed). bytes_eq id x.id) xs
@@ -107,27 +115,27 @@ added_by false false allowed h = cc
 added_by false true true h = (refl, refl, refl)
 added_by false true false h = cc
 
-step : (c : Configuration) (before : List Item) (i : Item) → range.refusal c before i ≡ None → HasTexts i → AreListable (listed before)
-    → AreListable (listed (before ++ i ∷ []))
-step c before (item.Part r d b f) none texts h = subst AreListable (sym (listed-silent 0 before (item.Part r d b f) refl)) h
-step c before (item.Break r) none texts h = subst AreListable (sym (listed-silent 0 before (item.Break r) refl)) h
-step c before (item.End r) none texts h = subst AreListable (sym (listed-silent 0 before (item.End r) refl)) h
-step c before (item.Range r id attributes) none texts h =
-    let free = added_by (is_listed id (announced c before) || was_removed id (announced c before)) (is_id id) (are_allowed attributes) none in
-    let fresh = or_parts (is_listed id (announced c before)) (was_removed id (announced c before)) free.0 in
-    let x : Listed = record { id = id; attributes = attributes; added = end_from 0 before } in
-    let good : IsListable x = record { id = free.1; utf8 = texts.0; allowed = free.2; spelled = texts.1 } in
-    subst AreListable (sym (listed-range 0 before r id attributes))
-    (record { each = each-append IsListable (listed before) (x ∷ []) h.each (good, tt); apart = apart_after (listed before) x h.apart fresh.0 })
-step c before (item.Unrange r id) none texts h =
+listable_step : (c : Configuration) (before : List Item) (i : Item) → range.refusal c before i ≡ None → HasTexts i → AreListable (listed before)
+    → AreListable (step (told before) i).listed
+listable_step c before (item.Part r d b f) none texts h = h
+listable_step c before (item.Break r) none texts h = h
+listable_step c before (item.End r) none texts h = h
+listable_step c before (item.Range r id attributes) none texts h =
+    let taken = was_removed (end_time before) id (announced c before) in
+    let free = added_by (is_listed id (announced c before) || taken) (is_id id) (are_allowed attributes) none in
+    let fresh = or_parts (is_listed id (announced c before)) taken free.0 in
+    let x : Listed = record { id = id; attributes = attribute.spelling attributes; added = end_time before } in
+    let good : IsListable x = record { attributes = attributes; id = free.1; utf8 = texts.0; allowed = free.2; spells = refl; spelled = texts.1 } in
+    record { each = each-append IsListable (listed before) (x ∷ []) h.each (good, tt); apart = apart_after (listed before) x h.apart fresh.0 }
+listable_step c before (item.Unrange r id) none texts h =
     let keep : Listed → Bool = λ (x : Listed). not (bytes_eq id x.id) in
-    subst AreListable (sym (listed-unrange 0 before r id))
-    (record { each = each-filter IsListable keep (listed before) h.each; apart = apart_fewer keep (listed before) h.apart })
+    record { each = each-filter IsListable keep (listed before) h.each; apart = apart_fewer keep (listed before) h.apart }
 
 listable_after : (c : Configuration) (before items : List Item) → AreTold c before items → AreListable (listed before) → AreListable (listed (before ++ items))
-listable_after c before [] told h = rw (append-nil before) h
-listable_after c before (i ∷ items) told h =
-    rw (append_assoc before (i ∷ []) items) at (listable_after c (before ++ i ∷ []) items told.2 (step c before i told.0 told.1 h))
+listable_after c before [] all h = rw (append-nil before) h
+listable_after c before (i ∷ items) all h =
+    rw (append_assoc before (i ∷ []) items) at (listable_after c (before ++ i ∷ []) items all.2
+    (subst AreListable (ap (λ (t : Told). t.listed) (sym (fold-append step start before (i ∷ [])))) (listable_step c before i all.0 all.1 h)))
 
 -- date ranges that are listed of what was published
 pub listable : (c : Configuration) (items : List Item) (r : ℕ) → ArePublished c [] items → AreListable (listed (own r items))
@@ -136,11 +144,13 @@ listable c items r published = listable_after c [] (own r items) (told_own c r [
 -- and their lines
 
 one_readable : (x : Listed) → IsListable x → IsReadableRange (range_line x)
-one_readable x h = record {
-  more = x.attributes;
-  list = read-with_id x.id _ x.attributes h.id h.spelled.read h.allowed;
-  spelled = refl;
-}
+one_readable x h =
+    subst (λ text. IsReadableRange (record { id = x.id; attributes = text })) (sym h.spells)
+    (record {
+      more = h.attributes;
+      list = read-with_id x.id _ h.attributes h.id h.spelled.read h.allowed;
+      spelled = refl;
+    })
 
 pub readable-ranges : (xs : List Listed) → AreListable xs → Each IsReadableRange (map range_line xs)
 readable-ranges xs h = each-map IsListable IsReadableRange range_line one_readable xs h.each

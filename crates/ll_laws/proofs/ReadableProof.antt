@@ -7,7 +7,6 @@ use Rattle.ll_item.specs.declared.item.Item.{Item}
 use Rattle.ll_window.specs.Compact.{compact, unfinished, skip_count}
 use Rattle.ll_window.specs.Rows.{Row}
 use Rattle.ll_window.specs.Segments.{own, end_time}
-use Rattle.ll_range.specs.Announced as range
 use Rattle.ll_page.specs.declared.rendition.Rendition.{Rendition}
 use Rattle.ll_page.specs.Delta.{skip_of, delta_by}
 use Rattle.ll_page.specs.Full.{header_of, printed, open_of, sequence_of, reports_from, reports_of, playlist_of}
@@ -24,7 +23,7 @@ use Rattle.ll_laws.proofs.EachLemmas.{each-drop}
 use Rattle.ll_laws.proofs.ItemLemmas.{in-order}
 use Rattle.ll_laws.proofs.OwnSegmentProof.{some-left}
 use Rattle.ll_laws.proofs.PlaylistLemmas.{sequence-is, asked-is}
-use Rattle.ll_laws.proofs.RangeItems.{accepted, listable, readable-ranges, distinct-ranges}
+use Rattle.ll_laws.proofs.RangeItems.{accepted, listed, listable, readable-ranges, distinct-ranges}
 use Rattle.ll_laws.proofs.ReadableReports.{readable-reports, readable-hint}
 use Rattle.ll_laws.proofs.ReadableSegments.{readable-segments, readable-open, empty-printed}
 use Rattle.ll_laws.proofs.ShortLemmas.{IsShort, short-window, short-open, few-left, few-breaks, few-window}
@@ -67,8 +66,8 @@ full_readable c items r within published =
       header = header_readable c within;
       sequence = sequence_low c xs b;
       discontinuity = breaks_low c xs b;
-      ranges = readable-ranges (range.listed xs) l;
-      distinct = distinct-ranges (range.listed xs) l;
+      ranges = readable-ranges (listed xs) l;
+      distinct = distinct-ranges (listed xs) l;
       skipped = tt;
       segments = readable-segments (end_time xs) true k.window (short-window c xs) low;
       open_block = subst (λ b. Where (IsReadableOpen b) (open_of (length k.window == 0) (unfinished k))) (sym (empty-printed true k.window))
@@ -76,7 +75,7 @@ full_readable c items r within published =
       own_segment = refl;
       reports = readable-reports c items r 0 c.renditions within.renditions_named (λ q. (bounded_own c items q within published).placed);
       hint = readable-hint k;
-      utf8 = utf8-playlist (playlist_of c (reports_at c items r) (kept c xs)) (utf8-ranges (range.listed xs) l.each) refl
+      utf8 = utf8-playlist (playlist_of c (reports_at c items r) (kept c xs)) (utf8-ranges (listed xs) l.each) refl
           (ascii-segments true k.window) (ascii-open (length k.window == 0) (unfinished k)) (ascii-reports c items r 0 c.renditions within.renditions_named) (ascii-last k);
     }
 
@@ -108,8 +107,8 @@ update_readable c items r n within published skips =
       header = header_readable c within;
       sequence = sequence_low c xs b;
       discontinuity = breaks_low c xs b;
-      ranges = readable-ranges (range.listed xs) l;
-      distinct = distinct-ranges (range.listed xs) l;
+      ranges = readable-ranges (listed xs) l;
+      distinct = distinct-ranges (listed xs) l;
       skipped = record { some = omega arith; count = omega (arith, some, all, numbers); removed = tt };
       segments = readable-segments (end_time xs) false (drop (suc n) k.window) (each-drop (IsShort (end_time xs)) (suc n) k.window (short-window c xs)) low;
       open_block = subst (λ b. Where (IsReadableOpen false) (open_of b (unfinished k))) (sym (some_window (suc n) (length k.window) some))
@@ -117,7 +116,7 @@ update_readable c items r n within published skips =
       own_segment = ap not (some_segment (suc n) k.window some);
       reports = readable-reports c items r 0 c.renditions within.renditions_named (λ q. (bounded_own c items q within published).placed);
       hint = readable-hint k;
-      utf8 = utf8-playlist (update_at c (reports_at c items r) (kept c xs) (suc n)) (utf8-ranges (range.listed xs) l.each) (ascii-skip (suc n))
+      utf8 = utf8-playlist (update_at c (reports_at c items r) (kept c xs) (suc n)) (utf8-ranges (listed xs) l.each) (ascii-skip (suc n))
           (ascii-segments false (drop (suc n) k.window)) (ascii-open (length k.window == 0) (unfinished k))
           (ascii-reports c items r 0 c.renditions within.renditions_named) (ascii-last k);
     }

@@ -11,6 +11,7 @@ use Rattle.ll_window.specs.Window.{window_limit, near_limit, gone, window, liste
 use Rattle.ll_window.proofs.SuffixLemmas.{suffix}
 use Rattle.ll_window.proofs.WindowLemmas.{broken-cons, length_listed}
 use Rattle.ll_read.specs.Readable.{Each}
+use Rattle.ll_laws.proofs.ItemLemmas.{lasts}
 use Rattle.ll_laws.proofs.PlaylistLemmas.{length-rows, left_of}
 use Rattle.ll_laws.proofs.RowLemmas.{left-le, one_at_most}
 use Rattle.ll_laws.proofs.SplitLemmas.{total, total-cons, total-append, total-closed, whole-split}
@@ -53,13 +54,14 @@ listed-short most near tail (r ∷ rs) h = (shown_short most (nat_lt (lasting rs
 pub short-window : (c : Configuration) (items : List Item) → Each (IsShort (end_time items)) (compact c items).window
 short-window c items =
     let e = whole-split (parts items) in
-    let low = finished_short (ended items) (split (parts items)) (end_time items) (omega (arith, e)) in
+    let l = lasts items in
+    let low = finished_short (ended items) (split (parts items)) (end_time items) (omega (arith, e, l)) in
     listed-short (end_time items) (near_limit c) (duration (open_segment items)) (window (window_limit c) (all_rows c items))
     (window-short (end_time items) (window_limit c) (all_rows c items) (rows-short (end_time items) c.first 0 (c.start * 1000) (segments items) low))
 
 pub short-open : (items : List Item) → duration (open_segment items) ≤ end_time items
 short-open items =
-    let e = whole-split (parts items) in unfinished_short (ended items) (split (parts items)) (end_time items) (omega (arith, e))
+    let e = whole-split (parts items) in let l = lasts items in unfinished_short (ended items) (split (parts items)) (end_time items) (omega (arith, e, l))
 
 -- breaks
 

@@ -1,5 +1,5 @@
 -- The text of a playlist is UTF-8: all lines are ASCII but those of date ranges, whose IDs and attributes are UTF-8.
-use Rattle.std.proofs.Common.{◌≡◌, ℕ, ◌<◌, List, [], ◌∷◌, ◌++◌, map, true, refl, arith, codes}
+use Rattle.std.proofs.Common.{◌≡◌, ℕ, ◌<◌, List, [], ◌∷◌, ◌++◌, map, true, refl, ap, ◌∙◌, arith, codes}
 use Rattle.std.proofs.lemmas.Bool.{and_parts}
 use Rattle.std.proofs.lemmas.Bool.Decides.{nat_tests}
 use Rattle.std.proofs.lemmas.Str.{IsUtf8-nil, IsUtf8-append, IsUtf8-from_ascii, IsUtf8-from_is_utf8, is_utf8-from_IsUtf8}
@@ -8,8 +8,7 @@ use Rattle.std.specs.Char.{is_ascii}
 use Rattle.std.specs.List.{list_all}
 use Rattle.std.specs.Prelude.{flat_map}
 use Rattle.std.specs.Str.{is_utf8, IsUtf8, IsAscii}
-use Rattle.ll_attr.specs.Attributes as attributes
-use Rattle.ll_range.specs.Announced.{Listed}
+use Rattle.ll_window.specs.Told.{Listed}
 use Rattle.ll_page.specs.Full.{range_line}
 use Rattle.ll_page.specs.Playlist.{Playlist}
 use Rattle.ll_page.specs.Spelling.{spelling, header_lines, sequence_line, discontinuity_line, date_range_line, after_comma, skip_lines, segment_lines, open_lines, report_line, last_line, front_lines}
@@ -34,11 +33,11 @@ utf8_after (b ∷ bs) h = IsUtf8-append (codes ",") (b ∷ bs) (utf8_ascii (code
 utf8_range : (x : Listed) → IsListable x → IsUtf8 (date_range_line (range_line x))
 unfolding date_range_line
 utf8_range x h =
-    let text = attributes.spelling x.attributes in
+    let text = x.attributes in
     IsUtf8-append (codes "#EXT-X-DATERANGE:ID=\"") (x.id ++ (codes "\"" ++ (after_comma text ++ codes "\n"))) (utf8_ascii (codes "#EXT-X-DATERANGE:ID=\"") refl)
     (IsUtf8-append x.id (codes "\"" ++ (after_comma text ++ codes "\n")) (IsUtf8-from_is_utf8 x.id h.utf8)
     (IsUtf8-append (codes "\"") (after_comma text ++ codes "\n") (utf8_ascii (codes "\"") refl)
-    (IsUtf8-append (after_comma text) (codes "\n") (utf8_after text h.spelled.utf8) (utf8_ascii (codes "\n") refl))))
+    (IsUtf8-append (after_comma text) (codes "\n") (utf8_after text (ap is_utf8 h.spells ∙ h.spelled.utf8)) (utf8_ascii (codes "\n") refl))))
 
 pub utf8-ranges : (xs : List Listed) → Each IsListable xs → IsUtf8 (flat_map date_range_line (map range_line xs))
 utf8-ranges [] h = IsUtf8-nil
