@@ -65,22 +65,22 @@ answer-value (Err fault) x h = tt
 pub answer-refused : (r x : Result (List ℕ) ApplyFault) → IsAnswer r x → IfErr r (λ fault. fault ≢ Memory → x ≡ Err fault)
 answer-refused (Ok text) x h = tt
 answer-refused (Err Memory) x h = λ other. absurd (other refl)
-answer-refused (Err (BadBase line)) x h = λ other. h
-answer-refused (Err (BadDelta line)) x h = λ other. h
+answer-refused (Err BadBase) x h = λ other. h
+answer-refused (Err BadDelta) x h = λ other. h
 answer-refused (Err (NotRecent number)) x h = λ other. h
 
 pub answer-memory : (r x : Result (List ℕ) ApplyFault) → IsAnswer r x → IsErrOf r Memory → IsOk x
 answer-memory (Ok text) x h e = absurd (cc)
 answer-memory (Err Memory) x h e = h
-answer-memory (Err (BadBase line)) x h e = absurd (cc)
-answer-memory (Err (BadDelta line)) x h e = absurd (cc)
+answer-memory (Err BadBase) x h e = absurd (cc)
+answer-memory (Err BadDelta) x h e = absurd (cc)
 answer-memory (Err (NotRecent number)) x h e = absurd (cc)
 
--- faults of reading are no want of memory
+-- faults of reading are no out of memory
 
 pub answer-base : (r : Result Playlist ReadFault) (f : ApplyFault) (x : Result (List ℕ) ApplyFault) → base_of r ≡ Err f → x ≡ Err f → IsAnswer (Err f) x
-answer-base r (BadBase line) x e h = h
-answer-base r (BadDelta line) x e h = h
+answer-base r BadBase x e h = h
+answer-base r BadDelta x e h = h
 answer-base r (NotRecent number) x e h = h
 answer-base (Err fault) Memory x e h = absurd (cc)
 answer-base (Ok p) Memory x e h = no_memory p.skipped p e
@@ -90,8 +90,8 @@ answer-base (Ok p) Memory x e h = no_memory p.skipped p e
     no_memory (Some skip) p e = absurd (cc)
 
 pub answer-delta : (r : Result Playlist ReadFault) (f : ApplyFault) (x : Result (List ℕ) ApplyFault) → delta_of r ≡ Err f → x ≡ Err f → IsAnswer (Err f) x
-answer-delta r (BadBase line) x e h = h
-answer-delta r (BadDelta line) x e h = h
+answer-delta r BadBase x e h = h
+answer-delta r BadDelta x e h = h
 answer-delta r (NotRecent number) x e h = h
 answer-delta (Err fault) Memory x e h = absurd (cc)
 answer-delta (Ok p) Memory x e h = absurd (cc)

@@ -14,12 +14,12 @@ use Rattle.ll_apply.specs.Texts.{base_of, unless_skipping}
 use Rattle.ll_apply.specs.declared.fault.ApplyFault.TheVariants.{BadBase}
 use Rattle.ll_apply.specs.declared.found.Found.{Found}
 
-skips_by : (s : Option Skip) (p : Playlist) → is_some (option_map (λ (s : Skip). s.count) s) ≡ true → unless_skipping s p ≡ Err (BadBase None)
+skips_by : (s : Option Skip) (p : Playlist) → is_some (option_map (λ (s : Skip). s.count) s) ≡ true → unless_skipping s p ≡ Err BadBase
 skips_by None p e = absurd (cc)
 skips_by (Some skip) p e = refl
 
 -- a playlist that skips is no earlier one
-pub base-skips : (r : Result Playlist ReadFault) (f : Found) → IsFound f r → is_some f.outline.skipped ≡ true → base_of r ≡ Err (BadBase None)
+pub base-skips : (r : Result Playlist ReadFault) (f : Found) → IsFound f r → is_some f.outline.skipped ≡ true → base_of r ≡ Err BadBase
 base-skips (Err fault) f found e = absurd found
 base-skips (Ok p) f found e = skips_by p.skipped p (ap (λ (o : Outline). is_some o.skipped) (sym found.0) ∙ e)
 

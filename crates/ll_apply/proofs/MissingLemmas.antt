@@ -1,10 +1,10 @@
 -- The least of the numbers that a playlist lacks.
-use Rattle.std.proofs.Common.{◌≡◌, ℕ, zero, suc, ◌+◌, ◌≤◌, ◌<◌, Bool, true, false, nat_lt, length, Option, Some, None, Err, refl, ap, sym, ◌∙◌, arith}
+use Rattle.std.proofs.Common.{◌≡◌, ℕ, zero, suc, ◌+◌, ◌≤◌, ◌<◌, Bool, true, false, nat_le, nat_lt, ◌&&◌, length, Option, Some, None, Err, refl, ap, sym, ◌∙◌, arith}
 use Rattle.std.proofs.lemmas.Bool.Decides.{nat_tests}
 use Rattle.ll_page.specs.Playlist.{Playlist}
 use Rattle.ll_apply.specs.declared.fault.ApplyFault.TheVariants.{NotRecent}
 use Rattle.ll_apply.specs.Applied.{applied_by, missing, missing_by, has, unless_missing, put_upon}
-use Rattle.ll_apply.specs.Law.{IsLeastMissing, NotRecentLaw}
+use Rattle.ll_apply.specs.NotRecent.{IsLeastMissing, NotRecentLaw}
 
 missing_at : (base : Playlist) (m n k : ℕ) (b : Bool) → has base m ≡ b → (missing base (m + 1) n ≡ Some k → IsLeastMissing base (m + 1) n k)
     → missing_by b m (missing base (m + 1) n) ≡ Some k → IsLeastMissing base m (suc n) k
@@ -58,3 +58,14 @@ missing-past base (suc left) m (suc n) low is more =
     ∙ missing-past base left (m + 1) n (omega arith) (omega arith) (omega arith)
     ∙ ap Some (one_more m left)
 missing-past base left m zero low is more = absurd (omega arith)
+
+-- none, where they begin and end within it
+
+has_one : (low count m : ℕ) → low ≤ m → suc m ≤ low + count → (nat_le low m && nat_lt m (low + count)) ≡ true
+has_one low count m a b = grind (arith, nat_tests)
+
+pub missing-none : (base : Playlist) (m n : ℕ) → base.sequence ≤ m → m + n ≤ base.sequence + length base.segments → missing base m n ≡ None
+missing-none base m zero low high = refl
+missing-none base m (suc n) low high =
+    ap (λ b. missing_by b m (missing base (m + 1) n)) (has_one base.sequence (length base.segments) m low (omega arith))
+    ∙ missing-none base (m + 1) n (omega arith) (omega arith)

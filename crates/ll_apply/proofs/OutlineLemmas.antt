@@ -4,8 +4,7 @@ use Rattle.ll_page.specs.Playlist.{Playlist}
 use Rattle.ll_read.specs.Outline.{outline_of}
 use Rattle.ll_read.specs.declared.outline.Outline.{Outline}
 use Rattle.ll_apply.specs.Applied.{missing}
-use Rattle.ll_apply.proofs.MissingLemmas.{missing-past}
-use Rattle.ll_apply.proofs.PlaylistLemmas.{missing-none}
+use Rattle.ll_apply.proofs.MissingLemmas.{missing-none, missing-past}
 
 -- the numbers asked for begin within the playlist and end within it
 pub none-missing : (p : Playlist) (base : Outline) (m n : ℕ) → base ≡ outline_of p → base.sequence ≤ m → m - base.sequence < base.segments

@@ -1,4 +1,4 @@
--- What was found of a text, and what comes of it.
+-- For private contracts: what was found of a text, and what comes of it.
 use Rattle.std.specs.Prelude.{◌≡◌, ◌≤◌, ℕ, List, Option, Some, None, Result, Ok, Err, IfSome, IsOk}
 use Rattle.ll_page.specs.Playlist.{Skip, Playlist}
 use Rattle.ll_read.specs.Lines.{number_end}
@@ -34,7 +34,7 @@ merged_by (Some skip) base delta = put_upon base delta skip
 abbrev pub merged : Playlist → Playlist → Playlist
 merged base delta = merged_by delta.skipped base delta
 
--- an answer is this one, or want of memory where there is a text
+-- an answer is this one, or out of memory where there is a text
 abbrev pub IsAnswer : Result (List ℕ) ApplyFault → Result (List ℕ) ApplyFault → Type 0
 IsAnswer (Ok text) right = right ≡ Ok text
 IsAnswer (Err Memory) right = IsOk right

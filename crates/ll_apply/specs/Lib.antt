@@ -1,10 +1,9 @@
 pub mod Applied
 pub mod Faults
 pub mod Found
-pub mod Law
+pub mod NotRecent
 pub mod Order
-pub mod Published
 pub mod Texts
-pub use Rattle.ll_page.specs.Delta
-pub use Rattle.ll_page.specs.Full
 pub use Rattle.ll_page.specs.Playlist
+pub use Rattle.ll_page.specs.Spelling
+pub use Rattle.ll_read.specs.Reading

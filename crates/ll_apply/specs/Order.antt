@@ -1,4 +1,4 @@
--- The lines of segments, one after another, with the map that is in force.
+-- For private contracts: the lines of segments, one after another, with the map that is in force.
 use Rattle.std.specs.Prelude.{ℕ, List, [], ◌∷◌, ◌++◌, Bool, true, false, ◌||◌, Option, None, map, take, drop, flat_map}
 use Rattle.ll_page.specs.Playlist.{Finished}
 use Rattle.ll_page.specs.Spelling.{segment_lines}

@@ -4,35 +4,28 @@ use Rattle.ll_page.specs.Playlist.{Skip, Playlist}
 use Rattle.ll_page.specs.Spelling.{spelling}
 use Rattle.ll_read.specs.Reading.{playlist_in, with_line_feeds}
 use Rattle.ll_read.specs.declared.fault.ReadFault.{ReadFault}
-use Rattle.ll_read.specs.declared.fault.ReadFault.TheVariants.{NotPlaylist, BadLine, Memory}
 use Rattle.ll_apply.specs.Applied.{applied}
 use Rattle.ll_apply.specs.declared.fault.ApplyFault.{ApplyFault}
 use Rattle.ll_apply.specs.declared.fault.ApplyFault.TheVariants.{BadBase, BadDelta}
 
--- the line that can't stand in its place, where there is one
-abbrev pub line_of : ReadFault → Option ℕ
-line_of NotPlaylist = None
-line_of (BadLine line) = Some line
-line_of Memory = None
-
 abbrev pub unless_skipping : Option Skip → Playlist → Result Playlist ApplyFault
 unless_skipping None p = Ok p
-unless_skipping (Some skip) p = Err (BadBase None)
+unless_skipping (Some skip) p = Err BadBase
 
 -- the full playlist that a text spells, as the earlier one
 abbrev pub base_of : Result Playlist ReadFault → Result Playlist ApplyFault
-base_of (Err fault) = Err (BadBase (line_of fault))
+base_of (Err fault) = Err BadBase
 base_of (Ok p) = unless_skipping p.skipped p
 
 abbrev pub delta_of : Result Playlist ReadFault → Result Playlist ApplyFault
-delta_of (Err fault) = Err (BadDelta (line_of fault))
+delta_of (Err fault) = Err BadDelta
 delta_of (Ok p) = Ok p
 
 abbrev pub and_then : {A B : Type 0} → Result A ApplyFault → (A → Result B ApplyFault) → Result B ApplyFault
 and_then (Err fault) more = Err fault
 and_then (Ok x) more = more x
 
--- the text of the full playlist that an update makes of an earlier one, or the first reason why there is none
+-- the text of the full playlist that an update makes of an earlier one, or the first reason that there is none
 abbrev pub chain : Result Playlist ApplyFault → Result Playlist ApplyFault → Result (List ℕ) ApplyFault
 chain base delta = and_then base (λ b. and_then delta (λ d. and_then (applied b d) (λ p. Ok (spelling p))))
 

@@ -2,7 +2,6 @@ ghost use Rattle.std.specs.Prelude.{◌≡◌, ◌≢◌, Result, IfOk, IfErr, I
 ghost use Rattle.ll_apply.specs.Applied as spec;
 ghost use Rattle.ll_apply.specs.Found as found;
 ghost use Rattle.ll_apply.specs.Found.{AreRead, IsAnswer, IsFound};
-ghost use Rattle.ll_apply.specs.Published.{TextLaw};
 ghost use Rattle.ll_apply.specs.Texts.{FullLaw, applied_text, chain, delta_of};
 ghost use Rattle.ll_apply.specs.declared.fault.ApplyFault.{ApplyFault};
 ghost use Rattle.ll_page.specs.Playlist.{Playlist};
@@ -32,7 +31,6 @@ pub fn apply(alloc: Global, base: &[u8], delta: &[u8]) -> Result<Text, ApplyFaul
     ensures refused { IfErr result (λ fault. fault ≢ ApplyFault.Memory → applied_text base.now delta.now ≡ Err fault) }
     ensures memory { IsErrOf result ApplyFault.Memory → IsOk (applied_text base.now delta.now) }
     ensures full { FullLaw }
-    ensures companion { TextLaw }
 {
     match look_at_base(alloc, base) {
         Ok(base) => read_upon(alloc, &base, delta),

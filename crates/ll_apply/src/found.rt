@@ -1,7 +1,6 @@
 ghost use Rattle.std.specs.Prelude.{◌≡◌, IfOk, IfErr, Err};
 ghost use Rattle.ll_apply.specs.Found.{AreRead, IsFound};
 ghost use Rattle.ll_apply.specs.Texts.{base_of, delta_of};
-ghost use Rattle.ll_apply.specs.Texts as spec;
 ghost use Rattle.ll_read.specs.Reading.{playlist_in};
 
 use crate::fault::ApplyFault;
@@ -9,7 +8,7 @@ use ll_read::{Outline, Playlist, ReadFault, read, read_outline};
 use std::alloc::Global;
 
 /// What a text spells. Where no memory is found for the playlist its outline is told alone, so that each fault of the texts
-/// comes before want of memory.
+/// comes before out of memory.
 #[derive(Debug, Drop)]
 pub(crate) struct Found {
     pub(crate) outline: Outline,
@@ -42,14 +41,12 @@ pub(crate) fn look_at_base(alloc: Global, bytes: &[u8]) -> Result<Found, ApplyFa
     match look(alloc, bytes) {
         Ok(found) => {
             if found.outline.skipped.is_some() {
-                Err(ApplyFault::BadBase { line: None })
+                Err(ApplyFault::BadBase)
             } else {
                 Ok(found)
             }
         }
-        Err(fault) => Err(ApplyFault::BadBase {
-            line: line_of(fault),
-        }),
+        Err(_) => Err(ApplyFault::BadBase),
     }
 }
 
@@ -61,18 +58,6 @@ pub(crate) fn look_at_delta(alloc: Global, bytes: &[u8]) -> Result<Found, ApplyF
 {
     match look(alloc, bytes) {
         Ok(found) => Ok(found),
-        Err(fault) => Err(ApplyFault::BadDelta {
-            line: line_of(fault),
-        }),
-    }
-}
-
-/// The line that can't stand in its place, where there is one.
-fn line_of(fault: ReadFault) -> Option<u64>
-    ensures { result ≡ spec.line_of fault }
-{
-    match fault {
-        ReadFault::BadLine { line } => Some(line),
-        ReadFault::NotPlaylist | ReadFault::Memory => None,
+        Err(_) => Err(ApplyFault::BadDelta),
     }
 }

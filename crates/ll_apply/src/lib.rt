@@ -1,4 +1,4 @@
-//! Delta updates of Media Playlists (section 6.2.5.1 of draft-pantos-hls-rfc8216bis), put upon an earlier playlist.
+//! What a delta update makes of an earlier playlist (section 6.2.5.1 of draft-pantos-hls-rfc8216bis).
 #![tactic(auto)]
 
 mod applying;
@@ -11,4 +11,5 @@ mod segments;
 
 pub use applying::apply;
 pub use fault::ApplyFault;
-pub use laws::{companion_law, not_recent_law, own_segment_law, readable_law};
+pub use laws::not_recent_law;
+pub use ll_read::{Playlist, ReadFault, read};

@@ -1,6 +1,5 @@
 -- The full playlist of a rendition (sections 4.4 and 6.2.1).
 use Rattle.std.specs.Prelude.{ℕ, ◌+◌, ◌*◌, ◌/◌, ◌||◌, ◌==◌, List, [], ◌∷◌, ◌++◌, Bool, true, false, Option, Some, None, length, map}
-use Rattle.ll_attr.specs.Attributes as attributes
 use Rattle.ll_time.specs.Times.{time_text}
 use Rattle.ll_item.specs.Settings.{Configuration}
 use Rattle.ll_item.specs.declared.item.Item.{Item}
@@ -9,7 +8,8 @@ use Rattle.ll_window.specs.declared.place.Place.{Place}
 use Rattle.ll_window.specs.Compact.{Compact, unfinished}
 use Rattle.ll_window.specs.Rows.{Row}
 use Rattle.ll_window.specs.Window.{skip_limit}
-use Rattle.ll_range.specs.Announced.{Listed, Announced}
+use Rattle.ll_window.specs.Told.{Listed}
+use Rattle.ll_range.specs.Announced.{Announced}
 use Rattle.ll_page.specs.declared.rendition.Rendition.{Rendition}
 use Rattle.ll_page.specs.Playlist.{PartLine, Block, Finished, DateRangeLine, Report, Header, Playlist}
 use Rattle.ll_page.specs.Spelling.{spelling}
@@ -90,7 +90,7 @@ abbrev pub hint_of : Compact → Option (List ℕ)
 hint_of k = hint_by k.ended (part_uri k.next_number (length k.open_parts))
 
 abbrev pub range_line : Listed → DateRangeLine
-range_line range = record { id = range.id; attributes = attributes.spelling range.attributes }
+range_line range = record { id = range.id; attributes = range.attributes }
 
 -- the date ranges that are listed, in order of adding
 abbrev pub range_lines : Announced → List DateRangeLine

@@ -106,8 +106,7 @@ fn push_range(text: &mut String, range: DateRange<'_>) -> Result<(), AllocError>
     ensures { OnOk result (string_bytes text.new ≡ string_bytes text.old
         ++ date_range_line (range_line (record { id = range.entry.id.now; attributes = range.entry.attributes.now; added = range.entry.added }))) }
 {
-    let attributes = range.attributes.write()?;
-    push_date_range_line(text, range.id, attributes.as_str())
+    push_date_range_line(text, range.id, range.attributes)
 }
 
 /// Adds the line that stands for so many segments, where there are any.

@@ -1,75 +1,128 @@
--- The entries of the map, as the date ranges that they stand for: what is found, put last or taken out of one is so of the other.
-use Rattle.std.proofs.Common.{◌≡◌, ℕ, ◌||◌, ◌++◌, Bool, true, false, not, cond, List, [], ◌∷◌, Option, Some, None, is_some, map, refl, ap, sym, subst, ◌∙◌, bytes_eq, string_bytes, if◌then◌else◌}
+-- The entries of a map by id, as the lists that they stand for: what is found, put last or taken out of one is so of the other.
+use Rattle.std.proofs.Common.{◌≡◌, ℕ, ◌||◌, ◌++◌, Bool, true, false, not, cond, filter, List, [], ◌∷◌, Option, Some, None, is_some, map, refl, ap, ap₂, sym, subst, ◌∙◌, bytes_eq, string_bytes, nat_le, ◌+◌, Bor}
+use Rattle.std.proofs.lemmas.List.{map-append}
 use Rattle.std.specs.declared.string.String.{String}
-use Rattle.std.proofs.lemmas.Slice.Eq.{bytes_eq-Decides}
-use Rattle.std.specs.List.{list_any}
+use Rattle.std.specs.List.{list_any, find}
+use Rattle.std.specs.Map.{lookup}
+use Rattle.std.specs.Option.{option_map, option_copied}
 use Rattle.std.specs.String.{string_eq}
-use Rattle.std.specs.Map.{lookup, lookup_key}
-use Rattle.indexmap.specs.IndexMap.{insert_entry, shift_remove_entry}
-use Rattle.ll_range.specs.Announced.{Listed}
-use Rattle.ll_range.specs.Kept.{listed_at, others}
+use Rattle.indexmap.specs.IndexMap.{IndexMap, insert_entry, shift_remove_entry}
+use Rattle.indexmap.proofs.CallerLemmas.{insert_entry-new}
+use Rattle.ll_window.specs.Told.{Listed, Removal, others, other_removals}
+use Rattle.ll_range.specs.Announced.{Announced, is_recent_one, was_removed}
+use Rattle.ll_range.specs.Kept.{listed_at, removal_at}
 use Rattle.ll_range.specs.declared.ranges.Stored.{Stored}
+
+map_by : {X Y : Type 0} (f : X → Y) (b : Bool) (x : X) (xs : List X) → map f (cond b (x ∷ xs) xs) ≡ cond b (f x ∷ map f xs) (map f xs)
+map_by f true x xs = refl
+map_by f false x xs = refl
+
+-- what stays of a list and what stays of its image
+pub map-filter : {X Y : Type 0} (f : X → Y) (p : Y → Bool) (xs : List X) → map f (filter (λ x. p (f x)) xs) ≡ filter p (map f xs)
+map-filter f p [] = refl
+map-filter f p (x ∷ xs) =
+    map_by f (p (f x)) x (filter (λ x. p (f x)) xs) ∙ ap (λ ys. cond (p (f x)) (f x ∷ ys) ys) (map-filter f p xs)
+
+-- whether a key is this id
+abbrev pub has_id : {A : Type 0} → List ℕ → String A → Bool
+has_id id key = bytes_eq id (string_bytes key)
+
+-- whether an entry is of another id
+abbrev pub has_other : {A V : Type 0} → List ℕ → String A × V → Bool
+has_other id e = not (has_id id e.0)
+
+module _ {A V : Type 0} (id : List ℕ) where
+
+  kept_by : (b : Bool) (x : String A × V) (o : Option V) (more xs : List (String A × V)) → cond b (Some x.1) o ≡ None → (o ≡ None → more ≡ xs) → cond (not b) (x ∷ more) more ≡ x ∷ xs
+  kept_by true x o more xs e rest = absurd (cc)
+  kept_by false x o more xs e rest = ap (λ ys. x ∷ ys) (rest e)
+
+  -- where the id is absent, all are of other ids
+  all_others : (es : List (String A × V)) → lookup (has_id id) es ≡ None → filter (has_other id) es ≡ es
+  all_others [] e = refl
+  all_others (x ∷ es) e = kept_by (has_id id x.0) x (lookup (has_id id) es) (filter (has_other id) es) es e (all_others es)
+
+  removed_by : (b : Bool) (x : String A × V) (es more : List (String A × V)) → (lookup (has_id id) es ≡ None → filter (has_other id) es ≡ es)
+      → lookup (has_id id) (cond b es (x ∷ more)) ≡ None → b ≡ has_id id x.0 → (lookup (has_id id) more ≡ None → more ≡ filter (has_other id) es)
+      → cond b es (x ∷ more) ≡ cond (not b) (x ∷ filter (has_other id) es) (filter (has_other id) es)
+  removed_by true x es more here e test rest = sym (here e)
+  removed_by false x es more here e test rest =
+      ap (λ ys. x ∷ ys) (rest (subst (λ b. cond b (Some x.1) (lookup (has_id id) more) ≡ None) (sym test) e))
+
+  -- without the first of the id, where that leaves none
+  pub removed : (es : List (String A × V)) → lookup (has_id id) (shift_remove_entry (has_id id) es) ≡ None → shift_remove_entry (has_id id) es ≡ filter (has_other id) es
+  removed [] e = refl
+  removed (x ∷ es) e = removed_by (has_id id x.0) x es (shift_remove_entry (has_id id) es) (all_others es) e refl (removed es)
 
 found_by : (b : Bool) (v : Stored) (o : Option Stored) (rest : Bool) → is_some o ≡ rest → is_some (cond b (Some v) o) ≡ (b || rest)
 found_by true v o rest e = refl
 found_by false v o rest e = e
 
-kept_by : (b : Bool) (v : Stored) (o : Option Stored) (x : Listed) (more xs : List Listed) → cond b (Some v) o ≡ None → (o ≡ None → more ≡ xs) → cond (not b) (x ∷ more) more ≡ x ∷ xs
-kept_by true v o x more xs e rest = absurd (cc)
-kept_by false v o x more xs e rest = ap (λ ys. x ∷ ys) (rest e)
+pub listed_found : {A : Type 0} (id : List ℕ) (es : List (String A × Stored)) → is_some (lookup (has_id id) es) ≡ list_any (λ (range : Listed). bytes_eq id range.id) (map listed_at es)
+listed_found id [] = refl
+listed_found id (e ∷ es) = found_by (has_id id e.0) e.1 (lookup (has_id id) es) _ (listed_found id es)
 
-some_same : {B : Type 0} (x y : B) → Some x ≡ Some y → x ≡ y
-some_same x y e = cc
+abbrev pub is_recent_by : ℕ → ℕ → Option ℕ → Bool
+is_recent_by limit now None = false
+is_recent_by limit now (Some removed) = nat_le now (removed + limit)
 
-module _ {A : Type 0} (id : List ℕ) where
-  abbrev pub has_id : String A → Bool
-  has_id key = bytes_eq id (string_bytes key)
+removal_by : {A : Type 0} (b : Bool) (e : String A × ℕ) (o : Option ℕ) (rest : Option Removal) → o ≡ option_map (λ (r : Removal). r.removed) rest
+    → cond b (Some e.1) o ≡ option_map (λ (r : Removal). r.removed) (cond b (Some (removal_at e)) rest)
+removal_by true e o rest h = refl
+removal_by false e o rest h = h
 
-  pub listed_found : (es : List (String A × Stored)) → is_some (lookup has_id es) ≡ list_any (λ (range : Listed). bytes_eq id range.id) (map listed_at es)
-  listed_found [] = refl
-  listed_found (e ∷ es) = found_by (has_id e.0) e.1 (lookup has_id es) _ (listed_found es)
+removal_found : {A : Type 0} (id : List ℕ) (es : List (String A × ℕ))
+    → lookup (has_id id) es ≡ option_map (λ (r : Removal). r.removed) (find (λ (r : Removal). bytes_eq id r.id) (map removal_at es))
+removal_found id [] = refl
+removal_found id (e ∷ es) = removal_by (has_id id e.0) e (lookup (has_id id) es) _ (removal_found id es)
 
-  all_others : (es : List (String A × Stored)) → lookup has_id es ≡ None → others id (map listed_at es) ≡ map listed_at es
-  all_others [] e = refl
-  all_others (x ∷ es) e = kept_by (has_id x.0) x.1 (lookup has_id es) (listed_at x) (others id (map listed_at es)) (map listed_at es) e (all_others es)
+recent_by : (limit now : ℕ) (o : Option Removal) → is_recent_by limit now (option_map (λ (r : Removal). r.removed) o) ≡ is_recent_one limit now o
+recent_by limit now None = refl
+recent_by limit now (Some r) = refl
 
-  removed_by : (b : Bool) (x : String A × Stored) (es more : List (String A × Stored)) (xs : List Listed) → (b ≡ has_id x.0)
-      → lookup has_id (cond b es (x ∷ more)) ≡ None → (lookup has_id es ≡ None → xs ≡ map listed_at es) → (lookup has_id more ≡ None → map listed_at more ≡ xs)
-      → map listed_at (cond b es (x ∷ more)) ≡ cond (not b) (listed_at x ∷ xs) xs
-  removed_by true x es more xs test e here rest = sym (here e)
-  removed_by false x es more xs test e here rest =
-      ap (λ ys. listed_at x ∷ ys) (rest (subst (λ b. cond b (Some x.1) (lookup has_id more) ≡ None) (sym test) e))
+-- whether the removal of an id is recent, by what the map finds
+pub recent_found : {A : Type 0} (limit now : ℕ) (id : List ℕ) (es : List (String A × ℕ)) (a : Announced) (o : Option (Bor ℕ)) → option_copied o ≡ lookup (has_id id) es
+    → limit ≡ a.limit → map removal_at es ≡ a.recent → is_recent_by limit now (option_copied o) ≡ was_removed now id a
+recent_found limit now id es a o e same told =
+    ap (is_recent_by limit now) (e ∙ removal_found id es)
+    ∙ recent_by limit now (find (λ (r : Removal). bytes_eq id r.id) (map removal_at es))
+    ∙ ap₂ (λ l rs. is_recent_one l now (find (λ (r : Removal). bytes_eq id r.id) rs)) same told
 
-  pub removed_listed : (es : List (String A × Stored)) → lookup has_id (shift_remove_entry has_id es) ≡ None → map listed_at (shift_remove_entry has_id es) ≡ others id (map listed_at es)
-  removed_listed [] e = refl
-  removed_listed (x ∷ es) e = removed_by (has_id x.0) x es (shift_remove_entry has_id es) (others id (map listed_at es)) refl e (all_others es) (removed_listed es)
+-- a key of a new id goes last
+pub put_last : {A S V : Type 0} (m : IndexMap (String A) V S) (k : String A) (v : V) (id : List ℕ) → string_bytes k ≡ id → lookup (has_id id) m.entries ≡ None
+    → insert_entry string_eq m.entries k v ≡ m.entries ++ (k, v) ∷ []
+put_last m k v id same none = insert_entry-new string_eq m k v (ap (λ i. lookup (has_id i) m.entries) same ∙ none)
 
-  key_by : (b : Bool) (x : String A × Stored) (o : Option (String A)) (k : String A) → b ≡ has_id x.0 → cond b (Some x.0) o ≡ Some k → (o ≡ Some k → has_id k ≡ true) → has_id k ≡ true
-  key_by true x o k e f h = ap has_id (sym (some_same x.0 k f)) ∙ sym e
-  key_by false x o k e f h = h f
+-- and in the list that the map stands for
+put_in : {A S V R : Type 0} (at : String A × V → R) (m : IndexMap (String A) V S) (new : List (String A × V)) (k : String A) (v : V) (id : List ℕ) → string_bytes k ≡ id
+    → lookup (has_id id) m.entries ≡ None → new ≡ insert_entry string_eq m.entries k v → map at new ≡ map at m.entries ++ at (k, v) ∷ []
+put_in at m new k v id same none is =
+    ap (map at) (is ∙ put_last m k v id same none) ∙ map-append at m.entries ((k, v) ∷ [])
 
-  -- a key that is found for an id is that id
-  key_found : (es : List (String A × Stored)) (k : String A) → lookup_key has_id es ≡ Some k → has_id k ≡ true
-  key_found [] k e = absurd (cc)
-  key_found (x ∷ es) k e = key_by (has_id x.0) x (lookup_key has_id es) k refl e (key_found es k)
+no_one : {V : Type 0} (o : Option V) → is_some o ≡ false → o ≡ None
+no_one None e = refl
+no_one (Some v) e = absurd (cc)
 
-  pub key_is_id : (es : List (String A × Stored)) (k : String A) → lookup_key has_id es ≡ Some k → string_bytes k ≡ id
-  key_is_id es k e = sym ((bytes_eq-Decides id (string_bytes k)).0 (key_found es k e))
+-- a date range of a new id
+pub listed_put : {A S : Type 0} (m : IndexMap (String A) Stored S) (new : List (String A × Stored)) (k : String A) (v : Stored) (id : List ℕ) → string_bytes k ≡ id
+    → list_any (λ (range : Listed). bytes_eq id range.id) (map listed_at m.entries) ≡ false → new ≡ insert_entry string_eq m.entries k v
+    → map listed_at new ≡ map listed_at m.entries ++ (record { id = id; attributes = v.attributes; added = v.added }) ∷ []
+listed_put m new k v id same none is =
+    put_in listed_at m new k v id same (no_one (lookup (has_id id) m.entries) (listed_found id m.entries ∙ none)) is
+    ∙ ap (λ i. map listed_at m.entries ++ (let x : Listed = record { id = i; attributes = v.attributes; added = v.added } in x) ∷ []) same
 
-  put_by : (b : Bool) (x : String A × Stored) (es : List (String A × Stored)) (k : String A) (v : Stored) (rest : Bool) → (b || rest) ≡ false → (rest ≡ false → map listed_at (insert_entry string_eq es k v) ≡ map listed_at es ++ listed_at (k, v) ∷ [])
-      → map listed_at (if b then (x.0, v) ∷ es else x ∷ insert_entry string_eq es k v) ≡ listed_at x ∷ (map listed_at es ++ listed_at (k, v) ∷ [])
-  put_by true x es k v rest e h = absurd (cc)
-  put_by false x es k v rest e h = ap (λ ys. listed_at x ∷ ys) (h e)
+-- without a date range
+pub listed_left : {A : Type 0} (id : List ℕ) (es new : List (String A × Stored)) → new ≡ shift_remove_entry (has_id id) es → lookup (has_id id) new ≡ None
+    → map listed_at new ≡ others id (map listed_at es)
+listed_left id es new is none =
+    ap (map listed_at) (is ∙ removed id es (subst (λ es. lookup (has_id id) es ≡ None) is none)) ∙ map-filter listed_at (λ (range : Listed). not (bytes_eq id range.id)) es
 
-  put_at_id : (es : List (String A × Stored)) (k : String A) (v : Stored) → string_bytes k ≡ id → list_any (λ (range : Listed). bytes_eq (string_bytes k) range.id) (map listed_at es) ≡ false
-      → map listed_at (insert_entry string_eq es k v) ≡ map listed_at es ++ listed_at (k, v) ∷ []
-  put_at_id [] k v same e = refl
-  put_at_id (x ∷ es) k v same e =
-      put_by (string_eq k x.0) x es k v (list_any (λ (range : Listed). bytes_eq (string_bytes k) range.id) (map listed_at es)) e (put_at_id es k v same)
-
-  -- a date range of a new id is put after the others
-  pub put_last : (es : List (String A × Stored)) (k : String A) (v : Stored) → string_bytes k ≡ id → list_any (λ (range : Listed). bytes_eq id range.id) (map listed_at es) ≡ false
-      → map listed_at (insert_entry string_eq es k v) ≡ map listed_at es ++ (record { id = id; attributes = v.attributes; added = v.added }) ∷ []
-  put_last es k v same e =
-      put_at_id es k v same (ap (λ i. list_any (λ (range : Listed). bytes_eq i range.id) (map listed_at es)) same ∙ e)
-      ∙ ap (λ i. map listed_at es ++ (let x : Listed = record { id = i; attributes = v.attributes; added = v.added } in x) ∷ []) same
+-- a removal after those of other ids
+pub removal_put : {A S : Type 0} (es : List (String A × ℕ)) (m : IndexMap (String A) ℕ S) (new : List (String A × ℕ)) (k : String A) (time : ℕ) (id : List ℕ) → string_bytes k ≡ id
+    → m.entries ≡ shift_remove_entry (has_id id) es → lookup (has_id id) m.entries ≡ None → new ≡ insert_entry string_eq m.entries k time
+    → map removal_at new ≡ other_removals id (map removal_at es) ++ (record { id = id; removed = time }) ∷ []
+removal_put es m new k time id same left none is =
+    put_in removal_at m new k time id same none is
+    ∙ ap (λ xs. map removal_at xs ++ removal_at (k, time) ∷ []) (left ∙ removed id es (subst (λ es. lookup (has_id id) es ≡ None) left none))
+    ∙ ap (λ xs. xs ++ removal_at (k, time) ∷ []) (map-filter removal_at (λ (removal : Removal). not (bytes_eq id removal.id)) es)
+    ∙ ap (λ i. other_removals id (map removal_at es) ++ (let x : Removal = record { id = i; removed = time } in x) ∷ []) same

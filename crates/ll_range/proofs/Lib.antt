@@ -1,6 +1,5 @@
+pub mod Copies
 pub mod Entries
-pub mod OneMore
-pub mod Order
+pub mod Recent
 pub mod Seconds
 pub mod Steps
-pub mod Copies

@@ -1,27 +1,28 @@
 //! What adds date ranges and takes them away.
-ghost use Rattle.std.specs.Prelude.{◌≡◌, ◌≢◌, ◌++◌, ◌∷◌, [], List, ℕ, IfOk, IfErr, MatchResult, OnOk, OnErr, IsErrOf, None, Some, MatchOption, MatchBool, true, false, filter, map, length, bytes_eq, max, ◌<◌};
+ghost use Rattle.std.specs.Prelude.{◌≡◌, ◌≢◌, ◌+◌, ◌++◌, ◌∷◌, [], List, ℕ, IfErr, MatchResult, OnOk, OnErr, IsErrOf, None, Some, false, filter, map, nat_le, bytes_eq};
 ghost use Rattle.std.specs.List.{list_any};
 ghost use Rattle.ll_item.specs.Items.{is_about_ranges};
 ghost use Rattle.ll_item.specs.Settings.{Configuration};
 ghost use Rattle.ll_item.specs.declared.item.Item.{Item};
 ghost use Rattle.ll_item.specs.declared.item.Item.TheVariants as item;
-ghost use Rattle.ll_range.specs.Announced.{announced, refusal, add_refusal, remove_refusal, is_recent, is_listed, was_removed, Listed};
-ghost use Rattle.ll_range.specs.Kept.{listed_at, others, with_range, without_range, at_time, last_time, IsInOrder};
+ghost use Rattle.ll_range.specs.Announced as spec;
+ghost use Rattle.ll_range.specs.Announced.{announced, refusal, add_refusal, remove_refusal, is_listed, was_removed};
+ghost use Rattle.ll_range.specs.Kept.{listed_at, removal_at, with_range, without_range, at_time};
 ghost use Rattle.ll_window.specs.Segments.{end_time};
+ghost use Rattle.ll_window.specs.Told.{Listed, others, other_removals};
 
 use crate::attributes::{are_allowed, is_id};
-use crate::ranges::{RangeFault, Ranges, Removal, Stored};
+use crate::ranges::{RangeFault, Ranges, Stored};
 use indexmap::IndexMap;
 use ll_attr::{AttrList, Text};
-use std::alloc::{AllocError, Global};
-use std::collections::VecDeque;
+use std::alloc::AllocError;
 
 impl Ranges {
     /// What `add` would answer but for memory; nothing changes.
-    pub fn test_add(&self, id: &str, attributes: &AttrList) -> Result<(), RangeFault>
-        ensures { MatchResult result (λ u. add_refusal id.now attributes.now self.now ≡ None) (λ f. add_refusal id.now attributes.now self.now ≡ Some f) }
+    pub fn test_add(&self, end: u64, id: &str, attributes: &AttrList) -> Result<(), RangeFault>
+        ensures { MatchResult result (λ u. add_refusal end id.now attributes.now self.now ≡ None) (λ f. add_refusal end id.now attributes.now self.now ≡ Some f) }
     {
-        if self.is_listed(id) || self.was_removed(id) {
+        if self.is_listed(id) || self.was_removed(end, id) {
             Err(RangeFault::IdTaken)
         } else if is_id(id) && are_allowed(attributes.attributes()) {
             Ok(())
@@ -31,7 +32,7 @@ impl Ranges {
     }
 
     /// What `remove` would answer but for memory; nothing changes.
-    pub fn test_remove(&self, id: &str) -> Result<(), RangeFault>
+    pub fn test_remove(&self, _end: u64, id: &str) -> Result<(), RangeFault>
         ensures { MatchResult result (λ u. remove_refusal id.now self.now ≡ None) (λ f. remove_refusal id.now self.now ≡ Some f) }
     {
         if self.is_listed(id) {
@@ -49,10 +50,13 @@ impl Ranges {
     }
 
     /// Whether a date range of this id was taken away lately.
-    fn was_removed(&self, id: &str) -> bool
-        ensures { result ≡ was_removed id.now self.now }
+    fn was_removed(&self, end: u64, id: &str) -> bool
+        ensures { result ≡ was_removed end id.now self.now }
     {
-        self.recent.iter().any(|removal| id == removal.id.as_str())
+        match self.recent.get(id) {
+            Some(removed) => is_recent(self.limit, end, *removed),
+            None => false,
+        }
     }
 
     /// Adds a date range, where all parts of the rendition last so long until now (microseconds); or answers the first reason
@@ -61,14 +65,14 @@ impl Ranges {
         ensures accepted { (c : Configuration) (items : List Item) (rendition : ℕ) → self.old ≡ announced c items → end ≡ end_time items
             → OnOk result ((refusal c items (item.Range rendition id attributes) ≡ None)
             × (self.new ≡ announced c (items ++ item.Range rendition id attributes ∷ []))) }
-        ensures refused { (c : Configuration) (items : List Item) (rendition : ℕ) → self.old ≡ announced c items
+        ensures refused { (c : Configuration) (items : List Item) (rendition : ℕ) → self.old ≡ announced c items → end ≡ end_time items
             → IfErr result (λ f. f ≢ RangeFault.Memory → refusal c items (item.Range rendition id attributes) ≡ Some f) }
-        ensures memory { (c : Configuration) (items : List Item) (rendition : ℕ) → self.old ≡ announced c items
+        ensures memory { (c : Configuration) (items : List Item) (rendition : ℕ) → self.old ≡ announced c items → end ≡ end_time items
             → IsErrOf result RangeFault.Memory → refusal c items (item.Range rendition id attributes) ≡ None }
         ensures unchanged { OnErr result (self.new ≡ self.old) }
     {
-        self.test_add(id.as_str(), &attributes)?;
-        match self.push(end, id, attributes) {
+        self.test_add(end, id.as_str(), &attributes)?;
+        match self.push(end, id.as_str(), &attributes) {
             Ok(()) => Ok(()),
             Err(AllocError) => Err(RangeFault::Memory),
         }
@@ -81,13 +85,13 @@ impl Ranges {
         ensures accepted { (c : Configuration) (items : List Item) (rendition : ℕ) → self.old ≡ announced c items → end ≡ end_time items
             → OnOk result ((refusal c items (item.Unrange rendition id.now) ≡ None)
             × (self.new ≡ announced c (items ++ item.Unrange rendition id.now ∷ []))) }
-        ensures refused { (c : Configuration) (items : List Item) (rendition : ℕ) → self.old ≡ announced c items
+        ensures refused { (c : Configuration) (items : List Item) (rendition : ℕ) → self.old ≡ announced c items → end ≡ end_time items
             → IfErr result (λ f. f ≢ RangeFault.Memory → refusal c items (item.Unrange rendition id.now) ≡ Some f) }
-        ensures memory { (c : Configuration) (items : List Item) (rendition : ℕ) → self.old ≡ announced c items
+        ensures memory { (c : Configuration) (items : List Item) (rendition : ℕ) → self.old ≡ announced c items → end ≡ end_time items
             → IsErrOf result RangeFault.Memory → refusal c items (item.Unrange rendition id.now) ≡ None }
         ensures unchanged { OnErr result (self.new ≡ self.old) }
     {
-        self.test_remove(id)?;
+        self.test_remove(end, id)?;
         match self.take_away(end, id) {
             Ok(()) => Ok(()),
             Err(AllocError) => Err(RangeFault::Memory),
@@ -97,7 +101,7 @@ impl Ranges {
     /// Forgets the removals that are no longer recent, where all parts of the rendition last so long until now
     /// (microseconds). It takes no memory.
     pub fn expire(&mut self, end: u64)
-        ensures forgets { self.new ≡ record { limit = self.old.limit; listed = self.old.listed; recent = filter (is_recent self.old.limit end) self.old.recent } }
+        ensures forgets { self.new ≡ at_time end self.old }
         ensures follows { (c : Configuration) (items : List Item) (i : Item) → self.old ≡ announced c items → is_about_ranges i ≡ false
             → end ≡ end_time (items ++ i ∷ []) → self.new ≡ announced c (items ++ i ∷ []) }
     {
@@ -105,30 +109,25 @@ impl Ranges {
     }
 
     /// Lists a date range from now on.
-    fn push(&mut self, end: u64, id: Text, attributes: AttrList) -> Result<(), AllocError>
-        requires { is_listed id self.old ≡ false }
-        ensures ok { OnOk result (self.new ≡ with_range end id attributes self.old) }
+    fn push(&mut self, end: u64, id: &str, attributes: &AttrList) -> Result<(), AllocError>
+        requires { is_listed id.now self.old ≡ false }
+        ensures ok { OnOk result (self.new ≡ with_range end id.now attributes.now self.old) }
         ensures err { OnErr result (self.new ≡ self.old) }
     {
         let added = Stored {
-            attributes,
+            attributes: attributes.write()?,
             added: end,
         };
-        put(&mut self.listed, id.as_str(), added)
+        put(&mut self.listed, id, added)
     }
 
     /// Takes the date range of this id away.
     fn take_away(&mut self, end: u64, id: &str) -> Result<(), AllocError>
-        requires { is_listed id.now self.old ≡ true }
         ensures ok { OnOk result (self.new ≡ without_range end id.now self.old) }
         ensures err { OnErr result (self.new ≡ self.old) }
     {
-        let removed = time_of_removal(&self.recent, end);
-        self.recent.reserve(1)?;
-        let Some(id) = take_out(&mut self.listed, id) else {
-            return Ok(());
-        };
-        self.recent.push_back(Removal { id, removed })?;
+        note(&mut self.recent, id, end)?;
+        take_out(&mut self.listed, id);
         Ok(())
     }
 }
@@ -148,49 +147,43 @@ fn put(listed: &mut IndexMap<String, Stored>, id: &str, stored: Stored) -> Resul
     }
 }
 
-/// Takes the date range of this id out, and answers its id, where there is one. The others keep their order.
-fn take_out(listed: &mut IndexMap<String, Stored>, id: &str) -> Option<Text>
-    ensures others { map listed_at listed.new.entries ≡ others id.now (map listed_at listed.old.entries) }
-    ensures id { MatchOption result (list_any (λ (range : Listed). bytes_eq id.now range.id) (map listed_at listed.old.entries) ≡ false) (λ t. t ≡ id.now) }
+/// Takes the date range of this id out. The others keep their order.
+fn take_out(listed: &mut IndexMap<String, Stored>, id: &str)
+    ensures { map listed_at listed.new.entries ≡ others id.now (map listed_at listed.old.entries) }
 {
-    match listed.shift_remove_entry(id) {
-        Some((key, _)) => Some(Text::from_string(key)),
-        None => None,
+    listed.shift_remove(id);
+}
+
+/// Notes a removal after the others, in the place of an earlier one of its id.
+fn note(recent: &mut IndexMap<String, u64>, id: &str, removed: u64) -> Result<(), AllocError>
+    ensures ok { OnOk result (map removal_at recent.new.entries ≡ other_removals id.now (map removal_at recent.old.entries)
+        ++ (record { id = id.now; removed = removed }) ∷ []) }
+    ensures err { OnErr result (recent.new.entries ≡ recent.old.entries) }
+{
+    let alloc = *recent.allocator();
+    let key = String::from_str(alloc, id)?;
+    recent.reserve(1)?;
+    recent.shift_remove(id);
+    match recent.insert(key, removed) {
+        Ok(_) => Ok(()),
+        Err(_) => Err(AllocError),
     }
 }
 
-/// When a removal comes into the list of removals: now, or with the last of them where that is later.
-fn time_of_removal(recent: &VecDeque<Removal>, end: u64) -> u64
-    ensures { result ≡ max end (last_time 0 recent.now.items) }
+/// Whether a removal is recent, where all parts last until `end`.
+pub(crate) fn is_recent(limit: u64, end: u64, removed: u64) -> bool
+    ensures { result ≡ nat_le end (removed + limit) }
 {
-    match recent.back() {
-        Some(last) => end.max(last.removed),
-        None => end,
-    }
+    end.saturating_sub(removed) <= limit
 }
 
-/// Forgets the removals that are no longer recent. They are in order of time, so those are the first.
-fn forget(recent: &mut VecDeque<Removal>, limit: u64, end: u64)
-    requires { IsInOrder 0 recent.old.items }
-    ensures recent { recent.new.items ≡ filter (is_recent limit end) recent.old.items }
-    ensures in_order { IsInOrder 0 recent.new.items }
+/// Forgets the removals that are no longer recent.
+fn forget(recent: &mut IndexMap<String, u64>, limit: u64, end: u64)
+    ensures { map removal_at recent.new.entries ≡ filter (spec.is_recent limit end) (map removal_at recent.old.entries) }
 {
-    while forget_first(recent, limit, end) {}
-}
-
-/// Forgets the first removal, where it is no longer recent; answers whether it did.
-fn forget_first(recent: &mut VecDeque<Removal>, limit: u64, end: u64) -> bool
-    requires { IsInOrder 0 recent.old.items }
-    ensures in_order { IsInOrder 0 recent.new.items }
-    ensures recent { filter (is_recent limit end) recent.new.items ≡ filter (is_recent limit end) recent.old.items }
-    ensures done { MatchBool result (length recent.new.items < length recent.old.items) (filter (is_recent limit end) recent.new.items ≡ recent.new.items) }
-{
-    let Some(first) = recent.front() else {
-        return false;
-    };
-    if end.saturating_sub(first.removed) <= limit {
-        return false;
-    }
-    recent.pop_front();
-    true
+    recent.retain(
+        |_id: &String, removed: &mut u64| -> bool
+            ensures { (result ≡ nat_le end (removed.old + limit)) × (removed.new ≡ removed.old) }
+        { is_recent(limit, end, *removed) },
+    );
 }

@@ -1,11 +1,11 @@
 ghost use Rattle.std.specs.Prelude.{◌≡◌, ◌≤◌, [], Some, IfOk, MatchOption, length, map, slice_get};
-ghost use Rattle.ll_range.specs.Announced.{announced};
+ghost use Rattle.ll_range.specs.Announced.{announced, recent_at};
 
+use crate::changes::is_recent;
 use indexmap::IndexMap;
-use ll_attr::{AttrList, Text};
+use ll_attr::Text;
 use ll_item::Settings;
 use std::alloc::{AllocError, Global};
-use std::collections::VecDeque;
 use std::marker::Model;
 use thiserror::Error;
 
@@ -33,8 +33,8 @@ pub enum RangeFault {
 pub struct DateRange<'a> {
     /// The value of its ID attribute.
     pub id: &'a str,
-    /// Its other attributes, in the order in which the publisher wrote them.
-    pub attributes: &'a AttrList,
+    /// Its other attributes as a playlist spells them, in the order in which the publisher wrote them.
+    pub attributes: &'a str,
     /// How long all parts before it last, in microseconds.
     pub added: u64,
 }
@@ -42,7 +42,7 @@ pub struct DateRange<'a> {
 /// What is kept of a date range beside its id.
 #[derive(Debug, Drop)]
 pub(crate) struct Stored {
-    pub(crate) attributes: AttrList,
+    pub(crate) attributes: Text,
     pub(crate) added: u64,
 }
 
@@ -57,51 +57,24 @@ impl Clone for Stored {
     }
 }
 
-/// A date range that was taken away, and how long all parts before its removal last, in microseconds.
-#[derive(Debug, Drop)]
-pub(crate) struct Removal {
-    pub(crate) id: Text,
-    pub(crate) removed: u64,
-}
-
-impl Model for Removal {
-    ghost use Rattle.ll_range.specs.Announced.{Removal};
-
-    ghost Value = { Removal };
-
-    ghost view = { λ r. record { id = r.id; removed = r.removed } };
-}
-
-impl Clone for Removal {
-    ghost is_clone = { λ r s. s ≡ r };
-
-    fn clone(&self) -> Result<Removal, AllocError> {
-        Ok(Removal {
-            id: self.id.copy()?,
-            removed: self.removed,
-        })
-    }
-}
-
 /// The date ranges of one rendition: those that are listed, in order of adding, and those that were taken away lately, in
 /// order of removal. A removal is recent while the parts after it last no longer than the skip limit (section 4.4.5.2).
 #[derive(Debug, Drop)]
 pub struct Ranges {
     pub(crate) limit: u64,
     pub(crate) listed: IndexMap<String, Stored>,
-    pub(crate) recent: VecDeque<Removal>,
+    /// How long all parts before each removal last, in microseconds.
+    pub(crate) recent: IndexMap<String, u64>,
 }
 
 impl Model for Ranges {
     ghost use Rattle.std.specs.Prelude.{map};
     ghost use Rattle.ll_range.specs.Announced.{Announced};
-    ghost use Rattle.ll_range.specs.Kept.{listed_at, IsInOrder};
+    ghost use Rattle.ll_range.specs.Kept.{listed_at, removal_at};
 
     ghost Value = { Announced };
 
-    ghost view = { λ r. record { limit = r.limit; listed = map listed_at r.listed.entries; recent = r.recent.items } };
-
-    ghost invariant = { λ r. IsInOrder 0 r.recent.items };
+    ghost view = { λ r. record { limit = r.limit; listed = map listed_at r.listed.entries; recent = map removal_at r.recent.entries } };
 }
 
 impl Ranges {
@@ -112,7 +85,7 @@ impl Ranges {
         Ranges {
             limit: settings.skip() * 1_000_000,
             listed: IndexMap::new(alloc),
-            recent: VecDeque::new(alloc),
+            recent: IndexMap::new(alloc),
         }
     }
 
@@ -131,20 +104,34 @@ impl Ranges {
         let (id, stored) = self.listed.get_index(place)?;
         Some(DateRange {
             id: id.as_str(),
-            attributes: &stored.attributes,
+            attributes: stored.attributes.as_str(),
             added: stored.added,
         })
     }
 
-    /// The ids of the date ranges that were taken away lately, in order of removal (section 4.4.5.2).
-    pub fn recent(&self, alloc: Global) -> Result<Vec<Text>, AllocError>
-        ensures { IfOk result (λ ids. ids.items ≡ map (λ r. r.id) self.now.recent) }
+    /// The ids of the date ranges that were taken away lately, in order of removal, where all parts of the rendition last so
+    /// long until now (microseconds; section 4.4.5.2).
+    pub fn recent(&self, alloc: Global, end: u64) -> Result<Vec<Text>, AllocError>
+        ensures { IfOk result (λ ids. ids.items ≡ map (λ r. r.id) (recent_at end self.now)) }
     {
-        let mut ids = Vec::with_capacity(alloc, self.recent.len())?;
-        for removal in self.recent.iter() {
-            ids.push(removal.id.copy()?)?;
+        let mut ids = Vec::new(alloc);
+        for place in 0..self.recent.len() {
+            if let Some((id, removed)) = self.removal(place) {
+                if is_recent(self.limit, end, removed) {
+                    ids.push(Text::from_str(alloc, id)?)?;
+                }
+            }
         }
         Ok(ids)
+    }
+
+    /// The removal at this place, 0 being the first that is kept: its id, and how long all parts before it last.
+    fn removal(&self, place: usize) -> Option<(&str, u64)>
+        ensures { MatchOption result (length self.now.recent ≤ place)
+            (λ r. slice_get self.now.recent place ≡ Some (record { id = r.0.now; removed = r.1 })) }
+    {
+        let (id, removed) = self.recent.get_index(place)?;
+        Some((id.as_str(), *removed))
     }
 
     /// Date ranges equal to these, or an error where no memory was found.

@@ -46,8 +46,10 @@ ranged c before i j k a end (Ok u) e is_range is now taken =
     )
 
 -- date ranges that refuse an item
-pub range_refused : (c : Configuration) (before : List Item) (i j : Item) (k : Rendition) (r : Result Unit RangeFault) → k ≡ kept c before → i ≡ j
-    → (k.ranges ≡ announced c before → IfErr r (λ f. f ≢ Memory → range.refusal c before j ≡ Some f))
+pub range_refused : (c : Configuration) (before : List Item) (i j : Item) (k : Rendition) (end : ℕ) (r : Result Unit RangeFault) → k ≡ kept c before → i ≡ j → end ≡ k.window.end_time
+    → (k.ranges ≡ announced c before → end ≡ end_time before → IfErr r (λ f. f ≢ Memory → range.refusal c before j ≡ Some f))
     → IfErr r (λ f. f ≢ Memory → range.refusal c before i ≡ Some f)
-range_refused c before i j k (Ok u) e is refused = tt
-range_refused c before i j k (Err f) e is refused = λ other. ap (range.refusal c before) is ∙ refused (ap (λ (q : Rendition). q.ranges) e) other
+range_refused c before i j k end (Ok u) e is now refused = tt
+range_refused c before i j k end (Err f) e is now refused = λ other.
+    ap (range.refusal c before) is
+    ∙ refused (ap (λ (q : Rendition). q.ranges) e) (now ∙ ap (λ (q : Compact). q.end_time) (ap (λ (q : Rendition). q.window) e)) other

@@ -57,20 +57,20 @@ pub(crate) fn push_one(kept: &mut Rendition, item: Item, is_full: bool) -> Resul
     ensures unchanged { OnErr result (kept.new ≡ kept.old) }
 {
     kept.window.test(&item)?;
-    test_ranges(&kept.ranges, &item)?;
+    test_ranges(kept.window.end_time(), &kept.ranges, &item)?;
     if is_full {
         return Err(Refusal::RecordFull);
     }
     add(kept, item)
 }
 
-/// Whether the date ranges of a rendition accept an item.
-fn test_ranges(ranges: &Ranges, item: &Item) -> Result<(), RangeFault>
-    ensures { MatchResult result (λ u. range.refusal_after ranges.now item.now ≡ None) (λ f. range.refusal_after ranges.now item.now ≡ Some f) }
+/// Whether the date ranges of a rendition accept an item, where all its parts last so long until now (microseconds).
+fn test_ranges(end: u64, ranges: &Ranges, item: &Item) -> Result<(), RangeFault>
+    ensures { MatchResult result (λ u. range.refusal_after end ranges.now item.now ≡ None) (λ f. range.refusal_after end ranges.now item.now ≡ Some f) }
 {
     match item {
-        Item::Range { id, attributes, .. } => ranges.test_add(id.as_str(), attributes),
-        Item::Unrange { id, .. } => ranges.test_remove(id.as_str()),
+        Item::Range { id, attributes, .. } => ranges.test_add(end, id.as_str(), attributes),
+        Item::Unrange { id, .. } => ranges.test_remove(end, id.as_str()),
         Item::Part { .. } | Item::Break { .. } | Item::End { .. } => Ok(()),
     }
 }

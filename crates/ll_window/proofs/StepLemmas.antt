@@ -1,6 +1,6 @@
 -- What is kept of a list of items with one more is a step from what is kept of the list.
 use Rattle.std.proofs.Common.{◌≡◌, ℕ, ◌+◌, ◌*◌, ◌≤◌, List, [], ◌∷◌, ◌++◌, Bool, true, false, refl, ap, ap₂, ◌∙◌, sym, length, arith, length-append, append-nil, Option, Some, None}
-use Rattle.std.proofs.lemmas.List.Sums.{sum_by-append}
+use Rattle.std.proofs.lemmas.List.Sums.{fold-append, sum_by-append}
 use Rattle.ll_item.specs.Items.{is_about_ranges}
 use Rattle.ll_item.specs.Settings.{Configuration}
 use Rattle.ll_item.specs.declared.item.Item.{Item}
@@ -11,9 +11,10 @@ use Rattle.ll_window.specs.declared.place.Place.{Place}
 use Rattle.ll_window.specs.Numbers.{numbered_parts, last_place}
 use Rattle.ll_window.specs.Compact.{Compact, compact}
 use Rattle.ll_window.specs.Rows.{Row, row, rows, one_if, is_broken, lasting, broken_in}
-use Rattle.ll_window.specs.Segments.{Split, split, finished_by, unfinished_by, parts_from, parts, pending_after, ended, duration}
+use Rattle.ll_window.specs.Segments.{Split, split, finished_by, unfinished_by, ended, duration}
 use Rattle.ll_window.specs.Step.{with_item, with_part_by, with_segment, with_end, next_place, refusal_going_on, refusal_after}
 use Rattle.ll_window.specs.Refusal.{refusal, refusal_before_end, refusal_by}
+use Rattle.ll_window.specs.Told.{Told, start, step, told}
 use Rattle.ll_window.specs.Window.{window_limit, near_limit, gone, window, listed}
 use Rattle.ll_window.proofs.NumberLemmas.{last-snoc}
 use Rattle.ll_window.proofs.SplitLemmas.{added_by, split-snoc}
@@ -38,121 +39,9 @@ rows-snoc n m t (h ∷ gs) g =
 pub duration-snoc : (ps : List Part) (p : Part) → duration (ps ++ p ∷ []) ≡ duration ps + p.duration
 duration-snoc ps p = let e = sum_by-append (λ (q : Part). q.duration) ps (p ∷ []) in omega (arith, e)
 
-abbrev marked : Bool → ℕ → Bool → Bool → Part
-marked b d i f = record { duration = d; independent = i; finish = f; after_break = b }
-
-parts-part : (b : Bool) (items : List Item) (r d : ℕ) (i f : Bool)
-    → parts_from b (items ++ item.Part r d i f ∷ []) ≡ parts_from b items ++ marked (pending_after b items) d i f ∷ []
-parts-part b [] r d i f = refl
-parts-part b (item.Part r' d' i' f' ∷ items) r d i f = ap (λ ps. marked b d' i' f' ∷ ps) (parts-part false items r d i f)
-parts-part b (item.Break r' ∷ items) r d i f = parts-part true items r d i f
-parts-part b (item.End r' ∷ items) r d i f = parts-part b items r d i f
-parts-part b (item.Range r' id attributes ∷ items) r d i f = parts-part b items r d i f
-parts-part b (item.Unrange r' id ∷ items) r d i f = parts-part b items r d i f
-
-parts-end : (b : Bool) (items : List Item) (r : ℕ) → parts_from b (items ++ item.End r ∷ []) ≡ parts_from b items
-parts-end b [] r = refl
-parts-end b (item.Part r' d' i' f' ∷ items) r = ap (λ ps. marked b d' i' f' ∷ ps) (parts-end false items r)
-parts-end b (item.Break r' ∷ items) r = parts-end true items r
-parts-end b (item.End r' ∷ items) r = parts-end b items r
-parts-end b (item.Range r' id attributes ∷ items) r = parts-end b items r
-parts-end b (item.Unrange r' id ∷ items) r = parts-end b items r
-
-pending-end : (b : Bool) (items : List Item) (r : ℕ) → pending_after b (items ++ item.End r ∷ []) ≡ pending_after b items
-pending-end b [] r = refl
-pending-end b (item.Part r' d' i' f' ∷ items) r = pending-end false items r
-pending-end b (item.Break r' ∷ items) r = pending-end true items r
-pending-end b (item.End r' ∷ items) r = pending-end b items r
-pending-end b (item.Range r' id attributes ∷ items) r = pending-end b items r
-pending-end b (item.Unrange r' id ∷ items) r = pending-end b items r
-
-ended-part : (items : List Item) (r d : ℕ) (i f : Bool) → ended (items ++ item.Part r d i f ∷ []) ≡ ended items
-ended-part [] r d i f = refl
-ended-part (item.Part r' d' i' f' ∷ items) r d i f = ended-part items r d i f
-ended-part (item.Break r' ∷ items) r d i f = ended-part items r d i f
-ended-part (item.End r' ∷ items) r d i f = refl
-ended-part (item.Range r' id attributes ∷ items) r d i f = ended-part items r d i f
-ended-part (item.Unrange r' id ∷ items) r d i f = ended-part items r d i f
-
-ended-break : (items : List Item) (r : ℕ) → ended (items ++ item.Break r ∷ []) ≡ ended items
-ended-break [] r = refl
-ended-break (item.Part r' d' i' f' ∷ items) r = ended-break items r
-ended-break (item.Break r' ∷ items) r = ended-break items r
-ended-break (item.End r' ∷ items) r = refl
-ended-break (item.Range r' id attributes ∷ items) r = ended-break items r
-ended-break (item.Unrange r' id ∷ items) r = ended-break items r
-
-ended-end : (items : List Item) (r : ℕ) → ended (items ++ item.End r ∷ []) ≡ true
-ended-end [] r = refl
-ended-end (item.Part r' d' i' f' ∷ items) r = ended-end items r
-ended-end (item.Break r' ∷ items) r = ended-end items r
-ended-end (item.End r' ∷ items) r = refl
-ended-end (item.Range r' id attributes ∷ items) r = ended-end items r
-ended-end (item.Unrange r' id ∷ items) r = ended-end items r
-
-parts-break : (b : Bool) (items : List Item) (r : ℕ) → parts_from b (items ++ item.Break r ∷ []) ≡ parts_from b items
-parts-break b [] r = refl
-parts-break b (item.Part r' d' i' f' ∷ items) r = ap (λ ps. marked b d' i' f' ∷ ps) (parts-break false items r)
-parts-break b (item.Break r' ∷ items) r = parts-break true items r
-parts-break b (item.End r' ∷ items) r = parts-break b items r
-parts-break b (item.Range r' id attributes ∷ items) r = parts-break b items r
-parts-break b (item.Unrange r' id ∷ items) r = parts-break b items r
-
-pending-part : (b : Bool) (items : List Item) (r d : ℕ) (i f : Bool) → pending_after b (items ++ item.Part r d i f ∷ []) ≡ false
-pending-part b [] r d i f = refl
-pending-part b (item.Part r' d' i' f' ∷ items) r d i f = pending-part false items r d i f
-pending-part b (item.Break r' ∷ items) r d i f = pending-part true items r d i f
-pending-part b (item.End r' ∷ items) r d i f = pending-part b items r d i f
-pending-part b (item.Range r' id attributes ∷ items) r d i f = pending-part b items r d i f
-pending-part b (item.Unrange r' id ∷ items) r d i f = pending-part b items r d i f
-
-pending-break : (b : Bool) (items : List Item) (r : ℕ) → pending_after b (items ++ item.Break r ∷ []) ≡ true
-pending-break b [] r = refl
-pending-break b (item.Part r' d' i' f' ∷ items) r = pending-break false items r
-pending-break b (item.Break r' ∷ items) r = pending-break true items r
-pending-break b (item.End r' ∷ items) r = pending-break b items r
-pending-break b (item.Range r' id attributes ∷ items) r = pending-break b items r
-pending-break b (item.Unrange r' id ∷ items) r = pending-break b items r
-
-parts-silent : (b : Bool) (items : List Item) (i : Item) → is_about_ranges i ≡ true → parts_from b (items ++ i ∷ []) ≡ parts_from b items
-parts-silent b [] (item.Part r d i f) h = absurd (grind (arith, h))
-parts-silent b [] (item.Break r) h = absurd (grind (arith, h))
-parts-silent b [] (item.End r) h = absurd (grind (arith, h))
-parts-silent b [] (item.Range r id attributes) h = refl
-parts-silent b [] (item.Unrange r id) h = refl
-parts-silent b (item.Part r' d' i' f' ∷ items) i h = ap (λ ps. marked b d' i' f' ∷ ps) (parts-silent false items i h)
-parts-silent b (item.Break r' ∷ items) i h = parts-silent true items i h
-parts-silent b (item.End r' ∷ items) i h = parts-silent b items i h
-parts-silent b (item.Range r' id attributes ∷ items) i h = parts-silent b items i h
-parts-silent b (item.Unrange r' id ∷ items) i h = parts-silent b items i h
-
-pending-silent : (b : Bool) (items : List Item) (i : Item) → is_about_ranges i ≡ true → pending_after b (items ++ i ∷ []) ≡ pending_after b items
-pending-silent b [] (item.Part r d i f) h = absurd (grind (arith, h))
-pending-silent b [] (item.Break r) h = absurd (grind (arith, h))
-pending-silent b [] (item.End r) h = absurd (grind (arith, h))
-pending-silent b [] (item.Range r id attributes) h = refl
-pending-silent b [] (item.Unrange r id) h = refl
-pending-silent b (item.Part r' d' i' f' ∷ items) i h = pending-silent false items i h
-pending-silent b (item.Break r' ∷ items) i h = pending-silent true items i h
-pending-silent b (item.End r' ∷ items) i h = pending-silent b items i h
-pending-silent b (item.Range r' id attributes ∷ items) i h = pending-silent b items i h
-pending-silent b (item.Unrange r' id ∷ items) i h = pending-silent b items i h
-
-ended-silent : (items : List Item) (i : Item) → is_about_ranges i ≡ true → ended (items ++ i ∷ []) ≡ ended items
-ended-silent [] (item.Part r d i f) h = absurd (grind (arith, h))
-ended-silent [] (item.Break r) h = absurd (grind (arith, h))
-ended-silent [] (item.End r) h = absurd (grind (arith, h))
-ended-silent [] (item.Range r id attributes) h = refl
-ended-silent [] (item.Unrange r id) h = refl
-ended-silent (item.Part r' d' i' f' ∷ items) i h = ended-silent items i h
-ended-silent (item.Break r' ∷ items) i h = ended-silent items i h
-ended-silent (item.End r' ∷ items) i h = refl
-ended-silent (item.Range r' id attributes ∷ items) i h = ended-silent items i h
-ended-silent (item.Unrange r' id ∷ items) i h = ended-silent items i h
-
 -- what is kept of these rows of segments
-abbrev told : Configuration → List Row → List Part → ℕ → ℕ → Bool → Option Place → Bool → Compact
-told c rs ps next time pending last e = record {
+abbrev told_rows : Configuration → List Row → List Part → ℕ → ℕ → Bool → Option Place → Bool → Compact
+told_rows c rs ps next time pending last e = record {
   settings = c;
   window = listed (near_limit c) (duration ps) (window (window_limit c) rs);
   open_parts = ps;
@@ -172,7 +61,7 @@ rows_of c gs = rows c.first 0 (c.start * 1000) gs
 -- what is kept of parts in segments that end at a time
 abbrev kept : Configuration → Bool → Split → ℕ → Bool → Option Place → Compact
 kept c e s time pending last =
-    told c (rows_of c (finished_by e s)) (unfinished_by e s) (c.first + length (finished_by e s)) time pending last e
+    told_rows c (rows_of c (finished_by e s)) (unfinished_by e s) (c.first + length (finished_by e s)) time pending last e
 
 abbrev filled : Configuration → List Row → ℕ → ℕ → ℕ → ℕ → ℕ → Bool → Option Place → Bool → Compact
 filled c rs next maps time ends left pending last e = record {
@@ -197,8 +86,8 @@ same_filled c rs ss n m l t u ends d v pending last e a f g h =
 
 -- one more segment of these parts, which last at least as long as those that were open
 told-segment : (c : Configuration) (rs : List Row) (ps g : List Part) (next time ends : ℕ) (before after : Bool) (old last : Option Place) (f e : Bool) → duration ps ≤ duration g
-    → told c (rs ++ row next (broken_in rs) (c.start * 1000 + lasting rs) g ∷ []) [] (next + 1) ends after last e
-    ≡ with_segment (told c rs ps next time before old f) g ends after last e
+    → told_rows c (rs ++ row next (broken_in rs) (c.start * 1000 + lasting rs) g ∷ []) [] (next + 1) ends after last e
+    ≡ with_segment (told_rows c rs ps next time before old f) g ends after last e
 told-segment c rs ps g next time ends before after old last f e le =
     let r = row next (broken_in rs) (c.start * 1000 + lasting rs) g in
     let a = broken-append rs (r ∷ []) in
@@ -233,7 +122,7 @@ kept-added c true s time pending old p =
     let g = s.unfinished ++ p ∷ [] in
     let d = duration-snoc s.unfinished p in
     let last = Some (next_place (kept c false s time pending old)) in
-    ap₂ (λ rs next. told c rs [] next (time + p.duration) false last false) (added-row c s.finished g) (next_number c s.finished g)
+    ap₂ (λ rs next. told_rows c rs [] next (time + p.duration) false last false) (added-row c s.finished g) (next_number c s.finished g)
     ∙ told-segment c (rows_of c s.finished) s.unfinished g (c.first + length s.finished) time (time + p.duration) pending false old last false false (omega (arith, d))
 kept-added c false s time pending old p =
     let d = duration-snoc s.unfinished p in
@@ -255,45 +144,45 @@ kept-added c false s time pending old p =
 -- the end closes the open segment
 kept-ended : (c : Configuration) (gs : List (List Part)) (ps : List Part) (time : ℕ) (pending : Bool) (last : Option Place)
     → kept c true (record { finished = gs; unfinished = ps }) time pending last ≡ with_end (kept c false (record { finished = gs; unfinished = ps }) time pending last)
-kept-ended c gs [] time pending last = ap (λ xs. told c (rows_of c xs) [] (c.first + length xs) time pending last true) (append-nil gs)
+kept-ended c gs [] time pending last = ap (λ xs. told_rows c (rows_of c xs) [] (c.first + length xs) time pending last true) (append-nil gs)
 kept-ended c gs (p ∷ ps) time pending last =
-    ap₂ (λ rs next. told c rs [] next time pending last true) (added-row c gs (p ∷ ps)) (next_number c gs (p ∷ ps))
+    ap₂ (λ rs next. told_rows c rs [] next time pending last true) (added-row c gs (p ∷ ps)) (next_number c gs (p ∷ ps))
     ∙ told-segment c (rows_of c gs) (p ∷ ps) (p ∷ ps) (c.first + length gs) time time pending pending last last false true (omega arith)
 
 abbrev last_of : Configuration → List Part → Option Place
 last_of c ps = last_place (numbered_parts c.first 0 ps)
 
--- what is kept of items that have not ended
-going : (c : Configuration) (items : List Item) → ended items ≡ false
-    → compact c items ≡ kept c false (split (parts items)) (duration (parts items)) (pending_after false items) (last_of c (parts items))
-going c items h = ap (λ b. kept c b (split (parts items)) (duration (parts items)) (pending_after false items) (last_of c (parts items))) h
+-- what is kept of what items tell
+abbrev kept_of : Configuration → Told → Compact
+kept_of c t = kept c t.ended (split t.parts) t.end_time t.pending (last_of c t.parts)
 
--- a date range changes nothing of a window
+-- a date range changes nothing of it
+silent_step : (c : Configuration) (t : Told) (i : Item) → is_about_ranges i ≡ true → kept_of c (step t i) ≡ kept_of c t
+silent_step c t (item.Part r d b f) h = absurd (grind (arith, h))
+silent_step c t (item.Break r) h = absurd (grind (arith, h))
+silent_step c t (item.End r) h = absurd (grind (arith, h))
+silent_step c t (item.Range r id attributes) h = refl
+silent_step c t (item.Unrange r id) h = refl
+
 pub silent : (c : Configuration) (items : List Item) (i : Item) → is_about_ranges i ≡ true → compact c (items ++ i ∷ []) ≡ compact c items
-silent c items i h =
-    ap (λ ps. kept c (ended (items ++ i ∷ [])) (split ps) (duration ps) (pending_after false (items ++ i ∷ [])) (last_of c ps)) (parts-silent false items i h)
-    ∙ ap₂ (λ e b. kept c e (split (parts items)) (duration (parts items)) b (last_of c (parts items))) (ended-silent items i h) (pending-silent false items i h)
+silent c items i h = ap (kept_of c) (fold-append step start items (i ∷ [])) ∙ silent_step c (told items) i h
+
+one_more : (c : Configuration) (t : Told) (i : Item) → t.ended ≡ false → kept_of c (step t i) ≡ with_item (kept_of c t) i
+one_more c t (item.Part r d i f) h =
+    let p : Part = record { duration = d; independent = i; finish = f; after_break = t.pending } in
+    ap (λ e. kept c e (split (t.parts ++ p ∷ [])) (t.end_time + d) false (last_of c (t.parts ++ p ∷ []))) h
+    ∙ ap₂ (λ s last. kept c false s (t.end_time + d) false last) (split-snoc t.parts p) (last-snoc c.first t.parts p)
+    ∙ kept-added c f (split t.parts) t.end_time t.pending (last_of c t.parts) p
+    ∙ ap (λ e. with_item (kept c e (split t.parts) t.end_time t.pending (last_of c t.parts)) (item.Part r d i f)) (sym h)
+one_more c t (item.Break r) h = refl
+one_more c t (item.End r) h =
+    kept-ended c (split t.parts).finished (split t.parts).unfinished t.end_time t.pending (last_of c t.parts)
+    ∙ ap (λ e. with_end (kept c e (split t.parts) t.end_time t.pending (last_of c t.parts))) (sym h)
+one_more c t (item.Range r id attributes) h = refl
+one_more c t (item.Unrange r id) h = refl
 
 pub compact-snoc : (c : Configuration) (items : List Item) (i : Item) → ended items ≡ false → compact c (items ++ i ∷ []) ≡ with_item (compact c items) i
-compact-snoc c items (item.Part r d i f) h =
-    let p : Part = marked (pending_after false items) d i f in
-    going c (items ++ item.Part r d i f ∷ []) (ended-part items r d i f ∙ h)
-    ∙ ap₂ (λ ps b. kept c false (split ps) (duration ps) b (last_of c ps)) (parts-part false items r d i f) (pending-part false items r d i f)
-    ∙ ap₂ (λ s time. kept c false s time false (last_of c (parts items ++ p ∷ []))) (split-snoc (parts items) p) (duration-snoc (parts items) p)
-    ∙ ap (λ last. kept c false (added_by f (split (parts items)) p) (duration (parts items) + d) false last) (last-snoc c.first (parts items) p)
-    ∙ kept-added c f (split (parts items)) (duration (parts items)) (pending_after false items) (last_of c (parts items)) p
-    ∙ ap (λ k. with_item k (item.Part r d i f)) (sym (going c items h))
-compact-snoc c items (item.Break r) h =
-    going c (items ++ item.Break r ∷ []) (ended-break items r ∙ h)
-    ∙ ap₂ (λ ps b. kept c false (split ps) (duration ps) b (last_of c ps)) (parts-break false items r) (pending-break false items r)
-    ∙ ap (λ k. with_item k (item.Break r)) (sym (going c items h))
-compact-snoc c items (item.End r) h =
-    ap (λ e. kept c e (split (parts (items ++ item.End r ∷ []))) (duration (parts (items ++ item.End r ∷ []))) (pending_after false (items ++ item.End r ∷ [])) (last_of c (parts (items ++ item.End r ∷ [])))) (ended-end items r)
-    ∙ ap₂ (λ ps b. kept c true (split ps) (duration ps) b (last_of c ps)) (parts-end false items r) (pending-end false items r)
-    ∙ kept-ended c (split (parts items)).finished (split (parts items)).unfinished (duration (parts items)) (pending_after false items) (last_of c (parts items))
-    ∙ ap (λ k. with_item k (item.End r)) (sym (going c items h))
-compact-snoc c items (item.Range r id attributes) h = silent c items (item.Range r id attributes) refl
-compact-snoc c items (item.Unrange r id) h = silent c items (item.Unrange r id) refl
+compact-snoc c items i h = ap (kept_of c) (fold-append step start items (i ∷ [])) ∙ one_more c (told items) i h
 
 -- why an item may not follow is told by what is kept
 refusal-going : (c : Configuration) (items : List Item) (i : Item) → refusal_before_end c items i ≡ refusal_going_on (compact c items) i

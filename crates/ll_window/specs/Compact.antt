@@ -7,7 +7,8 @@ use Rattle.ll_window.specs.declared.part.Part.{Part}
 use Rattle.ll_window.specs.declared.place.Place.{Place}
 use Rattle.ll_window.specs.Numbers.{numbered_parts, last_place}
 use Rattle.ll_window.specs.Rows.{Row, row, rows, lasting, broken_in}
-use Rattle.ll_window.specs.Segments.{parts, segments, open_segment, duration, end_time, pending_after, ended}
+use Rattle.ll_window.specs.Segments.{parts, segments, open_segment, duration, end_time, ended}
+use Rattle.ll_window.specs.Told.{told}
 use Rattle.ll_window.specs.Window.{window_limit, skip_limit, near_limit, gone, window, listed, skipped_in}
 
 pub record Compact : Type 0 where
@@ -46,7 +47,7 @@ compact c items = record {
   maps = broken_in (all_rows c items);
   open_time = c.start * 1000 + lasting (all_rows c items);
   end_time = end_time items;
-  pending = pending_after false items;
+  pending = (told items).pending;
   discontinuity = broken_in (gone (window_limit c) (all_rows c items));
   last = last_place (numbered_parts c.first 0 (parts items));
   ended = ended items;

@@ -1,4 +1,4 @@
--- What a window keeps beside its value.
+-- For private contracts: what a window keeps beside its value.
 use Rattle.std.specs.Prelude.{◌≡◌, ℕ, ◌+◌, ◌*◌, ◌≤◌, List, [], ◌∷◌, false, Some}
 use Rattle.ll_item.specs.Settings.{Configuration, number_end, last_micro}
 use Rattle.ll_window.specs.declared.part.Part.{Part}

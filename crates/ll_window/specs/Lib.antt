@@ -5,6 +5,7 @@ pub mod Refusal
 pub mod Rows
 pub mod Segments
 pub mod Step
+pub mod Told
 pub mod Window
 pub use Rattle.ll_item.specs.Items
 pub use Rattle.ll_item.specs.Settings

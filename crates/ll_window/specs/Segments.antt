@@ -2,44 +2,24 @@
 use Rattle.std.specs.Prelude.{ℕ, List, [], ◌∷◌, ◌++◌, Bool, true, false, ◌==◌, filter, sum_by}
 use Rattle.ll_item.specs.Items.{rendition_of}
 use Rattle.ll_item.specs.declared.item.Item.{Item}
-use Rattle.ll_item.specs.declared.item.Item.TheVariants as item
 use Rattle.ll_window.specs.declared.part.Part.{Part}
+use Rattle.ll_window.specs.Told.{told}
 
 -- the items of the rendition with this index
 abbrev pub own : ℕ → List Item → List Item
 own rendition items = filter (λ i. rendition_of i == rendition) items
 
--- the parts among the items of one rendition, where a break stands before these items or doesn't
-abbrev pub parts_from : Bool → List Item → List Part
-parts_from pending [] = []
-parts_from pending (item.Part rendition duration independent finish ∷ items) =
-    (record { duration = duration; independent = independent; finish = finish; after_break = pending }) ∷ parts_from false items
-parts_from pending (item.Break rendition ∷ items) = parts_from true items
-parts_from pending (item.End rendition ∷ items) = parts_from pending items
-parts_from pending (item.Range rendition id attributes ∷ items) = parts_from pending items
-parts_from pending (item.Unrange rendition id ∷ items) = parts_from pending items
-
--- whether a break stands after the last part, where one stands before these items or doesn't
-abbrev pub pending_after : Bool → List Item → Bool
-pending_after pending [] = pending
-pending_after pending (item.Part rendition duration independent finish ∷ items) = pending_after false items
-pending_after pending (item.Break rendition ∷ items) = pending_after true items
-pending_after pending (item.End rendition ∷ items) = pending_after pending items
-pending_after pending (item.Range rendition id attributes ∷ items) = pending_after pending items
-pending_after pending (item.Unrange rendition id ∷ items) = pending_after pending items
-
--- whether the rendition has ended (section 4.4.3.4)
-abbrev pub ended : List Item → Bool
-ended [] = false
-ended (item.Part rendition duration independent finish ∷ items) = ended items
-ended (item.Break rendition ∷ items) = ended items
-ended (item.End rendition ∷ items) = true
-ended (item.Range rendition id attributes ∷ items) = ended items
-ended (item.Unrange rendition id ∷ items) = ended items
-
 -- the parts among the items of one rendition
 abbrev pub parts : List Item → List Part
-parts items = parts_from false items
+parts items = (told items).parts
+
+-- whether the rendition has ended
+abbrev pub ended : List Item → Bool
+ended items = (told items).ended
+
+-- how long all parts last, in microseconds
+abbrev pub end_time : List Item → ℕ
+end_time items = (told items).end_time
 
 -- segments that have a finishing part, and the parts after the last of them
 pub record Split : Type 0 where
@@ -81,7 +61,3 @@ open_segment items = unfinished_by (ended items) (split (parts items))
 -- microseconds
 abbrev pub duration : List Part → ℕ
 duration ps = sum_by (λ p. p.duration) ps
-
--- the sum of all part durations
-abbrev pub end_time : List Item → ℕ
-end_time items = duration (parts items)

@@ -1,4 +1,4 @@
--- What one more item makes of what is kept of the items before it, and why it may not follow them.
+-- For private contracts: what one more item makes of what is kept of the items before it, and why it may not follow them.
 use Rattle.std.specs.Prelude.{ℕ, ◌+◌, List, [], ◌∷◌, ◌++◌, Bool, true, false, Option, Some, None, length}
 use Rattle.ll_item.specs.declared.item.Item.{Item}
 use Rattle.ll_item.specs.declared.item.Item.TheVariants as item

@@ -18,8 +18,8 @@ replay_status run.Memory = 4
 
 -- of a delta update
 abbrev pub apply_status : ApplyFault → ℕ
-apply_status (apply.BadBase line) = 3
-apply_status (apply.BadDelta line) = 3
+apply_status apply.BadBase = 3
+apply_status apply.BadDelta = 3
 apply_status (apply.NotRecent number) = 3
 apply_status apply.Memory = 4
 

@@ -58,9 +58,7 @@ fn apply_status(fault: ApplyFault) -> u8
     ensures { result ≡ spec.apply_status fault }
 {
     match fault {
-        ApplyFault::BadBase { .. } | ApplyFault::BadDelta { .. } | ApplyFault::NotRecent { .. } => {
-            3
-        }
+        ApplyFault::BadBase | ApplyFault::BadDelta | ApplyFault::NotRecent { .. } => 3,
         ApplyFault::Memory => 4,
     }
 }

@@ -3,11 +3,8 @@ use Rattle.std.proofs.Common.{Err}
 use Rattle.ll_read.specs.Reading.{playlist_in}
 use Rattle.ll_apply.specs.Texts.{applied_text, base_of, delta_of}
 use Rattle.ll_apply.proofs.Chain.{answer-base, answer-memory, bad-base}
-use Rattle.ll_apply.proofs.TextProof.{full, text}
+use Rattle.ll_apply.proofs.AppliedTexts.{full}
 use Rattle.ll_apply.proofs.applying.apply.Goals as goal
-
-pub returns-in-Ok-clause-companion : goal.returns-in-Ok-clause-companion
-returns-in-Ok-clause-companion c = text
 
 pub returns-in-Ok-clause-full : goal.returns-in-Ok-clause-full
 returns-in-Ok-clause-full c = full
@@ -20,6 +17,3 @@ returns-in-Err-clause-memory c =
     answer-memory (Err c.in-Err.fault) (applied_text c.args.base.now c.args.delta.now)
     (answer-base (playlist_in c.args.base.now) c.in-Err.fault (applied_text c.args.base.now c.args.delta.now) c.in-Err.ensures.refused
     (bad-base (base_of (playlist_in c.args.base.now)) (delta_of (playlist_in c.args.delta.now)) c.in-Err.fault c.in-Err.ensures.refused))
-
-pub returns-in-Err-clause-companion : goal.returns-in-Err-clause-companion
-returns-in-Err-clause-companion c = text

@@ -10,7 +10,7 @@ returns-in-Range-clause-accepted c cf before e is_range =
 
 pub returns-in-Range-clause-refused : goal.returns-in-Range-clause-refused
 returns-in-Range-clause-refused c cf before e =
-    range_refused cf before c.args.item _ c.args.kept.now c.add.result e c.in-Range.is (c.add.ensures.refused cf before c.in-Range.rendition)
+    range_refused cf before c.args.item _ c.args.kept.now c.end_time-end.result c.add.result e c.in-Range.is c.end_time-end.ensures (c.add.ensures.refused cf before c.in-Range.rendition)
 
 pub returns-in-Unrange-clause-accepted : goal.returns-in-Unrange-clause-accepted
 returns-in-Unrange-clause-accepted c cf before e is_range =
@@ -18,4 +18,4 @@ returns-in-Unrange-clause-accepted c cf before e is_range =
 
 pub returns-in-Unrange-clause-refused : goal.returns-in-Unrange-clause-refused
 returns-in-Unrange-clause-refused c cf before e =
-    range_refused cf before c.args.item _ c.args.kept.now c.remove.result e (c.in-Unrange.is ∙ ap (item.Unrange c.in-Unrange.rendition) (sym c.as_str.ensures)) (c.remove.ensures.refused cf before c.in-Unrange.rendition)
+    range_refused cf before c.args.item _ c.args.kept.now c.end_time-end.result c.remove.result e (c.in-Unrange.is ∙ ap (item.Unrange c.in-Unrange.rendition) (sym c.as_str.ensures)) c.end_time-end.ensures (c.remove.ensures.refused cf before c.in-Unrange.rendition)

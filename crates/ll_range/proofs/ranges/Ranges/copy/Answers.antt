@@ -7,5 +7,5 @@ pub returns : goal.returns
 returns c =
     same_told c.self.inside.limit _ _ _ _
     (copied_listed c.self.inside.listed.entries c.in_ok-clone.field-0.entries c.in_ok-clone.ensures.cases)
-    (copied_recent c.self.inside.recent.items c.in_ok-clone-2.field-0.items c.in_ok-clone-2.ensures.cases.0)
+    (copied_recent c.self.inside.recent.entries c.in_ok-clone-2.field-0.entries c.in_ok-clone-2.ensures.cases)
     ∙ c.self.view_is

@@ -1,8 +1,10 @@
--- The ids so far and those of the removals that are left are all of them.
-use Rattle.std.proofs.Common.{◌≡◌, ◌++◌, map}
-use Rattle.std.specs.VecDeque.Iter.{deque_iter_rest}
-use Rattle.ll_range.specs.Announced.{Removal}
+-- The ids so far and those of the recent removals that are left are all of them.
+use Rattle.std.proofs.Common.{◌≡◌, ◌++◌, drop, filter, map}
+use Rattle.ll_window.specs.Told.{Removal}
+use Rattle.ll_range.specs.Announced.{is_recent}
 use Rattle.ll_range.proofs.ranges.Ranges.recent.Given as goal
 
-abbrev pub invariant-loop-removal : goal.invariant-loop-removal
-invariant-loop-removal l = l.ids.items ++ map (λ (r : Removal). r.id) (deque_iter_rest l.removal-iterator) ≡ map (λ (r : Removal). r.id) l.self.recent
+abbrev pub invariant-loop-place : goal.invariant-loop-place
+invariant-loop-place l =
+    l.ids.items ++ map (λ (r : Removal). r.id) (filter (is_recent l.self.limit l.end) (drop l.place l.self.recent))
+    ≡ map (λ (r : Removal). r.id) (filter (is_recent l.self.limit l.end) l.self.recent)

@@ -1,0 +1,40 @@
+-- What a publisher may announce: each item may follow those before it.
+use Rattle.std.specs.Prelude.{◌≡◌, List, [], ◌∷◌, ◌++◌, None, Ok, true}
+use Rattle.std.specs.Str.{is_utf8}
+use Rattle.ll_attr.specs.Attributes.{attributes_in}
+use Rattle.ll_attr.specs.Attributes as attributes
+use Rattle.ll_attr.specs.declared.attributes.Attribute.{Attribute}
+use Rattle.ll_item.specs.Items.{rendition_of}
+use Rattle.ll_item.specs.Settings.{Configuration}
+use Rattle.ll_item.specs.declared.item.Item.{Item}
+use Rattle.ll_item.specs.declared.item.Item.TheVariants as item
+use Rattle.ll_window.specs.Refusal as window
+use Rattle.ll_window.specs.Segments.{own}
+use Rattle.ll_range.specs.Announced as range
+
+-- each of these items may follow the items of its rendition before it
+abbrev pub AreAccepted : Configuration → List Item → List Item → Type 0
+AreAccepted c before [] = Unit
+AreAccepted c before (item ∷ items) = (window.refusal c (own (rendition_of item) before) item ≡ None) × AreAccepted c (before ++ item ∷ []) items
+
+-- the attributes of a date range, as they can be read: in UTF-8 and no two of one name
+pub record IsSpelled (list : List Attribute) : Type 0 where
+  pub read : attributes_in (attributes.spelling list) ≡ Ok list
+  pub utf8 : is_utf8 (attributes.spelling list) ≡ true
+
+-- what the texts of an item are like
+abbrev pub HasTexts : Item → Type 0
+HasTexts (item.Range rendition id attributes) = (is_utf8 id ≡ true) × IsSpelled attributes
+HasTexts (item.Unrange rendition id) = is_utf8 id ≡ true
+HasTexts (item.Part rendition duration independent finish) = Unit
+HasTexts (item.Break rendition) = Unit
+HasTexts (item.End rendition) = Unit
+
+-- each of these items may follow the items of its rendition before it, also where it is about date ranges
+abbrev pub ArePublished : Configuration → List Item → List Item → Type 0
+ArePublished c before [] = Unit
+ArePublished c before (item ∷ items) =
+    (window.refusal c (own (rendition_of item) before) item ≡ None)
+    × (range.refusal c (own (rendition_of item) before) item ≡ None)
+    × HasTexts item
+    × ArePublished c (before ++ item ∷ []) items

@@ -1,0 +1,64 @@
+-- What the items of one rendition tell, one after another.
+use Rattle.std.specs.Prelude.{ℕ, ◌+◌, List, [], ◌∷◌, ◌++◌, Bool, true, false, not, fold, filter, bytes_eq}
+use Rattle.ll_attr.specs.Attributes.{spelling}
+use Rattle.ll_item.specs.declared.item.Item.{Item}
+use Rattle.ll_item.specs.declared.item.Item.TheVariants as item
+use Rattle.ll_window.specs.declared.part.Part.{Part}
+
+-- a date range that is listed (section 4.4.5.1)
+pub record Listed : Type 0 where
+  pub id : List ℕ
+  -- its other attributes, as they are spelled
+  pub attributes : List ℕ
+  -- how long all parts before it last, in microseconds
+  pub added : ℕ
+
+-- a date range that was taken away (section 4.4.5.2)
+pub record Removal : Type 0 where
+  pub id : List ℕ
+  -- how long all parts before its removal last, in microseconds
+  pub removed : ℕ
+
+pub record Told : Type 0 where
+  pub parts : List Part
+  -- whether a break stands after the last part
+  pub pending : Bool
+  -- whether the rendition has ended (section 4.4.3.4)
+  pub ended : Bool
+  -- how long all parts last, in microseconds
+  pub end_time : ℕ
+  -- the date ranges that are listed, in order of adding
+  pub listed : List Listed
+  -- the last removal of each id, in order of removal
+  pub removals : List Removal
+
+-- the date ranges of all other ids
+abbrev pub others : List ℕ → List Listed → List Listed
+others id ranges = filter (λ (range : Listed). not (bytes_eq id range.id)) ranges
+
+-- the removals of all other ids
+abbrev pub other_removals : List ℕ → List Removal → List Removal
+other_removals id removals = filter (λ (removal : Removal). not (bytes_eq id removal.id)) removals
+
+-- before the first item
+abbrev pub start : Told
+start = record { parts = []; pending = false; ended = false; end_time = 0; listed = []; removals = [] }
+
+-- one more item
+abbrev pub step : Told → Item → Told
+step t (item.Part rendition duration independent finish) = record t {
+  parts = t.parts ++ (record { duration = duration; independent = independent; finish = finish; after_break = t.pending }) ∷ [];
+  pending = false;
+  end_time = t.end_time + duration;
+}
+step t (item.Break rendition) = record t { pending = true }
+step t (item.End rendition) = record t { ended = true }
+step t (item.Range rendition id attributes) = record t { listed = t.listed ++ (record { id = id; attributes = spelling attributes; added = t.end_time }) ∷ [] }
+step t (item.Unrange rendition id) = record t {
+  listed = others id t.listed;
+  removals = other_removals id t.removals ++ (record { id = id; removed = t.end_time }) ∷ [];
+}
+
+-- of all items of one rendition
+abbrev pub told : List Item → Told
+told items = fold step start items
