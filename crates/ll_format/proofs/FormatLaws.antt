@@ -8,7 +8,7 @@ use Rattle.std.proofs.lemmas.List.Folds.{list_all-append}
 use Rattle.std.proofs.lemmas.Slice.Eq.{starts_is, bytes_eq-Decides}
 use Rattle.std.specs.List.{list_all, starts_with}
 use Rattle.ll_attr.specs.Words.{after}
-use Rattle.ll_format.specs.Format.{◌>>=◌, Word, Format, with_rest, until_by, until, stops_at, up_to, beside, after_key, before_key, quoted, flag_text, flag_by, flag_ends, flag, optional_text, optional_by, optional_ends, optional, Where, mapped, alone, line, mapped_word, named, by_name, to_end, tested, one_of, Either, Left, Right, either_text, either_by, EitherWithin, choice}
+use Rattle.ll_format.specs.Format.{◌>>=◌, Word, Format, with_rest, until_by, until, stops_at, up_to, beside, after_key, before_key, quoted, flag_text, flag_by, flag_ends, flag, optional_text, optional_by, optional_ends, optional, Where, mapped, alone, whole, mapped_word, named, by_name, to_end, tested, one_of, Either, Left, Right, either_text, either_by, EitherWithin, choice}
 use Rattle.ll_format.specs.Words.{is_line_byte}
 
 pub record WordLaws {A : Type 0} (w : Word A) : Type 0 where
@@ -62,14 +62,14 @@ key_again k rest =
 abbrev pub lacks : ℕ → List ℕ → Bool
 lacks c text = list_all (λ b. not (b == c)) text
 
-whole_by : (b : Bool) (first : ℕ) (bs : List ℕ) (more : List ℕ × List ℕ) → bs ≡ more.0 ++ more.1
+until_whole_by : (b : Bool) (first : ℕ) (bs : List ℕ) (more : List ℕ × List ℕ) → bs ≡ more.0 ++ more.1
     → first ∷ bs ≡ (until_by b first bs more).0 ++ (until_by b first bs more).1
-whole_by true first bs more h = refl
-whole_by false first bs more h = ap (λ t. first ∷ t) h
+until_whole_by true first bs more h = refl
+until_whole_by false first bs more h = ap (λ t. first ∷ t) h
 
 pub until_whole : (c : ℕ) (text : List ℕ) → text ≡ (until c text).0 ++ (until c text).1
 until_whole c [] = refl
-until_whole c (b ∷ bs) = whole_by (b == c) b bs (until c bs) (until_whole c bs)
+until_whole c (b ∷ bs) = until_whole_by (b == c) b bs (until c bs) (until_whole c bs)
 
 stops_by : (b : Bool) (c first : ℕ) (bs : List ℕ) (more : List ℕ × List ℕ) → (first == c) ≡ b → stops_at c more.1 ≡ true
     → stops_at c (until_by b first bs more).1 ≡ true
@@ -253,8 +253,8 @@ alone_some p x e =
     let g = guarded (bytes_eq p.1 []) (Some p.0) x e in
     ap (λ z. (z, p.1)) (some_is p.0 x g.1) ∙ ap (λ r. (x, r)) ((bytes_eq-Decides p.1 []).0 g.0)
 
-pub line-laws : {A : Type 0} {f : Format A} → FormatLaws f → ((x : A) → f.ends x [] ≡ true) → WordLaws (line f)
-line-laws {A} {f} l ends = record {
+pub whole-laws : {A : Type 0} {f : Format A} → FormatLaws f → ((x : A) → f.ends x [] ≡ true) → WordLaws (whole f)
+whole-laws {A} {f} l ends = record {
   takes = λ text x e.
       let a = bind_some (f.read text) alone x e in
       let t = l.takes text x [] (a.1 ∙ ap Some (alone_some a.0 x a.2)) in

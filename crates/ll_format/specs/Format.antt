@@ -157,8 +157,8 @@ abbrev pub alone : {A : Type 0} → A × List ℕ → Option A
 alone p = if bytes_eq p.1 [] then Some p.0 else None
 
 -- a format with nothing after it
-abbrev pub line : {A : Type 0} → Format A → Word A
-line f = record {
+abbrev pub whole : {A : Type 0} → Format A → Word A
+whole f = record {
   print = f.print;
   read = λ text. f.read text >>= alone;
   Within = f.Within;
