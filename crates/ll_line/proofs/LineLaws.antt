@@ -1,15 +1,15 @@
 -- The laws of lines, put together as the lines are.
-use Rattle.std.proofs.Common.{◌≡◌, ℕ, ◌≤◌, ◌<◌, ◌^◌, ◌++◌, ◌&&◌, not, List, [], ◌∷◌, Bool, true, false, Option, Some, None, refl, ap, arith, sym, ◌∙◌, codes, bytes_eq, if◌then◌else◌}
+use Rattle.std.proofs.Common.{◌≡◌, ℕ, ◌<◌, ◌^◌, ◌++◌, not, List, [], ◌∷◌, Bool, true, false, Option, Some, None, refl, ap, arith, ◌∙◌, codes}
 use Rattle.std.proofs.lemmas.Bool.{and_parts}
 use Rattle.std.specs.List.{list_all}
-use Rattle.std.specs.Option.{option_map, is_some}
+use Rattle.std.specs.Option.{is_some}
 use Rattle.ll_attr.specs.Words.{after}
 use Rattle.ll_format.specs.Format.{◌>>=◌, Either, Left, Right, Where, until, to_end, beside, after_key, quoted, optional, named, one_of, either_text, either_by}
-use Rattle.ll_format.specs.Words.{duration, quotable, uri, is_uri, is_rest, rest_of_line, is_line_byte, separated}
+use Rattle.ll_format.specs.Words.{duration, quotable, uri, is_uri, is_rest, rest_of_line, is_line_byte}
 use Rattle.ll_format.proofs.FormatLaws.{WordLaws, FormatLaws, until_again, up_to-laws, to_end-laws, beside-laws, after_key-laws, before_key-laws, quoted-laws, flag-laws, optional-laws, mapped-laws, whole-laws, mapped_word-laws, tested-laws, one_of-laws, IsNamed, by_name-laws, choice-laws}
 use Rattle.ll_format.proofs.SeparatedLaws.{separated-laws, separated-lacks}
 use Rattle.ll_format.proofs.WordLaws.{number-laws, duration-laws, uri-laws, quotable-laws, rest_of_line-laws, text_if-laws, number-lacks, duration-lacks, uri-lacks, quotable-lacks}
-use Rattle.ll_line.specs.Formats.{largest_number, count, field, control_of, control, range_of, text_or_none, text_or_empty, date_range_fields, is_attribute_list, date_range, skip_of, skip, part_of, part, segment_duration, report_of, report, Tag, VersionTag, TargetDurationTag, ServerControlTag, PartTargetTag, MediaSequenceTag, DiscontinuitySequenceTag, DateRangeTag, SkippedTag, MapTag, TimeTag, PartTag, DurationTag, RenditionReportTag, HintTag, tags, name, Said, word, tag_line, Bare, BareFirst, BareDiscontinuity, BareEndList, bares, bare_name, is_tag, has_colon, is_segment_uri, segment_uri, Kind, tagged, bare, line_of, kind_of, line, said, said_by}
+use Rattle.ll_line.specs.Formats.{largest_number, count, field, control_of, control, range_of, text_or_none, text_or_empty, date_range_fields, is_attribute_list, skip_of, skip, part_of, part, segment_duration, report_of, report, Tag, VersionTag, TargetDurationTag, ServerControlTag, PartTargetTag, MediaSequenceTag, DiscontinuitySequenceTag, DateRangeTag, SkippedTag, MapTag, TimeTag, PartTag, DurationTag, RenditionReportTag, HintTag, tags, name, Said, word, tag_line, Bare, BareFirst, BareDiscontinuity, BareEndList, bares, bare_name, is_tag, has_colon, is_segment_uri, segment_uri, Kind, tagged, line_of, kind_of, line, said, said_by}
 use Rattle.ll_line.specs.Line.{DateRangeLine, Line, First, Version, TargetDuration, ServerControl, PartTarget, MediaSequence, DiscontinuitySequence, DateRange, Skipped, Discontinuity, Map, Time, Part, Duration, Uri, RenditionReport, Hint, EndList}
 
 in_word : largest_number < 2 ^ 64

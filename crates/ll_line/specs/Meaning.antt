@@ -17,7 +17,7 @@ use Rattle.ll_line.specs.declared.time.DateTime.TheVariants.{Utc, Text}
 
 -- a time as it stands in a line
 abbrev pub date_time_text : DateTime → List ℕ
-date_time_text (Utc time) = time_text time
+date_time_text (Utc time) = time_text time.now
 date_time_text (Text text) = text.now
 
 abbrev pub control_meant : Control → says.Control

@@ -8,7 +8,7 @@ use std::fmt;
 #[derive(Clone, Copy, Debug)]
 pub enum DateTime<'a> {
     /// A moment.
-    Utc(UtcTime),
+    Utc(&'a UtcTime),
     /// A moment that is spelled so.
     Text(&'a str),
 }
