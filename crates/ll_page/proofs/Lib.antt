@@ -2,5 +2,5 @@ pub mod DeltaLemmas
 pub mod PlaceLemmas
 pub mod RangeLemmas
 pub mod SegmentLemmas
-pub mod Tabs
+pub mod Texts
 pub mod WorkedExamples

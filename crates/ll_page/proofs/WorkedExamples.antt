@@ -5,10 +5,10 @@ use Rattle.ll_attr.specs.Durations.{seconds}
 use Rattle.ll_time.specs.Calendar.{nth_date}
 use Rattle.ll_time.specs.Times.{time_of, digits_2, digits_3, digits_4}
 use Rattle.ll_item.specs.Settings.{configuration_of}
-use Rattle.ll_page.specs.Spelling.{first_lines, target_line, control_front, control_end, part_target_line, sequence_line, discontinuity_line, date_range_line, skip_front, broken_line, map_line, time_line, independent_flag, part_line, report_line, hint_line, end_line, finished_lines}
-use Rattle.ll_page.specs.Uris.{segment_uri, part_uri, map_uri, report_uri}
+use Rattle.ll_line.specs.Text.{line_text}
+use Rattle.ll_line.specs.Uris.{segment_uri, part_uri, map_uri, report_uri}
 use Rattle.ll_page.specs.Worked.{WorkedPlaylists}
 
 pub worked : WorkedPlaylists
-unfolding first_lines target_line control_front control_end part_target_line sequence_line discontinuity_line date_range_line skip_front broken_line map_line time_line independent_flag part_line report_line hint_line end_line finished_lines segment_uri part_uri map_uri report_uri seconds digits configuration_of nth_date time_of digits_2 digits_3 digits_4
+unfolding line_text segment_uri part_uri map_uri report_uri seconds digits configuration_of nth_date time_of digits_2 digits_3 digits_4
 worked = record { settings = refl; empty = refl; one_segment = refl; date_ranges = refl; delta_update = refl; open_segment = refl; has_ended = refl; afternoon = refl; ends_open = refl }

@@ -1,7 +1,8 @@
 -- The delta update of a rendition (sections 4.4.5.2 and 6.2.5.1).
 use Rattle.std.specs.Prelude.{ℕ, zero, suc, List, false, Option, Some, None, drop}
 use Rattle.ll_window.specs.Compact.{skip_count}
-use Rattle.ll_page.specs.Playlist.{Skip, Playlist}
+use Rattle.ll_line.specs.Line.{Skip}
+use Rattle.ll_page.specs.Playlist.{Playlist}
 use Rattle.ll_page.specs.Spelling.{spelling}
 use Rattle.ll_page.specs.Full.{printed, full_playlist}
 use Rattle.ll_page.specs.View.{Seen, asked}

@@ -11,9 +11,10 @@ use Rattle.ll_window.specs.Window.{skip_limit}
 use Rattle.ll_window.specs.Told.{Listed}
 use Rattle.ll_range.specs.Announced.{Announced}
 use Rattle.ll_page.specs.declared.rendition.Rendition.{Rendition}
-use Rattle.ll_page.specs.Playlist.{PartLine, Block, Finished, DateRangeLine, Report, Header, Playlist}
+use Rattle.ll_line.specs.Line.{DateRangeLine, PartLine, Report}
+use Rattle.ll_page.specs.Playlist.{Block, Finished, Header, Playlist}
 use Rattle.ll_page.specs.Spelling.{spelling}
-use Rattle.ll_page.specs.Uris.{segment_uri, part_uri, map_uri, report_uri}
+use Rattle.ll_line.specs.Uris.{segment_uri, part_uri, map_uri, report_uri}
 use Rattle.ll_page.specs.View.{Seen, seen, asked}
 
 abbrev pub header_of : Configuration → Header

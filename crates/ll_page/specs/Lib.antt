@@ -2,9 +2,13 @@ pub mod Delta
 pub mod Full
 pub mod Playlist
 pub mod Spelling
-pub mod Uris
 pub mod View
 pub mod Worked
+pub use Rattle.ll_line.specs.Formats
+pub use Rattle.ll_line.specs.Line
+pub use Rattle.ll_line.specs.Meaning
+pub use Rattle.ll_line.specs.Text
+pub use Rattle.ll_line.specs.Uris
 pub use Rattle.ll_window.specs.Compact
 pub use Rattle.ll_window.specs.Rows
 pub use Rattle.ll_range.specs.Announced

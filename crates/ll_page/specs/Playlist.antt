@@ -1,12 +1,6 @@
 -- A Media Playlist, as its lines tell it (section 4.4).
 use Rattle.std.specs.Prelude.{ℕ, List, Bool, Option}
-
--- an EXT-X-PART line
-pub record PartLine : Type 0 where
-  -- microseconds
-  pub duration : ℕ
-  pub uri : List ℕ
-  pub independent : Bool
+pub use Rattle.ll_line.specs.Line.{DateRangeLine, PartLine, Report, Skip}
 
 -- the lines of a segment that stand before its EXTINF line
 pub record Block : Type 0 where
@@ -24,27 +18,6 @@ pub record Finished : Type 0 where
   -- microseconds
   pub duration : ℕ
   pub uri : List ℕ
-
--- an EXT-X-DATERANGE line
-pub record DateRangeLine : Type 0 where
-  pub id : List ℕ
-  -- its other attributes, as a list of attributes is spelled
-  pub attributes : List ℕ
-
--- an EXT-X-SKIP line
-pub record Skip : Type 0 where
-  -- how many segments it stands for
-  pub count : ℕ
-  -- the ids of date ranges that were taken away lately, where it lists them
-  pub removed : Option (List (List ℕ))
-
--- how far another rendition has come
-pub record Report : Type 0 where
-  pub uri : List ℕ
-  -- the media sequence number of its last segment with a part
-  pub number : ℕ
-  -- the index of that segment's last part
-  pub index : ℕ
 
 -- what does not change while the stream goes on
 pub record Header : Type 0 where

@@ -3,16 +3,14 @@
 #![tactic(auto)]
 
 mod laws;
-pub mod lines;
 mod playlist;
 mod rendition;
 mod skip_kind;
-mod uri;
 mod view;
 
 pub use laws::worked_playlists;
+pub use ll_line::{Control, DateRange, DateTime, Line, PartLine, Report, Skip, Uri, push_line};
 pub use playlist::{delta, full};
 pub use rendition::Rendition;
 pub use skip_kind::SkipKind;
-pub use uri::Uri;
 pub use view::View;

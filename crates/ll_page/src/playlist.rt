@@ -1,17 +1,18 @@
-ghost use Rattle.std.specs.Prelude.{◌≡◌, ◌≤◌, ◌/◌, ◌==◌, ◌++◌, IfOk, OnOk, string_bytes, flat_map, length, drop};
+ghost use Rattle.std.specs.Prelude.{◌≡◌, ◌≤◌, ◌/◌, ◌==◌, ◌++◌, IfOk, OnOk, string_bytes, flat_map, length, map, drop};
 ghost use Rattle.ll_item.specs.Settings.{last_micro};
 ghost use Rattle.ll_window.specs.Compact.{unfinished};
-ghost use Rattle.ll_page.specs.Full.{full_text, full_playlist, header_of, part_lines, block_of, finished_of, printed, open_of, report_by, reports_of, hint_of, sequence_of, range_line, range_lines};
+ghost use Rattle.ll_page.specs.Full.{full_text, full_playlist, header_of, part_lines, map_of, block_of, finished_of, printed, open_of, report_by, reports_of, hint_of, sequence_of, range_line, range_lines};
 ghost use Rattle.ll_page.specs.Delta.{delta_text, delta_by, skip_of};
-ghost use Rattle.ll_page.specs.Spelling.{spelling, front_lines, header_lines, date_range_line, skip_lines, part_line, block_lines, segment_lines, open_lines, report_line, last_line};
+ghost use Rattle.ll_line.specs.Line as says;
+ghost use Rattle.ll_line.specs.Text.{line_text, text_of};
+ghost use Rattle.ll_page.specs.Spelling.{spelling, head_lines, header_lines, skip_lines, break_lines, map_lines, block_lines, segment_lines, open_lines, last_line};
 
-use crate::lines::*;
 use crate::skip_kind::SkipKind;
-use crate::uri::Uri;
 use crate::view::View;
 use ll_attr::{Micros, Text};
 use ll_item::Settings;
-use ll_range::{DateRange, Ranges};
+use ll_line::{Control, DateTime, Line, PartLine, Report, Skip, Uri, push_line};
+use ll_range::Ranges;
 use ll_time::UtcTime;
 use ll_window::{Part, Place, Segment, Window};
 use std::alloc::{AllocError, Global};
@@ -43,7 +44,8 @@ fn playlist(alloc: Global, view: &View<'_>, skipped: usize) -> Result<Text, Allo
 {
     let window = view.window();
     let mut text = String::new(alloc);
-    push_front(&mut text, view)?;
+    push_head(&mut text, view)?;
+    push_ranges(&mut text, view.ranges())?;
     push_skip(&mut text, skipped)?;
     push_segments(&mut text, window, skipped)?;
     push_open(&mut text, window)?;
@@ -52,31 +54,31 @@ fn playlist(alloc: Global, view: &View<'_>, skipped: usize) -> Result<Text, Allo
     Ok(Text::from_string(text))
 }
 
-/// Adds the lines that stand before all segments.
-fn push_front(text: &mut String, view: &View<'_>) -> Result<(), AllocError>
-    ensures { OnOk result (string_bytes text.new ≡ string_bytes text.old ++ front_lines (full_playlist view.now)) }
+/// Adds the lines that stand before all date ranges and segments.
+fn push_head(text: &mut String, view: &View<'_>) -> Result<(), AllocError>
+    ensures { OnOk result (string_bytes text.new ≡ string_bytes text.old ++ text_of (head_lines (full_playlist view.now))) }
 {
     let window = view.window();
     push_header(text, view.settings())?;
-    push_sequence_line(text, sequence(window))?;
-    push_discontinuity_line(text, window.discontinuity())?;
-    push_ranges(text, view.ranges())
+    push_line(text, &Line::MediaSequence(sequence(window)))?;
+    push_line(text, &Line::DiscontinuitySequence(window.discontinuity()))
 }
 
 /// Adds the lines that stay the same while the channel goes on.
 fn push_header(text: &mut String, settings: &Settings) -> Result<(), AllocError>
-    ensures { OnOk result (string_bytes text.new ≡ string_bytes text.old ++ header_lines (header_of settings.now)) }
+    ensures { OnOk result (string_bytes text.new ≡ string_bytes text.old ++ text_of (header_lines (header_of settings.now))) }
 {
     let part_target = settings.part_target();
-    push_first_lines(text, 9)?;
-    push_target_line(text, settings.target())?;
-    push_control_line(
-        text,
-        Micros(3 * part_target),
-        Micros(settings.skip() * 1_000_000),
-        false,
-    )?;
-    push_part_target_line(text, Micros(part_target))
+    let control = Control {
+        hold_back: Micros(3 * part_target),
+        skip_until: Micros(settings.skip() * 1_000_000),
+        skips_date_ranges: false,
+    };
+    push_line(text, &Line::First)?;
+    push_line(text, &Line::Version(9))?;
+    push_line(text, &Line::TargetDuration(settings.target()))?;
+    push_line(text, &Line::ServerControl(control))?;
+    push_line(text, &Line::PartTarget(Micros(part_target)))
 }
 
 /// The media sequence number of the first segment; without one, of the open segment or else the next.
@@ -91,7 +93,7 @@ fn sequence(window: &Window) -> u64
 
 /// Adds a line for each date range.
 fn push_ranges(text: &mut String, ranges: &Ranges) -> Result<(), AllocError>
-    ensures { OnOk result (string_bytes text.new ≡ string_bytes text.old ++ flat_map date_range_line (range_lines ranges.now)) }
+    ensures { OnOk result (string_bytes text.new ≡ string_bytes text.old ++ text_of (map says.DateRange (range_lines ranges.now))) }
 {
     for place in 0..ranges.count() {
         if let Some(range) = ranges.listed(place) {
@@ -102,27 +104,35 @@ fn push_ranges(text: &mut String, ranges: &Ranges) -> Result<(), AllocError>
 }
 
 /// Adds the line of a date range.
-fn push_range(text: &mut String, range: DateRange<'_>) -> Result<(), AllocError>
+fn push_range(text: &mut String, range: ll_range::DateRange<'_>) -> Result<(), AllocError>
     ensures { OnOk result (string_bytes text.new ≡ string_bytes text.old
-        ++ date_range_line (range_line (record { id = range.entry.id.now; attributes = range.entry.attributes.now; added = range.entry.added }))) }
+        ++ line_text (says.DateRange (range_line (record { id = range.entry.id.now; attributes = range.entry.attributes.now; added = range.entry.added })))) }
 {
-    push_date_range_line(text, range.id, range.attributes)
+    let line = Line::DateRange(ll_line::DateRange {
+        id: range.id,
+        attributes: range.attributes,
+    });
+    push_line(text, &line)
 }
 
 /// Adds the line that stands for so many segments, where there are any.
 fn push_skip(text: &mut String, skipped: usize) -> Result<(), AllocError>
-    ensures { OnOk result (string_bytes text.new ≡ string_bytes text.old ++ skip_lines (skip_of skipped)) }
+    ensures { OnOk result (string_bytes text.new ≡ string_bytes text.old ++ text_of (skip_lines (skip_of skipped))) }
 {
     if skipped == 0 {
         return Ok(());
     }
-    push_skip_line(text, skipped as u64, None)
+    let skip = Skip {
+        count: skipped as u64,
+        removed: None,
+    };
+    push_line(text, &Line::Skipped(skip))
 }
 
 /// Adds the lines of all finished segments but so many.
 fn push_segments(text: &mut String, window: &Window, skipped: usize) -> Result<(), AllocError>
     ensures { OnOk result (string_bytes text.new ≡ string_bytes text.old
-        ++ flat_map segment_lines (printed (skipped == 0) (drop skipped window.now.window))) }
+        ++ text_of (flat_map segment_lines (printed (skipped == 0) (drop skipped window.now.window)))) }
 {
     for place in skipped..window.segment_count() {
         if let Some(segment) = window.segment(place) {
@@ -141,19 +151,20 @@ fn push_segment(
 ) -> Result<(), AllocError>
     requires { segment.time ≤ last_micro }
     ensures { OnOk result (string_bytes text.new ≡ string_bytes text.old
-        ++ segment_lines (finished_of leads (record { segment = segment; parts = parts.now }))) }
+        ++ text_of (segment_lines (finished_of leads (record { segment = segment; parts = parts.now })))) }
 {
     push_block(text, leads, segment, parts)?;
     let uri = Uri::Segment {
         number: segment.number,
     };
-    push_finished_lines(text, Micros(segment.duration), uri)
+    push_line(text, &Line::Duration(Micros(segment.duration)))?;
+    push_line(text, &Line::Uri(uri))
 }
 
 /// Adds the lines of the open segment, where there is one.
 fn push_open(text: &mut String, window: &Window) -> Result<(), AllocError>
     ensures { OnOk result (string_bytes text.new ≡ string_bytes text.old
-        ++ open_lines (open_of (length window.now.window == 0) (unfinished window.now))) }
+        ++ text_of (open_lines (open_of (length window.now.window == 0) (unfinished window.now)))) }
 {
     match window.open_segment() {
         Some(segment) => {
@@ -166,7 +177,7 @@ fn push_open(text: &mut String, window: &Window) -> Result<(), AllocError>
 
 /// Adds a report of each other rendition that has a part.
 fn push_reports(text: &mut String, view: &View<'_>) -> Result<(), AllocError>
-    ensures { OnOk result (string_bytes text.new ≡ string_bytes text.old ++ flat_map report_line (reports_of view.now)) }
+    ensures { OnOk result (string_bytes text.new ≡ string_bytes text.old ++ text_of (map says.RenditionReport (reports_of view.now))) }
 {
     let (names, asked) = (view.settings().renditions(), view.rendition());
     for (rendition, kept) in view.renditions().iter().enumerate() {
@@ -186,27 +197,33 @@ fn push_report(
     last: Option<Place>,
 ) -> Result<(), AllocError>
     ensures { OnOk result (string_bytes text.new ≡ string_bytes text.old
-        ++ flat_map report_line (report_by is_asked name.now last)) }
+        ++ text_of (map says.RenditionReport (report_by is_asked name.now last))) }
 {
     if is_asked {
         return Ok(());
     }
     if let Some(last) = last {
-        let name = name.as_str();
-        push_report_line(text, Uri::Rendition { name }, last)?;
+        let report = Report {
+            uri: Uri::Rendition {
+                name: name.as_str(),
+            },
+            number: last.number,
+            index: last.index,
+        };
+        push_line(text, &Line::RenditionReport(report))?;
     }
     Ok(())
 }
 
 /// Adds the hint of the part that comes next, or the end.
 fn push_last_line(text: &mut String, window: &Window) -> Result<(), AllocError>
-    ensures { OnOk result (string_bytes text.new ≡ string_bytes text.old ++ last_line (hint_of window.now)) }
+    ensures { OnOk result (string_bytes text.new ≡ string_bytes text.old ++ line_text (last_line (hint_of window.now))) }
 {
     if window.ended() {
-        push_end_line(text)
+        push_line(text, &Line::EndList)
     } else {
         let (number, index) = (window.next_number(), window.open_parts().len() as u64);
-        push_hint_line(text, Uri::Part { number, index })
+        push_line(text, &Line::Hint(Uri::Part { number, index }))
     }
 }
 
@@ -219,25 +236,49 @@ fn push_block(
 ) -> Result<(), AllocError>
     requires { segment.time ≤ last_micro }
     ensures { OnOk result (string_bytes text.new ≡ string_bytes text.old
-        ++ block_lines (block_of leads (record { segment = segment; parts = parts.now }))) }
+        ++ text_of (block_lines (block_of leads (record { segment = segment; parts = parts.now })))) }
 {
-    push_broken_line(text, segment.broken)?;
-    if leads || segment.broken {
-        let number = segment.map_number;
-        push_map_line(text, Uri::Map { number })?;
-    }
-    push_time_line(text, utc_time(segment.time))?;
+    push_break(text, segment.broken)?;
+    push_map(text, leads || segment.broken, segment.map_number)?;
+    let time = utc_time(segment.time);
+    push_line(text, &Line::Time(DateTime::Utc(&time)))?;
     push_parts(text, segment.number, parts)
+}
+
+/// Adds the line of a discontinuity, where the segment is broken from the one before it.
+fn push_break(text: &mut String, broken: bool) -> Result<(), AllocError>
+    ensures { OnOk result (string_bytes text.new ≡ string_bytes text.old ++ text_of (break_lines broken)) }
+{
+    if broken {
+        push_line(text, &Line::Discontinuity)
+    } else {
+        Ok(())
+    }
+}
+
+/// Adds the line of the Media Initialization Section of this number, where it is needed.
+fn push_map(text: &mut String, needed: bool, number: u64) -> Result<(), AllocError>
+    ensures { OnOk result (string_bytes text.new ≡ string_bytes text.old ++ text_of (map_lines (map_of needed number))) }
+{
+    if needed {
+        push_line(text, &Line::Map(Uri::Map { number }))
+    } else {
+        Ok(())
+    }
 }
 
 /// Adds a line for each part of the segment of this number.
 fn push_parts(text: &mut String, number: u64, parts: &[Part]) -> Result<(), AllocError>
-    ensures { OnOk result (string_bytes text.new ≡ string_bytes text.old ++ flat_map part_line (part_lines number 0 parts.now)) }
+    ensures { OnOk result (string_bytes text.new ≡ string_bytes text.old ++ text_of (map says.Part (part_lines number 0 parts.now))) }
 {
     for (index, part) in parts.iter().enumerate() {
         let index = index as u64;
-        let uri = Uri::Part { number, index };
-        push_part_line(text, Micros(part.duration), uri, part.independent)?;
+        let line = PartLine {
+            duration: Micros(part.duration),
+            uri: Uri::Part { number, index },
+            independent: part.independent,
+        };
+        push_line(text, &Line::Part(line))?;
     }
     Ok(())
 }

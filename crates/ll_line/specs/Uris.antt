@@ -1,7 +1,7 @@
 -- The URIs of media, which are this origin's own choice.
 use Rattle.std.specs.Prelude.{ℕ, List, ◌++◌, codes, decimal}
-use Rattle.ll_page.specs.declared.uri.Uri.{Uri}
-use Rattle.ll_page.specs.declared.uri.Uri.TheVariants.{Segment, Part, Map, Rendition, Text}
+use Rattle.ll_line.specs.declared.uri.Uri.{Uri}
+use Rattle.ll_line.specs.declared.uri.Uri.TheVariants.{Segment, Part, Map, Rendition, Text}
 
 -- the segment of this media sequence number
 unfoldable pub segment_uri : ℕ → List ℕ

@@ -1,5 +1,5 @@
 ghost use Rattle.std.specs.Prelude.{Some};
-ghost use Rattle.ll_page.specs.Uris.{uri_text};
+ghost use Rattle.ll_line.specs.Uris.{uri_text};
 
 use std::fmt;
 

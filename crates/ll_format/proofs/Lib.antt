@@ -1,0 +1,5 @@
+pub mod FormatLaws
+pub mod WordLaws
+pub mod SeparatedLaws
+pub mod Durations
+pub mod Finding

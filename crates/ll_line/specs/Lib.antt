@@ -1,0 +1,7 @@
+pub mod Formats
+pub mod Laws
+pub mod Line
+pub mod Meaning
+pub mod Text
+pub mod Uris
+pub use Rattle.ll_time.specs.Times

@@ -1,0 +1,67 @@
+-- What a line of a Media Playlist says (section 4.4).
+use Rattle.std.specs.Prelude.{ℕ, List, Bool, Option}
+
+-- an EXT-X-SERVER-CONTROL line
+pub record Control : Type 0 where
+  -- microseconds
+  pub hold_back : ℕ
+  -- microseconds
+  pub skip_until : ℕ
+  -- whether a delta update may leave out date ranges
+  pub skips_date_ranges : Bool
+
+-- an EXT-X-DATERANGE line
+pub record DateRangeLine : Type 0 where
+  pub id : List ℕ
+  -- its other attributes, as a list of attributes is spelled
+  pub attributes : List ℕ
+
+-- an EXT-X-SKIP line
+pub record Skip : Type 0 where
+  -- how many segments it stands for
+  pub count : ℕ
+  -- the ids of date ranges that were removed recently, where it lists them
+  pub removed : Option (List (List ℕ))
+
+-- an EXT-X-PART line
+pub record PartLine : Type 0 where
+  -- microseconds
+  pub duration : ℕ
+  pub uri : List ℕ
+  pub independent : Bool
+
+-- an EXT-X-RENDITION-REPORT line
+pub record Report : Type 0 where
+  pub uri : List ℕ
+  -- the Media Sequence Number of its last segment with a part
+  pub number : ℕ
+  -- the index of that segment's last part
+  pub index : ℕ
+
+pub data Line : Type 0 where
+  -- EXTM3U
+  First : Line
+  Version : ℕ → Line
+  -- seconds
+  TargetDuration : ℕ → Line
+  ServerControl : Control → Line
+  -- microseconds
+  PartTarget : ℕ → Line
+  MediaSequence : ℕ → Line
+  DiscontinuitySequence : ℕ → Line
+  DateRange : DateRangeLine → Line
+  Skipped : Skip → Line
+  Discontinuity : Line
+  -- a URI
+  Map : List ℕ → Line
+  -- EXT-X-PROGRAM-DATE-TIME
+  Time : List ℕ → Line
+  Part : PartLine → Line
+  -- EXTINF, in microseconds
+  Duration : ℕ → Line
+  -- a segment's URI
+  Uri : List ℕ → Line
+  RenditionReport : Report → Line
+  -- EXT-X-PRELOAD-HINT: a URI
+  Hint : List ℕ → Line
+  EndList : Line

@@ -1,0 +1,17 @@
+//! One line of a Media Playlist, without its end: read from a text and written to one. Sections are those of
+//! draft-pantos-hls-rfc8216bis.
+#![tactic(auto)]
+
+mod fields;
+mod laws;
+mod line;
+mod reading;
+mod time;
+mod uri;
+mod writing;
+
+pub use laws::{one_line_law, read_is_spelled_law, spelled_is_read_law};
+pub use line::{Control, DateRange, Line, PartLine, Report, Skip};
+pub use time::DateTime;
+pub use uri::Uri;
+pub use writing::push_line;
