@@ -1,5 +1,5 @@
 -- A window as it is kept, one part more.
-use Rattle.std.proofs.Common.{◌≡◌, ℕ, ◌+◌, ◌*◌, ◌≤◌, List, [], ◌∷◌, ◌++◌, Bool, true, false, cond, length, ◌==◌, Some, None, nat_le, refl, ap, sym, subst, ◌∙◌, arith}
+use Rattle.std.proofs.Common.{◌≡◌, ℕ, ◌+◌, ◌*◌, ◌≤◌, List, [], ◌∷◌, ◌++◌, Bool, true, false, cond, length, ◌==◌, Some, None, nat_le, refl, ap, ap₂, sym, subst, ◌∙◌, arith}
 use Rattle.std.proofs.lemmas.Bool.Decides.{nat_tests}
 use Rattle.ll_item.specs.Settings.{Configuration, number_end, last_micro}
 use Rattle.ll_window.specs.declared.finished.Finished.{Finished}
@@ -12,7 +12,7 @@ use Rattle.ll_window.specs.Kept.{AreTimed, IsKept, grown, after, spare}
 use Rattle.ll_window.specs.Refusal.{part_refusal}
 use Rattle.ll_window.specs.Rows.{Row, row, one_if, is_broken, lasting, broken_in}
 use Rattle.ll_window.specs.Segments.{duration}
-use Rattle.ll_window.specs.Step.{with_part, with_part_by, with_segment, with_end, ended_by, next_place}
+use Rattle.ll_window.specs.Step.{with_open, with_part, with_part_by, after_segment, with_end, ended_by, next_place}
 use Rattle.ll_window.specs.Window.{window_limit, near_limit, gone, window, listed}
 use Rattle.ll_window.proofs.StepLemmas.{duration-snoc, again}
 use Rattle.ll_window.proofs.SuffixLemmas.{suffix}
@@ -37,128 +37,41 @@ told c rs lasts ps left p = record {
 abbrev pub kept : Configuration → Finished → List Part → Progress → Compact
 kept c f ps p = told c f.rows.items p.open_duration ps f.discontinuity p
 
--- a part that finishes nothing
-pub with_open_part : (c : Configuration) (f : Finished) (ps qs : List Part) (p : Progress) (part : Part) (place : Place) (k : Compact) → kept c f ps p ≡ k
-    → p.open_duration ≡ duration ps → place ≡ next_place k → qs ≡ ps ++ part ∷ [] → part.finish ≡ false
-    → kept c f qs (grown p part.duration place) ≡ with_part k part
-with_open_part c f ps qs p part place k is lasts here more goes_on =
+-- one more part of the open segment
+pub told_open : (c : Configuration) (f : Finished) (ps qs : List Part) (p q : Progress) (part : Part) (place : Place) (k : Compact) → kept c f ps p ≡ k
+    → p.open_duration ≡ duration ps → place ≡ next_place k → qs ≡ ps ++ part ∷ [] → q ≡ grown p part.duration place
+    → kept c f qs q ≡ with_open k part
+told_open c f ps qs p q part place k is lasts here more grows =
     let d = duration-snoc ps part in
-    let next = next_place (kept c f ps p) in
-    ap (λ xs. told c f.rows.items (p.open_duration + part.duration) xs f.discontinuity (grown p part.duration place)) more
-    ∙ ap (λ x. told c f.rows.items (p.open_duration + part.duration) (ps ++ part ∷ []) f.discontinuity (grown p part.duration x)) (here ∙ ap next_place (sym is))
-    ∙ ap (λ n. told c f.rows.items n (ps ++ part ∷ []) f.discontinuity (grown p part.duration next)) (omega (arith, d, lasts))
-    ∙ ap (λ rs. record {
-      settings = c;
-      window = rs;
-      open_parts = ps ++ part ∷ [];
-      next_number = p.next_number;
-      maps = p.maps;
-      open_time = p.open_time;
-      end_time = p.end_time + part.duration;
-      pending = false;
-      discontinuity = f.discontinuity;
-      last = Some next;
-      ended = p.ended;
-    })
-    (again (near_limit c) p.open_duration (duration (ps ++ part ∷ [])) f.rows.items (omega (arith, d, lasts)))
-    ∙ ap (λ b. with_part_by b (kept c f ps p) part) (sym goes_on)
-    ∙ ap (λ x. with_part x part) is
+    let all = ps ++ part ∷ [] in
+    ap₂ (λ xs x. kept c f xs x) more (grows ∙ ap (grown p part.duration) (here ∙ ap next_place (sym is)))
+    ∙ ap (λ n. told c f.rows.items n all f.discontinuity (grown p part.duration (next_place (kept c f ps p)))) (omega (arith, d, lasts))
+    ∙ ap (λ v. record (with_open (kept c f ps p) part) { window = v }) (again (near_limit c) p.open_duration (duration all) f.rows.items (omega (arith, d, lasts)))
+    ∙ ap (λ x. with_open x part) is
 
 -- the open segment with these parts
 abbrev closing : List Part → Progress → Row
 closing qs q = row q.next_number q.maps q.open_time qs
 
-filled : (c : Configuration) (rs ss : List Row) (left more : ℕ) (s : Segment) (p : Progress) (q : Row) → s ≡ q.segment → left ≡ more → listed (near_limit c) 0 rs ≡ ss
-    → told c rs 0 [] left (after p s)
-    ≡ record {
-      settings = c;
-      window = ss;
-      open_parts = [];
-      next_number = p.next_number + 1;
-      maps = q.segment.map_number;
-      open_time = p.open_time + q.segment.duration;
-      end_time = p.end_time;
-      pending = p.pending;
-      discontinuity = more;
-      last = p.last;
-      ended = p.ended;
-    }
-filled c rs ss left more s p q a b e =
-    ap (λ x. told c rs 0 [] left (after p x)) a
-    ∙ ap (λ n. told c rs 0 [] n (after p q.segment)) b
-    ∙ ap (λ xs. record {
-      settings = c;
-      window = xs;
-      open_parts = [];
-      next_number = p.next_number + 1;
-      maps = q.segment.map_number;
-      open_time = p.open_time + q.segment.duration;
-      end_time = p.end_time;
-      pending = p.pending;
-      discontinuity = more;
-      last = p.last;
-      ended = p.ended;
-    }) e
-
--- these two differ at most in how long the open segment lasts, in what is pending, the last part and the end
-pub record AtOneSegment (p q : Progress) : Type 0 where
-  pub number : q.next_number ≡ p.next_number
-  pub maps : q.maps ≡ p.maps
-  pub time : q.open_time ≡ p.open_time
-
--- the open segment is finished with these parts, which last at least as long as those that it had
-closed_with : (c : Configuration) (w : ℕ) (f g : Finished) (ps qs os : List Part) (p q : Progress) (s : Segment) → w ≡ c.window
-    → p.open_duration ≤ duration qs → AtOneSegment p q → os ≡ [] → s ≡ (closing qs q).segment
-    → g.rows.items ≡ window (w * 1000000) (f.rows.items ++ closing qs q ∷ [])
+-- the open segment is finished
+closed_with : (c : Configuration) (w : ℕ) (f g : Finished) (qs os : List Part) (q : Progress) (s : Segment) → w ≡ c.window → q.open_duration ≡ duration qs
+    → os ≡ [] → s ≡ (closing qs q).segment → g.rows.items ≡ window (w * 1000000) (f.rows.items ++ closing qs q ∷ [])
     → g.discontinuity ≡ f.discontinuity + broken_in (gone (w * 1000000) (f.rows.items ++ closing qs q ∷ []))
-    → kept c g os (after q s) ≡ with_segment (told c f.rows.items p.open_duration ps f.discontinuity (record {
-      next_number = q.next_number;
-      maps = q.maps;
-      open_time = q.open_time;
-      open_duration = p.open_duration;
-      end_time = p.end_time;
-      pending = p.pending;
-      last = p.last;
-      ended = p.ended;
-    })) qs q.end_time q.pending q.last q.ended
-closed_with c w f g ps qs os p q s wide lasts one none same items left =
+    → kept c g os (after q s) ≡ after_segment (kept c f qs q)
+closed_with c w f g qs os q s wide lasts none same items left =
     let r = closing qs q in
     let e = lasting-cons r [] in
-    let near = near_limit c in
     let least = window_limit c in
-    ap (λ xs. told c g.rows.items 0 xs g.discontinuity (after q s)) none
-    ∙ ap (λ rs. told c rs 0 [] g.discontinuity (after q s)) (items ∙ ap (λ v. window (v * 1000000) (f.rows.items ++ r ∷ [])) wide)
-    ∙ filled c _ (listed near 0 (window least (listed near p.open_duration f.rows.items ++ r ∷ []))) _
-    (f.discontinuity + broken_in (gone least (listed near p.open_duration f.rows.items ++ r ∷ []))) s q r same
+    let near = near_limit c in
+    ap₂ (λ xs x. told c g.rows.items 0 xs g.discontinuity (after q x)) none same
+    ∙ ap₂ (λ rs n. told c rs 0 [] n (after q r.segment))
+    (items ∙ ap (λ v. window (v * 1000000) (f.rows.items ++ r ∷ [])) wide)
     (left ∙ ap (λ v. f.discontinuity + broken_in (gone (v * 1000000) (f.rows.items ++ r ∷ []))) wide
-    ∙ ap (λ n. f.discontinuity + n) (gone-window-again least near p.open_duration f.rows.items r (omega (arith, e, lasts))))
-    (listed-window-again least near p.open_duration f.rows.items r (omega (arith, e, lasts)))
-
-pub with_last_part : (c : Configuration) (w : ℕ) (f g : Finished) (ps qs os : List Part) (p : Progress) (part : Part) (place : Place) (s : Segment) (k : Compact) → kept c f ps p ≡ k → w ≡ c.window
-    → p.open_duration ≡ duration ps → place ≡ next_place k → qs ≡ ps ++ part ∷ [] → os ≡ [] → s ≡ (closing qs (grown p part.duration place)).segment
-    → g.rows.items ≡ window (w * 1000000) (f.rows.items ++ closing qs (grown p part.duration place) ∷ [])
-    → g.discontinuity ≡ f.discontinuity + broken_in (gone (w * 1000000) (f.rows.items ++ closing qs (grown p part.duration place) ∷ []))
-    → kept c g os (after (grown p part.duration place) s) ≡ with_part_by true k part
-with_last_part c w f g ps qs os p part place s k is wide lasts here more none same items left =
-    let d = duration-snoc ps part in
-    let e = ap duration more in
-    closed_with c w f g ps qs os p (grown p part.duration place) s wide (omega (arith, d, e, lasts))
-    (record { number = refl; maps = refl; time = refl }) none same items left
-    ∙ ap (λ xs. with_segment (kept c f ps p) xs (p.end_time + part.duration) false (Some place) p.ended) more
-    ∙ ap (λ x. with_segment (kept c f ps p) (ps ++ part ∷ []) (p.end_time + part.duration) false (Some x) p.ended) (here ∙ ap next_place (sym is))
-    ∙ ap (λ x. with_part_by true x part) is
+    ∙ ap (λ n. f.discontinuity + n) (gone-window-again least near q.open_duration f.rows.items r (omega (arith, e, lasts))))
+    ∙ ap (λ v. record (after_segment (kept c f qs q)) { window = v }) (listed-window-again least near q.open_duration f.rows.items r (omega (arith, e, lasts)))
 
 abbrev pub ending : Progress → Progress
-ending p = record {
-  next_number = p.next_number;
-  maps = p.maps;
-  open_time = p.open_time;
-  open_duration = p.open_duration;
-  end_time = p.end_time;
-  pending = p.pending;
-  last = p.last;
-  ended = true;
-}
+ending p = record p { ended = true }
 
 -- the end, where no segment is open
 pub with_end_alone : (c : Configuration) (f : Finished) (ps : List Part) (p : Progress) (k : Compact) → kept c f ps p ≡ k → ps ≡ [] → kept c f ps (ending p) ≡ with_end k
@@ -166,20 +79,9 @@ with_end_alone c f ps p k is none =
     ap (λ xs. ended_by xs (kept c f ps p)) (sym none) ∙ ap with_end is
 
 open_by : (c : Configuration) (f : Finished) (ps : List Part) (p : Progress) → (ps ≡ [] → ⊥)
-    → with_segment (kept c f ps p) ps p.end_time p.pending p.last true ≡ with_end (kept c f ps p)
+    → after_segment (kept c f ps (ending p)) ≡ with_end (kept c f ps p)
 open_by c f [] p some = absurd (some refl)
 open_by c f (x ∷ xs) p some = refl
-
--- the end, where a segment is open
-pub with_end_of_segment : (c : Configuration) (w : ℕ) (f g : Finished) (ps os : List Part) (p : Progress) (s : Segment) (k : Compact) → kept c f ps p ≡ k → w ≡ c.window
-    → p.open_duration ≡ duration ps → (ps ≡ [] → ⊥) → os ≡ [] → s ≡ (closing ps (ending p)).segment
-    → g.rows.items ≡ window (w * 1000000) (f.rows.items ++ closing ps (ending p) ∷ [])
-    → g.discontinuity ≡ f.discontinuity + broken_in (gone (w * 1000000) (f.rows.items ++ closing ps (ending p) ∷ []))
-    → kept c g os (after (ending p) s) ≡ with_end k
-with_end_of_segment c w f g ps os p s k is wide lasts some none same items left =
-    closed_with c w f g ps ps os p (ending p) s wide (omega (arith, lasts)) (record { number = refl; maps = refl; time = refl }) none same items left
-    ∙ open_by c f ps p some
-    ∙ ap with_end is
 
 pub limits : (c : Configuration) (n lasts ends micros : ℕ) → part_refusal c n lasts ends micros ≡ None
     → (n ≤ number_end) × (c.start * 1000 + ends + micros ≤ last_micro)
@@ -291,17 +193,12 @@ pub told_finished : (c : Configuration) (w : ℕ) (f g : Finished) (ps qs os : L
     → g.discontinuity ≡ f.discontinuity + broken_in (gone (w * 1000000) (f.rows.items ++ closing qs q ∷ []))
     → kept c g os r ≡ with_part_by true k part
 told_finished c w f g ps qs os p q r part place s k is wide lasts here more grows goes none same items left =
-    ap (λ x. kept c g os x) (goes ∙ ap (λ x. after x s) grows)
-    ∙ with_last_part c w f g ps qs os p part place s k is wide lasts here more none
-    (same ∙ ap (λ x. (closing qs x).segment) grows)
-    (items ∙ ap (λ x. window (w * 1000000) (f.rows.items ++ closing qs x ∷ [])) grows)
-    (left ∙ ap (λ x. f.discontinuity + broken_in (gone (w * 1000000) (f.rows.items ++ closing qs x ∷ []))) grows)
-
-pub told_open : (c : Configuration) (f : Finished) (ps qs : List Part) (p q : Progress) (part : Part) (place : Place) (k : Compact) → kept c f ps p ≡ k
-    → p.open_duration ≡ duration ps → place ≡ next_place k → qs ≡ ps ++ part ∷ [] → part.finish ≡ false → q ≡ grown p part.duration place
-    → kept c f qs q ≡ with_part k part
-told_open c f ps qs p q part place k is lasts here more goes_on grows =
-    ap (λ x. kept c f qs x) grows ∙ with_open_part c f ps qs p part place k is lasts here more goes_on
+    let n = ap (λ (x : Progress). x.open_duration) grows in
+    let d = duration-snoc ps part in
+    let e = ap duration more in
+    ap (λ x. kept c g os x) goes
+    ∙ closed_with c w f g qs os q s wide (omega (arith, n, d, e, lasts)) none same items left
+    ∙ ap after_segment (told_open c f ps qs p q part place k is lasts here more grows)
 
 ending_kept : (c : Configuration) (f : Finished) (ps : List Part) (p : Progress) → IsKept c f ps p → IsKept c f ps (ending p)
 ending_kept c f ps p k = record {
@@ -331,7 +228,7 @@ pub told_ended : (c : Configuration) (w : ℕ) (f g : Finished) (ps os : List Pa
     → g.discontinuity ≡ f.discontinuity + broken_in (gone (w * 1000000) (f.rows.items ++ closing ps (ending p) ∷ []))
     → kept c g os r ≡ with_end k
 told_ended c w f g ps os p r s k is wide lasts some goes none same items left =
-    ap (λ x. kept c g os x) goes ∙ with_end_of_segment c w f g ps os p s k is wide lasts some none same items left
+    ap (λ x. kept c g os x) goes ∙ closed_with c w f g ps os (ending p) s wide lasts none same items left ∙ open_by c f ps p some ∙ ap with_end is
 
 none_empty : (ps : List Part) → length ps ≡ 0 → ps ≡ []
 none_empty [] e = refl

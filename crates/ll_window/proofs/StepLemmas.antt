@@ -12,7 +12,7 @@ use Rattle.ll_window.specs.Numbers.{numbered_parts, last_place}
 use Rattle.ll_window.specs.Compact.{Compact, compact}
 use Rattle.ll_window.specs.Rows.{Row, row, rows, one_if, is_broken, lasting, broken_in}
 use Rattle.ll_window.specs.Segments.{Split, split, finished_by, unfinished_by, ended, duration}
-use Rattle.ll_window.specs.Step.{with_item, with_part_by, with_segment, with_end, next_place, refusal_going_on, refusal_after}
+use Rattle.ll_window.specs.Step.{with_item, with_open, with_part_by, after_segment, with_end, next_place, refusal_going_on, refusal_after}
 use Rattle.ll_window.specs.Refusal.{refusal, refusal_before_end, refusal_by}
 use Rattle.ll_window.specs.Told.{Told, start, step, told}
 use Rattle.ll_window.specs.Window.{window_limit, near_limit, gone, window, listed}
@@ -63,42 +63,23 @@ abbrev kept : Configuration → Bool → Split → ℕ → Bool → Option Place
 kept c e s time pending last =
     told_rows c (rows_of c (finished_by e s)) (unfinished_by e s) (c.first + length (finished_by e s)) time pending last e
 
-abbrev filled : Configuration → List Row → ℕ → ℕ → ℕ → ℕ → ℕ → Bool → Option Place → Bool → Compact
-filled c rs next maps time ends left pending last e = record {
-  settings = c;
-  window = rs;
-  open_parts = [];
-  next_number = next;
-  maps = maps;
-  open_time = time;
-  end_time = ends;
-  pending = pending;
-  discontinuity = left;
-  last = last;
-  ended = e;
-}
-
-same_filled : (c : Configuration) (rs ss : List Row) (n m l t u ends d v : ℕ) (pending : Bool) (last : Option Place) (e : Bool)
-    → rs ≡ ss → m ≡ l → t ≡ u → d ≡ v → filled c rs n m t ends d pending last e ≡ filled c ss n l u ends v pending last e
-same_filled c rs ss n m l t u ends d v pending last e a f g h =
-    ap (λ x. filled c x n m t ends d pending last e) a ∙ ap (λ x. filled c ss n x t ends d pending last e) f
-    ∙ ap (λ x. filled c ss n l x ends d pending last e) g ∙ ap (λ x. filled c ss n l u ends x pending last e) h
-
--- one more segment of these parts, which last at least as long as those that were open
-told-segment : (c : Configuration) (rs : List Row) (ps g : List Part) (next time ends : ℕ) (before after : Bool) (old last : Option Place) (f e : Bool) → duration ps ≤ duration g
-    → told_rows c (rs ++ row next (broken_in rs) (c.start * 1000 + lasting rs) g ∷ []) [] (next + 1) ends after last e
-    ≡ with_segment (told_rows c rs ps next time before old f) g ends after last e
-told-segment c rs ps g next time ends before after old last f e le =
-    let r = row next (broken_in rs) (c.start * 1000 + lasting rs) g in
+-- the open segment is finished
+told-segment : (c : Configuration) (rs : List Row) (ps : List Part) (next time : ℕ) (pending : Bool) (last : Option Place) (e : Bool)
+    → told_rows c (rs ++ row next (broken_in rs) (c.start * 1000 + lasting rs) ps ∷ []) [] (next + 1) time pending last e
+    ≡ after_segment (told_rows c rs ps next time pending last e)
+told-segment c rs ps next time pending last e =
+    let r = row next (broken_in rs) (c.start * 1000 + lasting rs) ps in
     let a = broken-append rs (r ∷ []) in
     let o = broken-cons r [] in
     let b = lasting-append rs (r ∷ []) in
     let d = lasting-cons r [] in
-    same_filled c _ _ (next + 1) _ _ _ _ ends _ _ after last e
-    (listed-window-snoc (window_limit c) (near_limit c) (duration ps) rs r (omega (arith, d, le)))
-    (omega (arith, a, o))
-    (omega (arith, b, d))
-    (gone-window-snoc (window_limit c) (near_limit c) (duration ps) rs r (omega (arith, d, le)))
+    let whole : List Row → ℕ → ℕ → ℕ → Compact =
+    λ v left maps start. record (told_rows c rs [] (next + 1) time pending last e) { window = v; discontinuity = left; maps = maps; open_time = start } in
+    ap₂ (λ maps start. whole (listed (near_limit c) 0 (window (window_limit c) (rs ++ r ∷ []))) (broken_in (gone (window_limit c) (rs ++ r ∷ []))) maps start)
+    (omega (arith, a, o)) (omega (arith, b, d))
+    ∙ ap₂ (λ v left. whole v left (broken_in rs + one_if (is_broken ps)) (c.start * 1000 + lasting rs + duration ps))
+    (listed-window-snoc (window_limit c) (near_limit c) (duration ps) rs r (omega (arith, d)))
+    (gone-window-snoc (window_limit c) (near_limit c) (duration ps) rs r (omega (arith, d)))
 
 -- parts that were listed with less after them
 pub again : (near a b : ℕ) (rs : List Row) → a ≤ b → listed near b rs ≡ listed near b (listed near a rs)
@@ -115,39 +96,35 @@ added-row c gs g =
 next_number : (c : Configuration) (gs : List (List Part)) (g : List Part) → c.first + length (gs ++ g ∷ []) ≡ c.first + length gs + 1
 next_number c gs g = let n = length-append gs (g ∷ []) in omega (arith, n)
 
+-- segments of which the last was open
+kept-closed : (c : Configuration) (gs : List (List Part)) (ps : List Part) (time : ℕ) (pending : Bool) (last : Option Place) (e : Bool)
+    → told_rows c (rows_of c (gs ++ ps ∷ [])) [] (c.first + length (gs ++ ps ∷ [])) time pending last e
+    ≡ after_segment (told_rows c (rows_of c gs) ps (c.first + length gs) time pending last e)
+kept-closed c gs ps time pending last e =
+    ap₂ (λ rs next. told_rows c rs [] next time pending last e) (added-row c gs ps) (next_number c gs ps)
+    ∙ told-segment c (rows_of c gs) ps (c.first + length gs) time pending last e
+
+kept-open : (c : Configuration) (s : Split) (time : ℕ) (pending : Bool) (old : Option Place) (p : Part)
+    → kept c false (added_by false s p) (time + p.duration) false (Some (next_place (kept c false s time pending old)))
+    ≡ with_open (kept c false s time pending old) p
+kept-open c s time pending old p =
+    let d = duration-snoc s.unfinished p in
+    ap (λ v. record (with_open (kept c false s time pending old) p) { window = v })
+    (again (near_limit c) (duration s.unfinished) (duration (s.unfinished ++ p ∷ [])) (window (window_limit c) (rows_of c s.finished)) (omega (arith, d)))
+
 kept-added : (c : Configuration) (b : Bool) (s : Split) (time : ℕ) (pending : Bool) (old : Option Place) (p : Part)
     → kept c false (added_by b s p) (time + p.duration) false (Some (next_place (kept c false s time pending old)))
     ≡ with_part_by b (kept c false s time pending old) p
 kept-added c true s time pending old p =
-    let g = s.unfinished ++ p ∷ [] in
-    let d = duration-snoc s.unfinished p in
-    let last = Some (next_place (kept c false s time pending old)) in
-    ap₂ (λ rs next. told_rows c rs [] next (time + p.duration) false last false) (added-row c s.finished g) (next_number c s.finished g)
-    ∙ told-segment c (rows_of c s.finished) s.unfinished g (c.first + length s.finished) time (time + p.duration) pending false old last false false (omega (arith, d))
-kept-added c false s time pending old p =
-    let d = duration-snoc s.unfinished p in
-    ap (λ rs. record {
-      settings = c;
-      window = rs;
-      open_parts = s.unfinished ++ p ∷ [];
-      next_number = c.first + length s.finished;
-      maps = broken_in (rows_of c s.finished);
-      open_time = c.start * 1000 + lasting (rows_of c s.finished);
-      end_time = time + p.duration;
-      pending = false;
-      discontinuity = broken_in (gone (window_limit c) (rows_of c s.finished));
-      last = Some (next_place (kept c false s time pending old));
-      ended = false;
-    })
-    (again (near_limit c) (duration s.unfinished) (duration (s.unfinished ++ p ∷ [])) (window (window_limit c) (rows_of c s.finished)) (omega (arith, d)))
+    kept-closed c s.finished (s.unfinished ++ p ∷ []) (time + p.duration) false (Some (next_place (kept c false s time pending old))) false
+    ∙ ap after_segment (kept-open c s time pending old p)
+kept-added c false s time pending old p = kept-open c s time pending old p
 
 -- the end closes the open segment
 kept-ended : (c : Configuration) (gs : List (List Part)) (ps : List Part) (time : ℕ) (pending : Bool) (last : Option Place)
     → kept c true (record { finished = gs; unfinished = ps }) time pending last ≡ with_end (kept c false (record { finished = gs; unfinished = ps }) time pending last)
 kept-ended c gs [] time pending last = ap (λ xs. told_rows c (rows_of c xs) [] (c.first + length xs) time pending last true) (append-nil gs)
-kept-ended c gs (p ∷ ps) time pending last =
-    ap₂ (λ rs next. told_rows c rs [] next time pending last true) (added-row c gs (p ∷ ps)) (next_number c gs (p ∷ ps))
-    ∙ told-segment c (rows_of c gs) (p ∷ ps) (p ∷ ps) (c.first + length gs) time time pending pending last last false true (omega arith)
+kept-ended c gs (p ∷ ps) time pending last = kept-closed c gs (p ∷ ps) time pending last true
 
 abbrev last_of : Configuration → List Part → Option Place
 last_of c ps = last_place (numbered_parts c.first 0 ps)

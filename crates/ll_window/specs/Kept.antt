@@ -16,28 +16,20 @@ AreTimed (r ∷ rs) time = (r.segment.time + r.segment.duration + lasting rs ≡
 
 -- with one more part of so many microseconds, which stands here
 abbrev pub grown : Progress → ℕ → Place → Progress
-grown p micros place = record {
-  next_number = p.next_number;
-  maps = p.maps;
-  open_time = p.open_time;
+grown p micros place = record p {
   open_duration = p.open_duration + micros;
   end_time = p.end_time + micros;
   pending = false;
   last = Some place;
-  ended = p.ended;
 }
 
 -- after the open segment
 abbrev pub after : Progress → Segment → Progress
-after p s = record {
+after p s = record p {
   next_number = p.next_number + 1;
   maps = s.map_number;
   open_time = p.open_time + s.duration;
   open_duration = 0;
-  end_time = p.end_time;
-  pending = p.pending;
-  last = p.last;
-  ended = p.ended;
 }
 
 -- a number past the last one may come next, where no segment is open

@@ -11,75 +11,50 @@ use Rattle.ll_window.specs.Segments.{duration}
 use Rattle.ll_window.specs.Window.{window_limit, near_limit, gone, window, listed}
 use Rattle.ll_window.specs.declared.window.PushFault.{PushFault}
 
--- the window and one more segment
-abbrev pub window_with : Compact → Row → List Row
-window_with k r = k.window ++ r ∷ []
-
--- the open segment is finished with these parts, whose durations end at this time; the last part stands here
-abbrev pub with_segment : Compact → List Part → ℕ → Bool → Option Place → Bool → Compact
-with_segment k ps ends pending last has_ended = record {
-  settings = k.settings;
-  window = listed (near_limit k.settings) 0 (window (window_limit k.settings) (window_with k (row k.next_number k.maps k.open_time ps)));
-  open_parts = [];
-  next_number = k.next_number + 1;
-  maps = k.maps + one_if (is_broken ps);
-  open_time = k.open_time + duration ps;
-  end_time = ends;
-  pending = pending;
-  discontinuity = k.discontinuity + broken_in (gone (window_limit k.settings) (window_with k (row k.next_number k.maps k.open_time ps)));
-  last = last;
-  ended = has_ended;
-}
-
--- the open segment has these parts, whose durations end at this time
-abbrev pub with_open : Compact → List Part → ℕ → Option Place → Compact
-with_open k ps ends last = record {
-  settings = k.settings;
-  window = listed (near_limit k.settings) (duration ps) k.window;
-  open_parts = ps;
-  next_number = k.next_number;
-  maps = k.maps;
-  open_time = k.open_time;
-  end_time = ends;
-  pending = false;
-  discontinuity = k.discontinuity;
-  last = last;
-  ended = k.ended;
-}
-
 -- where the next part stands
 abbrev pub next_place : Compact → Place
 next_place k = record { number = k.next_number; index = length k.open_parts }
 
+-- one more part of the open segment
+abbrev pub with_open : Compact → Part → Compact
+with_open k p = record k {
+  window = listed (near_limit k.settings) (duration (k.open_parts ++ p ∷ [])) k.window;
+  open_parts = k.open_parts ++ p ∷ [];
+  end_time = k.end_time + p.duration;
+  pending = false;
+  last = Some (next_place k);
+}
+
+-- the window and the open segment
+abbrev pub window_and_open : Compact → List Row
+window_and_open k = k.window ++ row k.next_number k.maps k.open_time k.open_parts ∷ []
+
+-- the open segment is finished
+abbrev pub after_segment : Compact → Compact
+after_segment k = record k {
+  window = listed (near_limit k.settings) 0 (window (window_limit k.settings) (window_and_open k));
+  open_parts = [];
+  next_number = k.next_number + 1;
+  maps = k.maps + one_if (is_broken k.open_parts);
+  open_time = k.open_time + duration k.open_parts;
+  discontinuity = k.discontinuity + broken_in (gone (window_limit k.settings) (window_and_open k));
+}
+
+-- one more part, which finishes its segment or doesn't
 abbrev pub with_part_by : Bool → Compact → Part → Compact
-with_part_by true k p = with_segment k (k.open_parts ++ p ∷ []) (k.end_time + p.duration) false (Some (next_place k)) k.ended
-with_part_by false k p = with_open k (k.open_parts ++ p ∷ []) (k.end_time + p.duration) (Some (next_place k))
+with_part_by true k p = after_segment (with_open k p)
+with_part_by false k p = with_open k p
 
 abbrev pub with_part : Compact → Part → Compact
 with_part k p = with_part_by p.finish k p
 
-abbrev pub marked : Compact → Bool → Bool → Compact
-marked k pending has_ended = record {
-  settings = k.settings;
-  window = k.window;
-  open_parts = k.open_parts;
-  next_number = k.next_number;
-  maps = k.maps;
-  open_time = k.open_time;
-  end_time = k.end_time;
-  pending = pending;
-  discontinuity = k.discontinuity;
-  last = k.last;
-  ended = has_ended;
-}
-
 -- a break stands after the last part
 abbrev pub with_break : Compact → Compact
-with_break k = marked k true k.ended
+with_break k = record k { pending = true }
 
 abbrev pub ended_by : List Part → Compact → Compact
-ended_by [] k = marked k k.pending true
-ended_by (p ∷ ps) k = with_segment k (p ∷ ps) k.end_time k.pending k.last true
+ended_by [] k = record k { ended = true }
+ended_by (p ∷ ps) k = after_segment (record k { ended = true })
 
 -- the rendition has ended
 abbrev pub with_end : Compact → Compact

@@ -94,14 +94,12 @@ impl Finished {
         requires lasting { self.now.lasting + open_duration < 2 ^ 64 }
         ensures { result ≡ skipped_in limit open_duration self.now.rows.items }
     {
-        let mut after = self.lasting + open_duration;
-        for (place, kept) in self.rows.iter().enumerate() {
-            after -= kept.segment.duration;
-            if after <= limit {
-                return place;
-            }
+        let (mut count, mut after) = (self.rows.len(), open_duration);
+        while 0 < count && after <= limit {
+            count -= 1;
+            after += self.rows[count].segment.duration;
         }
-        self.rows.len()
+        count
     }
 
     /// Gives up the segments after which the others alone last so many microseconds at least.
