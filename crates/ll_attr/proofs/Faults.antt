@@ -59,6 +59,12 @@ no_first : (fault later r : Option AttrFault) → None ≡ fault → first_of fa
 no_first None later r e h = h
 no_first (Some fault) later r e h = cc
 
+-- after a part without a fault
+pub fault_next : (names rest parts : List (List ℕ)) (part : List ℕ) (r : Option AttrFault) → rest ≡ part ∷ parts → None ≡ fault_of names part
+    → fault_in names rest ≡ r → fault_in (name_of part ∷ names) parts ≡ r
+fault_next names rest parts part r first fine so_far =
+    no_first (fault_of names part) (fault_in (name_of part ∷ names) parts) r fine (ap (fault_in names) (sym first) ∙ so_far)
+
 -- one part on: what is left of the parts, and that their first fault stays
 pub fault_more : (count : ℕ) (whole rest parts : List (List ℕ)) (part : List ℕ) (r : Option AttrFault) → drop count whole ≡ rest → rest ≡ part ∷ parts
     → None ≡ fault_of (names_of_parts [] (take count whole)) part → fault_in (names_of_parts [] (take count whole)) rest ≡ r
@@ -70,8 +76,7 @@ fault_more count whole rest parts part r left first fine so_far =
     let after : drop (count + 1) whole ≡ parts = cc in
     let more : take (count + 1) whole ≡ take count whole ++ part ∷ [] = take_more whole count [] within ∙ ap (λ p. take count whole ++ p ∷ []) here in
     let names = names_of_parts [] (take count whole) in
-    let step : fault_in (name_of part ∷ names) parts ≡ r =
-    no_first (fault_of names part) (fault_in (name_of part ∷ names) parts) r fine (ap (fault_in names) (sym first) ∙ so_far) in
+    let step = fault_next names rest parts part r first fine so_far in
     (after, ap (λ ps. fault_in (names_of_parts [] ps) parts) more ∙ ap (λ ns. fault_in ns parts) (names_push [] (take count whole) part) ∙ step)
 
 -- the last part

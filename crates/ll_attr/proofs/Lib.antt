@@ -2,6 +2,7 @@ pub mod MicrosAtCut
 pub mod Digits
 pub mod Fractions
 pub mod ReadsBack
+mod SetNames
 pub mod PartsAtCut
 pub mod PartsOutside
 pub mod Values

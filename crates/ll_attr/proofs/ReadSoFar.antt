@@ -1,7 +1,7 @@
 -- What a text means, by the attributes read from its front and the parts that are left.
-use Rattle.std.proofs.Common.{◌≡◌, ℕ, ◌||◌, Bool, true, false, List, [], ◌∷◌, ◌++◌, refl, ap, sym, ◌∙◌, Option, Some, None, MatchOption, Bor, Result, Ok, Err, bytes_eq}
+use Rattle.std.proofs.Common.{◌≡◌, ℕ, ◌||◌, Bool, true, false, List, [], ◌∷◌, ◌++◌, refl, ap, sym, ◌∙◌, Option, Some, None, MatchOption, Bor, Result, Ok, Err}
 use Rattle.std.proofs.lemmas.List.{append-nil}
-use Rattle.std.specs.List.{list_any}
+use Rattle.std.specs.Result.{IsOk}
 use Rattle.ll_attr.specs.Attributes.{attributes_of, attribute_in, in_front, and_then, parts_outside}
 use Rattle.ll_attr.specs.Reading.{names_so_far}
 use Rattle.ll_attr.specs.declared.attributes.Attribute.{Attribute}
@@ -55,12 +55,17 @@ pub with_others : (whole : List (List ℕ)) (part : List ℕ) (r : Option (Bor (
 with_others whole part None h = ([], h)
 with_others whole part (Some after) h = (parts_outside false after.now, h)
 
-pub read_fault : (found : List Attribute) (part : List ℕ) (whole : List (List ℕ)) (r : Result (List Attribute) AttrFault) (fault : AttrFault)
-    → (parts : List (List ℕ)) × (whole ≡ part ∷ parts) → attribute_in (names_so_far [] found) part ≡ Err fault → read_on found whole ≡ r → r ≡ Err fault
-read_fault found part whole r fault others h so_far =
-    sym so_far ∙ ap (read_on found) others.1
-    ∙ ap (λ r. joined found (and_then r (λ (b : Attribute). attributes_of (b.name ∷ names_so_far [] found) others.0))) h
-    ∙ joined_err found fault
+read_by : (found : List Attribute) (x : Result Attribute AttrFault) (g : Attribute → Result (List Attribute) AttrFault) (r : Result (List Attribute) AttrFault)
+    → joined found (and_then x g) ≡ r → IsOk r → (a : Attribute) × (x ≡ Ok a)
+read_by found (Ok a) g r e ok = (a, refl)
+read_by found (Err fault) g r e ok = let fails : r ≡ Err fault = sym e ∙ joined_err found fault in cc
+
+-- a part of a text that spells attributes is one
+pub read_part : (found : List Attribute) (part : List ℕ) (parts whole : List (List ℕ)) (r : Result (List Attribute) AttrFault)
+    → whole ≡ part ∷ parts → read_on found whole ≡ r → IsOk r → (a : Attribute) × (attribute_in (names_so_far [] found) part ≡ Ok a)
+read_part found part parts whole r e so_far ok =
+    read_by found (attribute_in (names_so_far [] found) part) (λ (b : Attribute). attributes_of (b.name ∷ names_so_far [] found) parts) r
+    (ap (read_on found) (sym e) ∙ so_far) ok
 
 pub or_false : (x : Bool) → x ≡ (x || false)
 or_false true = refl
@@ -71,13 +76,3 @@ swap_or true true z = refl
 swap_or true false z = refl
 swap_or false true z = refl
 swap_or false false z = refl
-
-names_any : (name : List ℕ) (names : List (List ℕ)) (found : List Attribute)
-    → list_any (bytes_eq name) (names_so_far names found) ≡ (list_any (bytes_eq name) names || list_any (λ (a : Attribute). bytes_eq name a.name) found)
-names_any name names [] = or_false (list_any (bytes_eq name) names)
-names_any name names (a ∷ found) =
-    names_any name (a.name ∷ names) found
-    ∙ swap_or (bytes_eq name a.name) (list_any (bytes_eq name) names) (list_any (λ (a : Attribute). bytes_eq name a.name) found)
-
-pub named_among : (name : List ℕ) (found : List Attribute) → list_any (λ (a : Attribute). bytes_eq name a.name) found ≡ list_any (bytes_eq name) (names_so_far [] found)
-named_among name found = sym (names_any name [] found)

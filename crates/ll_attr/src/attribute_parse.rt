@@ -1,67 +1,61 @@
 //! Attribute lists, read.
-ghost use Rattle.std.specs.Prelude.{◌≡◌, ◌≢◌, [], false, IfOk, IfErr, IfSome, IsOk, IsErrOf, Ok, Err, MatchOption, bytes_eq, take};
-ghost use Rattle.std.specs.List.{list_any};
-ghost use Rattle.ll_attr.specs.Attributes.{attributes_in, attribute_in, parts_outside, spelling};
-ghost use Rattle.ll_attr.specs.Reading.{fault_of, names_so_far, names_of_parts, value_as};
+ghost use Rattle.std.specs.Prelude.{◌≡◌, ◌≢◌, ℕ, List, [], false, IfOk, IfErr, IfSome, IsOk, IsErrOf, Ok, Err, None, Some, MatchOption, if◌then◌else◌, bytes_eq, take};
+ghost use Rattle.std.specs.List.{list_any, after_first};
+ghost use Rattle.ll_attr.specs.Attributes.{attributes_in, attribute_in, parts_outside, spelling, value_in, is_equals};
+ghost use Rattle.ll_attr.specs.Reading.{fault_of, fault_of_value, is_named, names_of_parts};
 ghost use Rattle.ll_attr.specs.Reading as reading;
+ghost use Rattle.ll_attr.specs.declared.attributes.Attribute.{Attribute};
 
-use crate::attribute_text::{first_part, name_and_value, name_of, value_text};
+use crate::attribute_text::{
+    first_part, name_and_value, name_of, quoted_text, value_of, value_text,
+};
 use crate::attributes::{AttrFault, AttrList, AttrValue, Attribute};
 use crate::text::Text;
+use indexmap::IndexSet;
 use std::alloc::{AllocError, Global};
 
 #[tactic(auto, using(crate::proofs::Spelled::written_again, crate::proofs::Spelled::read_again))]
 impl AttrList {
     /// The attribute list that a text spells, as `NAME=VALUE,NAME="VALUE"` (section 4.2), or the text's first fault from
-    /// the left. Memory that isn't found comes after all other faults.
+    /// the left. Out of memory comes after all other faults.
     pub fn parse(alloc: Global, text: &str) -> Result<AttrList, AttrFault>
         ensures value { IfOk result (λ list. attributes_in text.now ≡ Ok list) }
         ensures refused { IfErr result (λ fault. fault ≢ AttrFault.Memory → attributes_in text.now ≡ Err fault) }
         ensures memory { IsErrOf result AttrFault.Memory → IsOk (attributes_in text.now) }
         ensures written_again { IfOk result (λ list. spelling list ≡ text.now) }
     {
+        if let Some(fault) = AttrList::first_fault(alloc, text) {
+            return Err(fault);
+        }
         match read(alloc, text) {
-            Err(AttrFault::Memory) => Err(AttrList::first_fault(text).unwrap_or(AttrFault::Memory)),
-            Err(fault) => Err(fault),
             Ok(attributes) => Ok(AttrList::of(attributes)),
+            Err(AllocError) => Err(AttrFault::Memory),
         }
     }
 
-    /// The first fault of a text from the left; none where it spells an attribute list (section 4.2). It takes no memory,
-    /// and goes over the text again for each name.
-    pub fn first_fault(text: &str) -> Option<AttrFault>
+    /// The first fault of a text from the left; none where it spells an attribute list (section 4.2). Names are compared
+    /// by a set; where memory runs out, they are compared in pairs, so the answer is the same.
+    pub fn first_fault(alloc: Global, text: &str) -> Option<AttrFault>
         ensures fault { MatchOption result (IsOk (attributes_in text.now)) (λ fault. attributes_in text.now ≡ Err fault) }
         ensures not_memory { IfSome result (λ fault. fault ≢ AttrFault.Memory) }
     {
-        let mut count: usize = 0;
-        let mut rest = text;
-        loop {
-            let (part, after) = first_part(rest);
-            if let Some(fault) = part_fault(text, count, part) {
-                return Some(fault);
-            }
-            match after {
-                Some(after) => rest = after,
-                None => return None,
-            }
-            count += 1;
+        match fault_by_set(alloc, text) {
+            Ok(fault) => fault,
+            Err(AllocError) => fault_in_pairs(text),
         }
     }
 }
 
-/// The attributes that a text spells, or its first fault, or `Memory` at the first growth that is refused.
-fn read(alloc: Global, text: &str) -> Result<Vec<Attribute>, AttrFault>
-    ensures value { IfOk result (λ attributes. attributes_in text.now ≡ Ok attributes.items) }
-    ensures refused { IfErr result (λ fault. fault ≢ AttrFault.Memory → attributes_in text.now ≡ Err fault) }
+/// The attributes of a text that spells some.
+fn read(alloc: Global, text: &str) -> Result<Vec<Attribute>, AllocError>
+    requires { IsOk (attributes_in text.now) }
+    ensures { IfOk result (λ attributes. attributes_in text.now ≡ Ok attributes.items) }
 {
     let mut attributes = Vec::new(alloc);
     let mut rest = text;
     loop {
         let (part, after) = first_part(rest);
-        let attribute = read_part(alloc, &attributes, part)?;
-        if attributes.push(attribute).is_err() {
-            return Err(AttrFault::Memory);
-        }
+        attributes.push(attribute_of(alloc, part)?)?;
         match after {
             Some(after) => rest = after,
             None => return Ok(attributes),
@@ -69,44 +63,82 @@ fn read(alloc: Global, text: &str) -> Result<Vec<Attribute>, AttrFault>
     }
 }
 
-/// The attribute that a part spells after these attributes, or its first fault.
-fn read_part(alloc: Global, attributes: &[Attribute], part: &str) -> Result<Attribute, AttrFault>
-    ensures value { IfOk result (λ a. attribute_in (names_so_far [] attributes.now) part.now ≡ Ok a) }
-    ensures refused { IfErr result (λ fault. fault ≢ AttrFault.Memory → attribute_in (names_so_far [] attributes.now) part.now ≡ Err fault) }
+/// The attribute that a part spells, where it spells one.
+fn attribute_of(alloc: Global, part: &str) -> Result<Attribute, AllocError>
+    ensures { IfOk result (λ a. (names : List (List ℕ)) (b : Attribute) → attribute_in names part.now ≡ Ok b → a ≡ b) }
 {
-    let Some((name, value)) = name_and_value(part) else {
-        return Err(AttrFault::BadName);
-    };
-    if stands_in(attributes, name) {
-        return Err(AttrFault::Twice);
-    }
-    let Some((quoted, value)) = value_text(value) else {
-        return Err(AttrFault::BadValue);
-    };
-    Ok(owned(alloc, name, quoted, value)?)
-}
-
-/// An attribute of this name whose value has this text.
-fn owned(alloc: Global, name: &str, quoted: bool, value: &str) -> Result<Attribute, AllocError>
-    ensures { IfOk result (λ a. (a.name ≡ name.now) × (a.value ≡ value_as quoted value.now)) }
-{
-    let name = Text::from_str(alloc, name)?;
-    let value = Text::from_str(alloc, value)?;
-    let value = if quoted {
-        AttrValue::Quoted(value)
-    } else {
-        AttrValue::Bare(value)
+    let name = Text::from_str(alloc, name_of(part))?;
+    let value = value_of(part);
+    let value = match quoted_text(value) {
+        Some(inner) => AttrValue::Quoted(Text::from_str(alloc, inner)?),
+        None => AttrValue::Bare(Text::from_str(alloc, value)?),
     };
     Ok(Attribute { name, value })
 }
 
-/// Whether one of these attributes has this name.
-fn stands_in(attributes: &[Attribute], name: &str) -> bool
-    ensures { result ≡ list_any (bytes_eq name.now) (names_so_far [] attributes.now) }
+/// The first fault of a text, whose names are kept in a set.
+fn fault_by_set(alloc: Global, text: &str) -> Result<Option<AttrFault>, AllocError>
+    ensures fault { IfOk result (λ r. MatchOption r (IsOk (attributes_in text.now)) (λ fault. attributes_in text.now ≡ Err fault)) }
+    ensures not_memory { IfOk result (λ r. IfSome r (λ fault. fault ≢ AttrFault.Memory)) }
 {
-    attributes
-        .iter()
-        .any(|attribute| name == attribute.name.as_str())
+    let mut names = IndexSet::new(alloc);
+    let mut rest = text;
+    loop {
+        let (part, after) = first_part(rest);
+        if let Some(fault) = name_fault(part) {
+            return Ok(Some(fault));
+        }
+        if !names.insert(name_of(part))? {
+            return Ok(Some(AttrFault::Twice));
+        }
+        if let Some(fault) = value_fault(part) {
+            return Ok(Some(fault));
+        }
+        match after {
+            Some(after) => rest = after,
+            None => return Ok(None),
+        }
+    }
+}
+
+/// The first fault of a text, whose names are looked for in the text again.
+fn fault_in_pairs(text: &str) -> Option<AttrFault>
+    ensures fault { MatchOption result (IsOk (attributes_in text.now)) (λ fault. attributes_in text.now ≡ Err fault) }
+    ensures not_memory { IfSome result (λ fault. fault ≢ AttrFault.Memory) }
+{
+    let mut count: usize = 0;
+    let mut rest = text;
+    loop {
+        let (part, after) = first_part(rest);
+        if let Some(fault) = part_fault(text, count, part) {
+            return Some(fault);
+        }
+        match after {
+            Some(after) => rest = after,
+            None => return None,
+        }
+        count += 1;
+    }
+}
+
+/// BadName, where a part has no name.
+fn name_fault(part: &str) -> Option<AttrFault>
+    ensures { result ≡ (if is_named part.now then None else Some AttrFault.BadName) }
+{
+    match name_and_value(part) {
+        Some(_) => None,
+        None => Some(AttrFault::BadName),
+    }
+}
+
+/// BadValue, where what stands after a part's first equals sign is no value.
+fn value_fault(part: &str) -> Option<AttrFault>
+    ensures { result ≡ fault_of_value (value_in (after_first is_equals part.now)) }
+{
+    match value_text(value_of(part)) {
+        Some(_) => None,
+        None => Some(AttrFault::BadValue),
+    }
 }
 
 /// The first fault of a part after so many parts of a text.

@@ -45,6 +45,16 @@ pub(crate) fn name_of(part: &str) -> &str
     }
 }
 
+/// What stands after the first equals sign of a part, or nothing, where none stands in it.
+pub(crate) fn value_of(part: &str) -> &str
+    ensures { result.now ≡ after_first is_equals part.now }
+{
+    match part.split_once('=') {
+        Some((_, value)) => value,
+        None => "",
+    }
+}
+
 /// The name in front of a part's first equals sign and what stands after it, where there is one.
 pub(crate) fn name_and_value(part: &str) -> Option<(&str, &str)>
     ensures { MatchOption result (is_named part.now ≡ false)
@@ -91,7 +101,7 @@ fn is_bare(text: &str) -> bool
 }
 
 /// What stands between two quotation marks, where a text is a quoted string.
-fn quoted_text(text: &str) -> Option<&str>
+pub(crate) fn quoted_text(text: &str) -> Option<&str>
     ensures { MatchOption result (inner_of (parts_at 34 text.now) ≡ None) (λ inner. inner_of (parts_at 34 text.now) ≡ Some inner.now) }
 {
     let (before, after) = cut(text, '"')?;

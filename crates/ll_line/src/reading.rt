@@ -106,10 +106,10 @@ fn part_target(text: &str) -> Option<Line<'_>>
 }
 
 /// EXT-X-DATERANGE, after its colon: an attribute list whose first attribute is the id.
-fn date_range(_alloc: Global, text: &str) -> Option<Line<'_>>
+fn date_range(alloc: Global, text: &str) -> Option<Line<'_>>
     ensures { option_map meant result ≡ said DateRangeTag text.now }
 {
-    if let Some(_) = AttrList::first_fault(text) {
+    if let Some(_) = AttrList::first_fault(alloc, text) {
         return None;
     }
     let (id, rest) = quoted_at(after(text, "ID=\"")?)?;

@@ -4,7 +4,7 @@ use Rattle.ll_attr.specs.Attributes.{parts_outside}
 use Rattle.ll_attr.specs.Reading.{fault_in, names_of_parts}
 use Rattle.ll_attr.proofs.Faults.{fault_more, fault_none, fault_here, none_ends, some_ends}
 use Rattle.ll_attr.proofs.ReadSoFar.{with_others}
-use Rattle.ll_attr.proofs.attributes.AttrList.first_fault.Goals as goal
+use Rattle.ll_attr.proofs.attribute_parse.fault_in_pairs.Goals as goal
 
 pub returns-in-Some-clause-fault : goal.returns-in-Some-clause-fault
 returns-in-Some-clause-fault c =

@@ -4,7 +4,7 @@ use denote.Text.{Utf8}
 use denote.Shadow.{shadow}
 use Rattle.ll_attr.specs.Attributes.{parts_outside}
 use Rattle.ll_attr.specs.Reading.{fault_in, names_of_parts}
-use Rattle.ll_attr.proofs.attributes.AttrList.first_fault.Given as goal
+use Rattle.ll_attr.proofs.attribute_parse.fault_in_pairs.Given as goal
 
 abbrev pub invariant-loop-fault : goal.invariant-loop-fault
 invariant-loop-fault l =
