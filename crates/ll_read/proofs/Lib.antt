@@ -3,7 +3,6 @@ pub mod Begins
 pub mod Bounds
 pub mod Ends
 pub mod Entries
-pub mod Ids
 pub mod LinesSoFar
 pub mod InThree
 pub mod Onward
