@@ -7,7 +7,7 @@ use Rattle.ll_attr.specs.Durations.{seconds}
 use Rattle.ll_time.specs.Calendar.{nth_date}
 use Rattle.ll_time.specs.Times.{time_of, digits_2, digits_3, digits_4}
 use Rattle.ll_item.specs.Settings.{configuration_of}
-use Rattle.ll_page.specs.Spelling.{first_lines, target_line, control_front, control_end, part_target_line, sequence_line, discontinuity_line, broken_line, map_line, time_line, independent_flag, part_line, report_line, hint_line, end_line, finished_lines}
+use Rattle.ll_page.specs.Text.{line_text}
 use Rattle.ll_page.specs.Uris.{segment_uri, part_uri, map_uri, report_uri}
 use Rattle.ll_replay.specs.Answers.{ok_line, no_line, text_reply, unavailable_reply}
 use Rattle.ll_replay.specs.Events.{rendition_refusal}
@@ -15,5 +15,5 @@ use Rattle.ll_replay.specs.World.{line}
 use Rattle.ll_replay.specs.Worked.{WorkedScript}
 
 pub worked : WorkedScript
-unfolding first_lines target_line control_front control_end part_target_line sequence_line discontinuity_line broken_line map_line time_line independent_flag part_line report_line hint_line end_line finished_lines segment_uri part_uri map_uri report_uri seconds digits configuration_of nth_date time_of digits_2 digits_3 digits_4 ok_line no_line text_reply unavailable_reply rendition_refusal line is_utf8 chars encode_utf8
+unfolding line_text segment_uri part_uri map_uri report_uri seconds digits configuration_of nth_date time_of digits_2 digits_3 digits_4 ok_line no_line text_reply unavailable_reply rendition_refusal line is_utf8 chars encode_utf8
 worked = record { at_once = refl; later = refl; refusals = refl; same_text = refl; same_ending = refl }
