@@ -258,6 +258,10 @@ kind_of EndList = Left (Right BareEndList)
 abbrev pub line : Word Line
 line = mapped_word line_of kind_of (choice is_tag (choice has_colon tag_line (one_of bare_name bares)) segment_uri)
 
+-- what a line says
+abbrev pub line_in : List ℕ → Option Line
+line_in text = line.read text
+
 -- what a line with this tag says, where this text stands after the colon
 abbrev pub said : Tag → List ℕ → Option Line
 said t text = (word t).read text >>= λ x. Some (tagged t x)

@@ -9,7 +9,7 @@ use Rattle.ll_page.specs.Delta.{delta_by, skip_of}
 use Rattle.ll_page.specs.Full.{full_playlist, printed, open_of, reports_of, hint_of}
 use Rattle.ll_page.specs.Spelling.{spelling, head_lines, skip_lines, segment_lines, open_lines, last_line}
 use Rattle.ll_page.specs.View.{Seen, asked}
-use Rattle.ll_page.proofs.Texts.{spelling-texts}
+use Rattle.ll_page.proofs.Texts.{spelling_texts}
 
 abbrev pub text_by : Bool → Seen → ℕ → List ℕ
 text_by leads v n =
@@ -25,5 +25,5 @@ after : (n : ℕ) → (suc n == 0) ≡ false
 after n = grind (arith, nat_tests)
 
 pub spelled : (v : Seen) (n : ℕ) → text_by (n == 0) v n ≡ spelling (delta_by n v)
-spelled v zero = sym (spelling-texts (full_playlist v))
-spelled v (suc n) = ap (λ leads. text_by leads v (suc n)) (after n) ∙ sym (spelling-texts (delta_by (suc n) v))
+spelled v zero = sym (spelling_texts (full_playlist v))
+spelled v (suc n) = ap (λ leads. text_by leads v (suc n)) (after n) ∙ sym (spelling_texts (delta_by (suc n) v))

@@ -12,15 +12,15 @@ use Rattle.ll_page.specs.Spelling.{spelling, head_lines, skip_lines, segment_lin
 pub texts : (before after : List Line) → text_of (before ++ after) ≡ text_of before ++ text_of after
 texts before after = flat_map-append line_text before after
 
-texts-then : (before after : List Line) (text : List ℕ) → text_of after ≡ text → text_of (before ++ after) ≡ text_of before ++ text
-texts-then before after text h = texts before after ∙ ap (λ t. text_of before ++ t) h
+pub texts_then : (before after : List Line) (text : List ℕ) → text_of after ≡ text → text_of (before ++ after) ≡ text_of before ++ text
+texts_then before after text h = texts before after ∙ ap (λ t. text_of before ++ t) h
 
-pub tail-texts : (p : Playlist) → text_of (tail_lines p) ≡ text_of (open_lines p.open_block) ++ (text_of (map RenditionReport p.reports) ++ line_text (last_line p.hint))
-tail-texts p =
-    texts-then (open_lines p.open_block) (map RenditionReport p.reports ++ last_line p.hint ∷ []) _
-    (texts-then (map RenditionReport p.reports) (last_line p.hint ∷ []) _ (append-nil (line_text (last_line p.hint))))
+pub tail_texts : (p : Playlist) → text_of (tail_lines p) ≡ text_of (open_lines p.open_block) ++ (text_of (map RenditionReport p.reports) ++ line_text (last_line p.hint))
+tail_texts p =
+    texts_then (open_lines p.open_block) (map RenditionReport p.reports ++ last_line p.hint ∷ []) _
+    (texts_then (map RenditionReport p.reports) (last_line p.hint ∷ []) _ (append-nil (line_text (last_line p.hint))))
 
-pub spelling-texts : (p : Playlist) → spelling p ≡ text_of (head_lines p) ++ (text_of (map DateRange p.ranges) ++ (text_of (skip_lines p.skipped)
+pub spelling_texts : (p : Playlist) → spelling p ≡ text_of (head_lines p) ++ (text_of (map DateRange p.ranges) ++ (text_of (skip_lines p.skipped)
     ++ (text_of (flat_map segment_lines p.segments) ++ (text_of (open_lines p.open_block) ++ (text_of (map RenditionReport p.reports) ++ line_text (last_line p.hint))))))
-spelling-texts p =
-    texts-then (head_lines p) _ _ (texts-then (map DateRange p.ranges) _ _ (texts-then (skip_lines p.skipped) _ _ (texts-then (flat_map segment_lines p.segments) (tail_lines p) _ (tail-texts p))))
+spelling_texts p =
+    texts_then (head_lines p) _ _ (texts_then (map DateRange p.ranges) _ _ (texts_then (skip_lines p.skipped) _ _ (texts_then (flat_map segment_lines p.segments) (tail_lines p) _ (tail_texts p))))

@@ -4,8 +4,8 @@ use Rattle.std.proofs.lemmas.List.{take_more, append-nil}
 use Rattle.std.proofs.lemmas.List.Folds.{list_any-append}
 use Rattle.std.specs.Str.Lines.{strip_carriage_return}
 use Rattle.ll_attr.specs.Words.{parts_at}
-use Rattle.ll_page.specs.Playlist.{DateRangeLine}
-use Rattle.ll_read.specs.Lines.{line_in}
+use Rattle.ll_line.specs.Line.{DateRangeLine}
+use Rattle.ll_line.specs.Formats.{line_in}
 use Rattle.ll_read.specs.Ranges.{has_id, ranges_of, ranges_in}
 
 abbrev of_line : List ℕ → List DateRangeLine

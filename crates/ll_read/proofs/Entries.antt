@@ -4,7 +4,7 @@ use Rattle.std.specs.declared.string.String.{String}
 use Rattle.std.specs.String.{string_eq}
 use Rattle.std.specs.Map.{lookup}
 use Rattle.indexmap.specs.IndexMap.{insert_entry}
-use Rattle.ll_page.specs.Playlist.{DateRangeLine}
+use Rattle.ll_line.specs.Line.{DateRangeLine}
 use Rattle.ll_read.specs.Ranges.{range_at, has_id}
 
 found_by : (b : Bool) (v : List ℕ) (o : Option (List ℕ)) (rest : Bool) → is_some o ≡ rest → is_some (cond b (Some v) o) ≡ (b || rest)

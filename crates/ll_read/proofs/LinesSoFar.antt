@@ -1,22 +1,22 @@
 -- The lines that a reading stands for, and what is still empty in its playlist: a line more is put at the end of those lines.
 use Rattle.std.proofs.Common.{◌≡◌, List, [], ◌∷◌, ◌++◌, map, None}
 use Rattle.std.specs.List.{flat_map}
+use Rattle.ll_line.specs.Line.{DateRange, Discontinuity, DiscontinuitySequence, Duration, First, Line, Map, MediaSequence, RenditionReport, ServerControl, TargetDuration, Version}
 use Rattle.ll_page.specs.Playlist.{Playlist}
-use Rattle.ll_read.specs.Lines.{Line, First, Version, TargetDuration, Control, MediaSequence, DiscontinuitySequence, DateRange, Discontinuity, Map, Duration, ReportOf}
+use Rattle.ll_page.specs.Spelling.{block_lines, break_lines, header_lines, lines_of, open_lines, segment_lines, skip_lines}
 use Rattle.ll_read.specs.Shape.{Reading, Place, AtStart, AfterFirst, AfterVersion, AfterTargetDuration, AfterControl, AfterPartTarget, AfterMediaSequence, InRanges, BetweenSegments, AfterDiscontinuity, AfterMap, InSegment, AfterDuration, InReports, AtEnd}
-use Rattle.ll_read.specs.Written.{lines_of_header, lines_of_skip, lines_of_break, lines_of_block, lines_of_segment, lines_of_open, lines_of}
 
 -- the header's lines and those of date ranges
 abbrev pub ranged : Playlist → List Line
-ranged p = lines_of_header p.header ++ (MediaSequence p.sequence ∷ DiscontinuitySequence p.discontinuity ∷ map DateRange p.ranges)
+ranged p = header_lines p.header ++ (MediaSequence p.sequence ∷ DiscontinuitySequence p.discontinuity ∷ map DateRange p.ranges)
 
 -- and those of finished segments
 abbrev pub segmented : Playlist → List Line
-segmented p = ranged p ++ (lines_of_skip p.skipped ++ flat_map lines_of_segment p.segments)
+segmented p = ranged p ++ (skip_lines p.skipped ++ flat_map segment_lines p.segments)
 
 -- and those of an open segment and of reports
 abbrev pub reported : Playlist → List Line
-reported p = segmented p ++ (lines_of_open p.open_block ++ map ReportOf p.reports)
+reported p = segmented p ++ (open_lines p.open_block ++ map RenditionReport p.reports)
 
 abbrev pub so_far_at : Place → Playlist → List Line
 so_far_at AtStart p = []
@@ -25,15 +25,15 @@ so_far_at AfterVersion p = First ∷ Version p.header.version ∷ []
 so_far_at AfterTargetDuration p = First ∷ Version p.header.version ∷ TargetDuration p.header.target ∷ []
 so_far_at AfterControl p =
     First ∷ Version p.header.version ∷ TargetDuration p.header.target
-    ∷ Control p.header.hold_back p.header.skip_until p.header.skips_date_ranges ∷ []
-so_far_at AfterPartTarget p = lines_of_header p.header
-so_far_at AfterMediaSequence p = lines_of_header p.header ++ MediaSequence p.sequence ∷ []
+    ∷ ServerControl (record { hold_back = p.header.hold_back; skip_until = p.header.skip_until; skips_date_ranges = p.header.skips_date_ranges }) ∷ []
+so_far_at AfterPartTarget p = header_lines p.header
+so_far_at AfterMediaSequence p = header_lines p.header ++ MediaSequence p.sequence ∷ []
 so_far_at InRanges p = ranged p
 so_far_at BetweenSegments p = segmented p
 so_far_at AfterDiscontinuity p = segmented p ++ Discontinuity ∷ []
-so_far_at (AfterMap broken uri) p = segmented p ++ (lines_of_break broken ++ Map uri ∷ [])
-so_far_at (InSegment b) p = segmented p ++ lines_of_block b
-so_far_at (AfterDuration b d) p = segmented p ++ (lines_of_block b ++ Duration d ∷ [])
+so_far_at (AfterMap broken uri) p = segmented p ++ (break_lines broken ++ Map uri ∷ [])
+so_far_at (InSegment b) p = segmented p ++ block_lines b
+so_far_at (AfterDuration b d) p = segmented p ++ (block_lines b ++ Duration d ∷ [])
 so_far_at InReports p = reported p
 so_far_at AtEnd p = lines_of p
 

@@ -3,8 +3,9 @@ use Rattle.std.proofs.Common.{◌≡◌, ℕ, ◌+◌, ◌<◌, ◌==◌, Bool, 
 use Rattle.std.proofs.lemmas.List.Splits.{length-slice_split}
 use Rattle.std.specs.Str.Lines.{strip_carriage_return}
 use Rattle.ll_attr.specs.Words.{parts_at}
+use Rattle.ll_line.specs.Line.{Line}
+use Rattle.ll_line.specs.Formats.{line_in}
 use Rattle.ll_page.specs.Playlist.{Playlist}
-use Rattle.ll_read.specs.Lines.{Line, line_in}
 use Rattle.ll_read.specs.Ranges.{ranges_in}
 use Rattle.ll_read.specs.Reading.{read_from, and_then, next_line, first_line}
 use Rattle.ll_read.specs.Shape.{Reading, next}

@@ -2,9 +2,10 @@
 use Rattle.std.proofs.Common.{◌≡◌, ℕ, ◌+◌, ◌≤◌, Bool, true, false, List, [], ◌∷◌, ◌++◌, length-append, refl, ap, sym, ◌∙◌, arith, Option, Some, None, Ok}
 use Rattle.std.specs.Str.Lines.{strip_carriage_return}
 use Rattle.ll_attr.specs.Words.{parts_at}
+use Rattle.ll_line.specs.Line.{EndList, Hint, Line, RenditionReport, Uri}
+use Rattle.ll_line.specs.Formats.{line_in}
 use Rattle.ll_page.specs.Playlist.{Block, Finished, Playlist}
 use Rattle.ll_read.specs.Draft.{Draft, put, with_open, draft_at, draft_of}
-use Rattle.ll_read.specs.Lines.{Line, Uri, ReportOf, Hint, EndList, line_in}
 use Rattle.ll_read.specs.Outline.{outline_of, with_line}
 use Rattle.ll_read.specs.Reading.{ended, next_line, read_from}
 use Rattle.ll_read.specs.Shape.{Reading, Place, InRanges, BetweenSegments, AfterDiscontinuity, AfterMap, InSegment, AfterDuration, AtEnd, after_segments_if, next_at, next, may_end}
@@ -47,7 +48,7 @@ CanEnd line d = Unit {0}
 
 put_outline : (line : Line) (d : Draft) → CanEnd line d → outline_of (put line d).playlist ≡ with_line line (outline_of d.playlist)
 put_outline (Uri uri) d can = rw can.1 (one_segment d.playlist _)
-put_outline (ReportOf r) d can = same_open d.segment d.playlist
+put_outline (RenditionReport r) d can = same_open d.segment d.playlist
 put_outline (Hint uri) d can = same_open d.segment d.playlist
 put_outline EndList d can = same_open d.segment d.playlist
 put_outline line d can = refl

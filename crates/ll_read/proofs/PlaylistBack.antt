@@ -1,24 +1,23 @@
 -- What is written is read again: each line of it by itself, and the lines one after another.
-use Rattle.std.proofs.Common.{◌≡◌, ℕ, ◌&&◌, true, List, ◌∷◌, ◌++◌, map, refl, sym, ◌∙◌, Option, Some, None, is_none, is_some, Ok, drop}
+use Rattle.std.proofs.Common.{◌≡◌, ℕ, ◌&&◌, true, List, ◌∷◌, ◌++◌, map, refl, ap, sym, ◌∙◌, Option, Some, None, is_none, is_some, Ok, drop}
 use Rattle.std.proofs.lemmas.Str.{IsUtf8-from_is_utf8}
 use Rattle.std.specs.List.{flat_map}
 use Rattle.std.specs.Str.{is_utf8}
-use Rattle.ll_page.specs.Playlist.{Skip, Playlist}
-use Rattle.ll_page.specs.Spelling.{spelling}
-use Rattle.ll_read.specs.Lines.{Line, First, DateRange}
+use Rattle.ll_line.specs.Line.{DateRange, First, Line, Skip}
+use Rattle.ll_attr.specs.Words.{parts_at}
+use Rattle.ll_line.specs.Text.{text_of}
+use Rattle.ll_page.specs.Playlist.{Playlist}
+use Rattle.ll_page.specs.Spelling.{lines_of, open_lines, segment_lines, skip_lines, spelling}
 use Rattle.ll_read.specs.Readable.{Each, IsReadable, ReadsBackLaw}
 use Rattle.ll_read.specs.Reading.{playlist_in}
 use Rattle.ll_read.specs.Shape.{AtEnd, at, start}
-use Rattle.ll_read.specs.Written.{line_text, lines_of_skip, lines_of_segment, lines_of_open, lines_of, text_of}
 use Rattle.ll_read.proofs.Begins.{begun}
-use Rattle.ll_read.proofs.LineTexts.{spelled}
-use Rattle.ll_read.proofs.LinesCan.{all_read}
 use Rattle.ll_read.proofs.Onward.{first_is}
-use Rattle.ll_read.proofs.Readability.{IsLine}
-use Rattle.ll_read.proofs.Runs.{run, kept, cut, read}
+use Rattle.ll_read.proofs.Runs.{run, kept, cut, read, spelled}
 use Rattle.ll_read.proofs.RunsInside.{header, segments}
 use Rattle.ll_read.proofs.RunsRanges.{ranges, skip}
 use Rattle.ll_read.proofs.RunsToEnd.{end_lines, to_end}
+use Rattle.ll_read.proofs.WholeLines.{IsLine, each_line, with_end}
 
 first_leads : (o : Option Skip) → (is_none o && true) ≡ is_none o
 first_leads None = refl
@@ -31,11 +30,11 @@ whole_run p can =
     let ranged : Playlist = record begin { ranges = p.ranges } in
     let skipping : Playlist = record ranged { skipped = p.skipped } in
     let last_lines = end_lines p.reports p.hint in
-    let after_segments = lines_of_open p.open_block ++ last_lines in
-    let after_skip = flat_map lines_of_segment p.segments ++ after_segments in
-    let after_ranges = lines_of_skip p.skipped ++ after_skip in
-    let told = segments (is_none p.skipped) p.segments (is_some p.skipped) skipping after_segments (first_leads p.skipped) can.segments in
-    header p.header p.sequence p.discontinuity start.playlist (map DateRange p.ranges ++ after_ranges) can.header.version
+    let after_segments = open_lines p.open_block ++ last_lines in
+    let after_skip = flat_map segment_lines p.segments ++ after_segments in
+    let after_ranges = skip_lines p.skipped ++ after_skip in
+    let told = segments (is_none p.skipped) p.segments (is_some p.skipped) skipping after_segments (first_leads p.skipped) can.maps in
+    header p.header p.sequence p.discontinuity start.playlist (map DateRange p.ranges ++ after_ranges) can.version
     ∙ ranges p.ranges begin after_ranges can.distinct
     ∙ skip p.skipped ranged after_skip can.skipped
     ∙ told.1
@@ -46,9 +45,9 @@ by_lines : (text : List ℕ) (more : List Line) (p : Playlist) → text ≡ text
     → run (Some start) (First ∷ more) ≡ at AtEnd p → playlist_in text ≡ Ok p
 by_lines text more p spelt utf8 are comes =
     let whole = text_of (First ∷ more) in
-    let first = line_text First in
-    let shown = kept first are.0.whole ∙ first_is whole first (text_of more) (cut first (text_of more) are.0.whole) in
+    let first = spelled First in
+    let shown = kept first are.0.whole ∙ first_is whole first (text_of more) (ap (λ t. parts_at 10 (t ++ text_of more)) (with_end First) ∙ cut first (text_of more) are.0.whole) in
     sym (begun whole text first (sym spelt) (IsUtf8-from_is_utf8 text utf8) shown refl) ∙ read (First ∷ more) 1 start p are comes
 
 pub reads-back : ReadsBackLaw
-reads-back p can = by_lines (spelling p) (drop 1 (lines_of p)) p (spelled p) can.utf8 (all_read p can) (whole_run p can)
+reads-back p can = by_lines (spelling p) (drop 1 (lines_of p)) p refl can.utf8 (each_line (lines_of p) can.lines) (whole_run p can)

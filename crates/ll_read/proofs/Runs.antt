@@ -7,14 +7,19 @@ use Rattle.std.proofs.lemmas.Slice.Eq.{bytes_eq-Decides}
 use Rattle.std.specs.List.{AllByRecursion, list_any}
 use Rattle.std.specs.Str.Lines.{strip_carriage_return}
 use Rattle.ll_attr.specs.Words.{parts_at}
+use Rattle.ll_line.specs.Formats as format
+use Rattle.ll_line.specs.Line.{Line}
+use Rattle.ll_line.specs.Text.{text_of}
 use Rattle.ll_page.specs.Playlist.{Playlist}
-use Rattle.ll_read.specs.Lines.{Line}
-use Rattle.ll_read.specs.Readable.{Each, is_line_feed, ends_no_line}
+use Rattle.ll_read.specs.Readable.{Each}
 use Rattle.ll_read.specs.Reading.{read_from, next_line, ended}
 use Rattle.ll_read.specs.Shape.{Reading, AtEnd, at, next}
-use Rattle.ll_read.specs.Written.{line_text, text_of}
 use Rattle.ll_read.proofs.Onward.{goes_on}
-use Rattle.ll_read.proofs.Readability.{IsLine}
+use Rattle.ll_read.proofs.WholeLines.{IsLine, is_line_feed, ends_no_line, with_end}
+
+-- a line without its end
+abbrev pub spelled : Line → List ℕ
+spelled l = format.line.print l
 
 abbrev step : Option Reading → Line → Option Reading
 step None line = None
@@ -53,9 +58,9 @@ from_line : (n : ℕ) (r : Reading) (line : Line) (more : List Line) (o : Option
     → read_from n r (parts_at 10 (text_of (line ∷ more))) ≡ Ok p
 from_line n r line more None p is e h rest = absurd (cc (none_run more))
 from_line n r line more (Some q) p is e h rest =
-    let text = line_text line in
+    let text = spelled line in
     let whole = text_of (line ∷ more) in
-    let below = cut text (text_of more) is.whole in
+    let below = ap (λ t. parts_at 10 (t ++ text_of more)) (with_end line) ∙ cut text (text_of more) is.whole in
     let comes = ap (next_line r) is.read ∙ e in
     sym (goes_on n r q whole text text (text_of more) (read_from n r (parts_at 10 whole)) below (kept text is.whole) comes refl) ∙ rest q h
 

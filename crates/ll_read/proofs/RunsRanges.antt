@@ -1,15 +1,16 @@
 -- The lines of date ranges with distinct ids, and a skip line, come to those date ranges and that skip.
-use Rattle.std.proofs.Common.{◌≡◌, ℕ, ◌||◌, true, false, not, List, [], ◌∷◌, ◌++◌, map, refl, ap, sym, ◌∙◌, append_assoc, Option, Some, None, is_some, nat_le, bytes_eq}
+use Rattle.std.proofs.Common.{◌≡◌, ℕ, ◌||◌, ◌≤◌, true, false, not, List, [], ◌∷◌, ◌++◌, map, refl, ap, sym, ◌∙◌, append_assoc, Option, Some, None, is_some, nat_le, bytes_eq}
 use Rattle.std.proofs.lemmas.Bool.{and_parts, or_parts, or_from, not-true, not_from_false, both_ways, false_from_ne_true, le-leb}
 use Rattle.std.proofs.lemmas.List.{append-nil}
 use Rattle.std.proofs.lemmas.List.Folds.{list_any-append}
 use Rattle.std.proofs.lemmas.Slice.Eq.{bytes_eq-Decides}
-use Rattle.ll_page.specs.Playlist.{DateRangeLine, Skip, Playlist}
-use Rattle.ll_read.specs.Lines.{Line, DateRange}
+use Rattle.ll_line.specs.Line.{DateRange, DateRangeLine, Line, Skip}
+use Rattle.ll_page.specs.Playlist.{Playlist}
+use Rattle.ll_page.specs.Spelling.{skip_lines}
 use Rattle.ll_read.specs.Ranges.{has_id}
-use Rattle.ll_read.specs.Readable.{Where, are_distinct, IsReadableSkip}
+use Rattle.ll_format.specs.Format.{Where}
+use Rattle.ll_read.specs.Readable.{are_distinct}
 use Rattle.ll_read.specs.Shape.{InRanges, BetweenSegments, at, is_new}
-use Rattle.ll_read.specs.Written.{lines_of_skip}
 use Rattle.ll_read.proofs.Runs.{run}
 use Rattle.ll_read.proofs.RunsInside.{allowed, between}
 
@@ -38,7 +39,7 @@ ranges (r ∷ rs) p more h =
     ∙ ranges rs after more (ap are_distinct (append_assoc p.ranges (r ∷ []) rs) ∙ h)
     ∙ ap (λ all. run (at InRanges (record p { ranges = all })) more) (append_assoc p.ranges (r ∷ []) rs)
 
-pub skip : (o : Option Skip) (p : Playlist) (more : List Line) → Where IsReadableSkip o
-    → run (at InRanges (record p { skipped = None })) (lines_of_skip o ++ more) ≡ run (at (between (is_some o)) (record p { skipped = o })) more
+pub skip : (o : Option Skip) (p : Playlist) (more : List Line) → Where (λ (s : Skip). 1 ≤ s.count) o
+    → run (at InRanges (record p { skipped = None })) (skip_lines o ++ more) ≡ run (at (between (is_some o)) (record p { skipped = o })) more
 skip None p more can = refl
-skip (Some s) p more can = allowed (nat_le 1 s.count) BetweenSegments (record p { skipped = Some s }) more (le-leb 1 s.count can.some)
+skip (Some s) p more can = allowed (nat_le 1 s.count) BetweenSegments (record p { skipped = Some s }) more (le-leb 1 s.count can)

@@ -1,9 +1,9 @@
 -- Which line may stand where is decided by the shape alone.
 use Rattle.std.proofs.Common.{◌≡◌, ◌&&◌, ◌||◌, ◌==◌, Bool, true, false, not, List, [], ◌∷◌, ◌++◌, Option, Some, None, is_none, nat_le, refl, ap, sym, ◌∙◌}
 use Rattle.std.specs.Option.{option_map}
+use Rattle.ll_line.specs.Line.{DateRange, Discontinuity, DiscontinuitySequence, Duration, EndList, First, Hint, Line, Map, MediaSequence, Part, PartTarget, RenditionReport, ServerControl, Skipped, TargetDuration, Time, Uri, Version}
 use Rattle.ll_page.specs.Playlist.{Block, Playlist}
 use Rattle.ll_read.specs.Draft.{with_open}
-use Rattle.ll_read.specs.Lines.{Line, First, Version, TargetDuration, Control, PartTarget, MediaSequence, DiscontinuitySequence, DateRange, Skipped, Discontinuity, Map, Time, Part, Duration, Uri, ReportOf, Hint, EndList}
 use Rattle.ll_read.specs.Shape.{Reading, Place, AtStart, AfterFirst, AfterVersion, AfterTargetDuration, AfterControl, AfterPartTarget, AfterMediaSequence, InRanges, BetweenSegments, AfterDiscontinuity, AfterMap, InSegment, AfterDuration, InReports, AtEnd, at_if, after_segments, after_segments_if, between_segments, in_ranges, in_segment, next_at, next, may_end, leads, is_new, is_empty, new_block, with_header}
 use Rattle.ll_read.specs.Steps.{is_new_line, shape_of, shape_at, stage_of, some_if, shape_next}
 use Rattle.ll_read.specs.Steps as shape
@@ -24,10 +24,10 @@ abbrev within : Stage → Bool → Playlist → Shape
 within st parts p = record { stage = st; skipped = not (is_none p.skipped); segments = not (is_empty p.segments); parts = parts }
 
 after_shape : (o : Option Block) (line : Line) (p : Playlist) (st : Stage) (parts : Bool) → option_map shape_of (after_segments line (with_open o p)) ≡ shape.after_segments line (within st parts p)
-after_shape None (ReportOf r) p st parts = refl
+after_shape None (RenditionReport r) p st parts = refl
 after_shape None (Hint uri) p st parts = refl
 after_shape None EndList p st parts = refl
-after_shape (Some b) (ReportOf r) p st parts = refl
+after_shape (Some b) (RenditionReport r) p st parts = refl
 after_shape (Some b) (Hint uri) p st parts = refl
 after_shape (Some b) EndList p st parts = refl
 after_shape o line p st parts = refl
@@ -70,7 +70,7 @@ segment_shape b line p =
 shape_at_step : (place : Place) (line : Line) (p : Playlist) → option_map shape_of (next_at place line p) ≡ shape.next_at (stage_of place) line (is_new_line line p) (shape_at place p)
 shape_at_step AtStart First p = refl
 shape_at_step AfterVersion (TargetDuration n) p = refl
-shape_at_step AfterTargetDuration (Control hold_back skip_until skips) p = refl
+shape_at_step AfterTargetDuration (ServerControl control) p = refl
 shape_at_step AfterControl (PartTarget n) p = refl
 shape_at_step AfterPartTarget (MediaSequence n) p = refl
 shape_at_step AfterMediaSequence (DiscontinuitySequence n) p = refl

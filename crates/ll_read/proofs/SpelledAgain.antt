@@ -4,18 +4,21 @@ use Rattle.std.proofs.lemmas.Grind.{flat_map-append}
 use Rattle.std.proofs.lemmas.List.{append-nil}
 use Rattle.std.specs.Str.Lines.{strip_carriage_return}
 use Rattle.ll_attr.specs.Words.{parts_at}
+use Rattle.ll_line.specs.Line.{Line}
+use Rattle.ll_line.specs.Formats.{line_in}
+use Rattle.ll_line.specs.Text.{line_text, text_of}
 use Rattle.ll_page.specs.Playlist.{Playlist}
-use Rattle.ll_read.specs.Lines.{Line, line_in}
+use Rattle.ll_page.specs.Spelling.{lines_of}
 use Rattle.ll_read.specs.Readable.{SpelledAgainLaw}
 use Rattle.ll_read.specs.Reading.{is_playlist, read_from, ended, next_line, and_then, line_feeds_of, with_line_feeds}
 use Rattle.ll_read.specs.Shape.{Reading, Place, AtEnd, start, is_empty}
-use Rattle.ll_read.specs.Written.{line_text, text_of, lines_of}
 use Rattle.ll_read.specs.declared.fault.ReadFault.{ReadFault}
 use Rattle.ll_read.specs.declared.fault.ReadFault.TheVariants.{NotPlaylist, BadLine}
-use Rattle.ll_read.proofs.LineTexts.{spelled}
-use Rattle.ll_read.proofs.LinesAgain.{line-again}
+use Rattle.ll_read.proofs.Runs.{spelled}
+use Rattle.ll_read.proofs.WholeLines.{with_end}
 use Rattle.ll_read.proofs.LinesSoFar.{so_far, so_far_at, IsEarly}
 use Rattle.ll_read.proofs.StepsSoFar.{step}
+use Rattle.ll_line.proofs.LineLaws.{line-laws}
 
 ended-again : (n : ℕ) (place : Place) (p q : Playlist) → ended n place p ≡ Ok q → text_of (so_far_at place p) ≡ text_of (lines_of q)
 ended-again n AtEnd p q h = let same : p ≡ q = cc in ap (λ x. text_of (lines_of x)) same
@@ -37,13 +40,13 @@ line_by n r text below found None p more early f e h rest = absurd (cc)
 line_by n r text below None (Some q) p more early f e h rest = absurd (cc)
 line_by n r text below (Some line) (Some q) p more early f e h rest =
     let taken = step r line q early e in
-    let is = line-again text line f in
+    let is = (line-laws.takes text line f).0 in
     let before = text_of (so_far r) in
-    ap (λ t. before ++ (t ++ (10 ∷ below))) (sym is)
-    ∙ ap (λ t. before ++ t) (sym (append_assoc (line_text line) (10 ∷ []) below))
-    ∙ ap (λ t. before ++ (t ++ below)) (sym (append-nil (line_text line ++ 10 ∷ [])))
+    ap (λ t. before ++ (t ++ (10 ∷ below))) is
+    ∙ ap (λ t. before ++ t) (sym (append_assoc (spelled line) (10 ∷ []) below) ∙ ap (λ t. t ++ below) (sym (with_end line)))
+    ∙ ap (λ t. before ++ (t ++ below)) (sym (append-nil (line_text line)))
     ∙ sym (append_assoc before (text_of (line ∷ [])) below)
-    ∙ ap (λ t. t ++ below) (sym (flat_map-append (λ (l : Line). line_text l ++ 10 ∷ []) (so_far r) (line ∷ [])))
+    ∙ ap (λ t. t ++ below) (sym (flat_map-append line_text (so_far r) (line ∷ [])))
     ∙ ap (λ lines. text_of lines ++ below) (sym taken.1)
     ∙ rest q taken.0 h
 
@@ -62,4 +65,4 @@ begun true text p h = read-again 1 start (parts_at 10 text) p (refl, (refl, refl
 begun false text p h = absurd (cc)
 
 pub spelled-again : SpelledAgainLaw
-spelled-again text p h = spelled p ∙ sym (begun (is_playlist text) text p h)
+spelled-again text p h = sym (begun (is_playlist text) text p h)

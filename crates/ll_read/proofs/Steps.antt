@@ -1,9 +1,9 @@
 -- What one line more changes, by where it stands.
 use Rattle.std.proofs.Common.{◌≡◌, ◌&&◌, ◌||◌, ◌==◌, Bool, true, false, not, List, [], ◌∷◌, ◌++◌, Option, Some, None, nat_le, refl, sym, subst}
 use Rattle.std.proofs.lemmas.List.{append-nil}
-use Rattle.ll_page.specs.Playlist.{Block, DateRangeLine, Playlist}
+use Rattle.ll_line.specs.Line.{DateRange, DateRangeLine, Discontinuity, DiscontinuitySequence, Duration, EndList, First, Hint, Line, Map, MediaSequence, Part, PartTarget, RenditionReport, ServerControl, Skipped, TargetDuration, Time, Uri, Version}
+use Rattle.ll_page.specs.Playlist.{Block, Playlist}
 use Rattle.ll_read.specs.Draft.{Draft, put, plain, with_open, draft_at, draft_of}
-use Rattle.ll_read.specs.Lines.{Line, First, Version, TargetDuration, Control, PartTarget, MediaSequence, DiscontinuitySequence, DateRange, Skipped, Discontinuity, Map, Time, Part, Duration, Uri, ReportOf, Hint, EndList}
 use Rattle.ll_read.specs.Ranges.{range_of}
 use Rattle.ll_read.specs.Shape.{Reading, Place, AtStart, AfterFirst, AfterVersion, AfterTargetDuration, AfterControl, AfterPartTarget, AfterMediaSequence, InRanges, BetweenSegments, AfterDiscontinuity, AfterMap, InSegment, AfterDuration, InReports, AtEnd, at, at_if, in_header, after_segments, after_segments_if, between_segments, in_ranges, in_segment, next_at, next, may_end, leads, is_new, is_empty, new_block, with_header}
 use Rattle.ll_read.specs.Steps.{is_new_line}
@@ -35,9 +35,9 @@ header_step AfterFirst (Version n) p q h =
     here_if (n == 9 || n == 10) AfterVersion (with_header (record (p.header) { version = n }) p) q (plain p) p.ranges true (Version n) h refl (same p) (λ e. refl)
 header_step AfterVersion (TargetDuration n) p q h =
     here AfterTargetDuration (with_header (record (p.header) { target = n }) p) q (plain p) p.ranges true (TargetDuration n) h refl (same p) refl
-header_step AfterTargetDuration (Control hold_back skip_until skips) p q h =
-    here AfterControl (with_header (record (p.header) { hold_back = hold_back; skip_until = skip_until; skips_date_ranges = skips }) p) q (plain p) p.ranges true
-    (Control hold_back skip_until skips) h refl (same p) refl
+header_step AfterTargetDuration (ServerControl control) p q h =
+    here AfterControl (with_header (record (p.header) { hold_back = control.hold_back; skip_until = control.skip_until; skips_date_ranges = control.skips_date_ranges }) p) q (plain p) p.ranges true
+    (ServerControl control) h refl (same p) refl
 header_step AfterControl (PartTarget n) p q h =
     here AfterPartTarget (with_header (record (p.header) { part_target = n }) p) q (plain p) p.ranges true (PartTarget n) h refl (same p) refl
 header_step AfterPartTarget (MediaSequence n) p q h =
@@ -48,11 +48,11 @@ header_step place line p q h = absurd (cc)
 
 after_step : (o : Option Block) (line : Line) (p : Playlist) (q : Reading) → after_segments line (with_open o p) ≡ Some q
     → IsStep (record (plain p) { segment = o }) p.ranges (is_new_line line p) line q
-after_step None (ReportOf r) p q h = here InReports (record p { reports = p.reports ++ r ∷ [] }) q (plain p) p.ranges true (ReportOf r) h refl (same p) refl
+after_step None (RenditionReport r) p q h = here InReports (record p { reports = p.reports ++ r ∷ [] }) q (plain p) p.ranges true (RenditionReport r) h refl (same p) refl
 after_step None (Hint uri) p q h = here AtEnd (record p { hint = Some uri }) q (plain p) p.ranges true (Hint uri) h refl (same p) refl
 after_step None EndList p q h = here AtEnd p q (plain p) p.ranges true EndList h refl (same p) refl
-after_step (Some b) (ReportOf r) p q h =
-    here InReports (record (record p { open_block = Some b }) { reports = p.reports ++ r ∷ [] }) q (record (plain p) { segment = Some b }) p.ranges true (ReportOf r) h refl (same p) refl
+after_step (Some b) (RenditionReport r) p q h =
+    here InReports (record (record p { open_block = Some b }) { reports = p.reports ++ r ∷ [] }) q (record (plain p) { segment = Some b }) p.ranges true (RenditionReport r) h refl (same p) refl
 after_step (Some b) (Hint uri) p q h =
     here AtEnd (record (record p { open_block = Some b }) { hint = Some uri }) q (record (plain p) { segment = Some b }) p.ranges true (Hint uri) h refl (same p) refl
 after_step (Some b) EndList p q h =

@@ -1,8 +1,8 @@
 -- What the lines so far come to, with what they say of the segment that one stands in.
 use Rattle.std.specs.Prelude.{◌≡◌, ℕ, List, [], ◌∷◌, ◌++◌, Bool, true, false, Option, Some, None}
 use Rattle.std.specs.Option.{option_map}
-use Rattle.ll_page.specs.Playlist.{PartLine, Block, Playlist}
-use Rattle.ll_read.specs.Lines.{Line, First, Version, TargetDuration, Control, PartTarget, MediaSequence, DiscontinuitySequence, DateRange, Skipped, Discontinuity, Map, Time, Part, Duration, Uri, ReportOf, Hint, EndList}
+use Rattle.ll_line.specs.Line.{DateRange, Discontinuity, DiscontinuitySequence, Duration, EndList, First, Hint, Line, Map, MediaSequence, Part, PartLine, PartTarget, RenditionReport, ServerControl, Skipped, TargetDuration, Time, Uri, Version}
+use Rattle.ll_page.specs.Playlist.{Block, Playlist}
 use Rattle.ll_read.specs.Shape.{Reading, Place, start, with_header, new_block}
 use Rattle.ll_read.specs.Shape as place
 use Rattle.ll_read.specs.Ranges.{ranges_of}
@@ -43,8 +43,8 @@ abbrev pub put : Line → Draft → Draft
 put First d = d
 put (Version n) d = record d { playlist = with_header (record (d.playlist.header) { version = n }) d.playlist }
 put (TargetDuration n) d = record d { playlist = with_header (record (d.playlist.header) { target = n }) d.playlist }
-put (Control hold_back skip_until skips) d =
-    record d { playlist = with_header (record (d.playlist.header) { hold_back = hold_back; skip_until = skip_until; skips_date_ranges = skips }) d.playlist }
+put (ServerControl control) d =
+    record d { playlist = with_header (record (d.playlist.header) { hold_back = control.hold_back; skip_until = control.skip_until; skips_date_ranges = control.skips_date_ranges }) d.playlist }
 put (PartTarget n) d = record d { playlist = with_header (record (d.playlist.header) { part_target = n }) d.playlist }
 put (MediaSequence n) d = record d { playlist = record (d.playlist) { sequence = n } }
 put (DiscontinuitySequence n) d = record d { playlist = record (d.playlist) { discontinuity = n } }
@@ -56,7 +56,7 @@ put (Time time) d = record d { broken = false; map = None; segment = Some (new_b
 put (Part part) d = record d { segment = option_map (with_part part) d.segment }
 put (Duration n) d = record d { duration = n }
 put (Uri uri) d = record d { playlist = with_segment d.segment d.duration uri d.playlist; segment = None; duration = 0 }
-put (ReportOf r) d = record d { playlist = record (with_open d.segment d.playlist) { reports = d.playlist.reports ++ r ∷ [] }; segment = None }
+put (RenditionReport r) d = record d { playlist = record (with_open d.segment d.playlist) { reports = d.playlist.reports ++ r ∷ [] }; segment = None }
 put (Hint uri) d = record d { playlist = record (with_open d.segment d.playlist) { hint = Some uri }; segment = None }
 put EndList d = closed d
 
@@ -68,7 +68,7 @@ takes_memory (Map uri) = true
 takes_memory (Time time) = true
 takes_memory (Part part) = true
 takes_memory (Uri uri) = true
-takes_memory (ReportOf r) = true
+takes_memory (RenditionReport r) = true
 takes_memory (Hint uri) = true
 takes_memory line = false
 

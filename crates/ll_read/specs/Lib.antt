@@ -1,11 +1,7 @@
 pub mod Draft
-pub mod Lines
-pub mod Meaning
 pub mod Outline
-pub mod Pieces
 pub mod Ranges
 pub mod Readable
 pub mod Reading
 pub mod Shape
 pub mod Steps
-pub mod Written

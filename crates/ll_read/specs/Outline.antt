@@ -1,8 +1,8 @@
 -- What a playlist comes to without its texts.
 use Rattle.std.specs.Prelude.{◌+◌, length, Some}
 use Rattle.std.specs.Option.{option_map}
-use Rattle.ll_page.specs.Playlist.{Skip, Playlist}
-use Rattle.ll_read.specs.Lines.{Line, MediaSequence, Skipped, Uri}
+use Rattle.ll_line.specs.Line.{Line, MediaSequence, Skip, Skipped, Uri}
+use Rattle.ll_page.specs.Playlist.{Playlist}
 use Rattle.ll_read.specs.declared.outline.Outline.{Outline}
 
 abbrev pub outline_of : Playlist → Outline

@@ -1,10 +1,10 @@
 -- Date ranges, and the entries of a map of them.
 use Rattle.std.specs.Prelude.{ℕ, List, [], ◌∷◌, ◌++◌, Bool, Option, Some, None, string_bytes, bytes_eq}
 use Rattle.std.specs.Str.Lines.{strip_carriage_return}
-use Rattle.ll_read.specs.Lines.{Line, DateRange, line_in}
+use Rattle.ll_line.specs.Line.{DateRange, DateRangeLine, Line}
+use Rattle.ll_line.specs.Formats.{line_in}
 use Rattle.std.specs.List.{list_any}
 use Rattle.std.specs.declared.string.String.{String}
-use Rattle.ll_page.specs.Playlist.{DateRangeLine}
 
 -- an entry of the map, as a date range
 abbrev pub range_at : {A : Type 0} → String A × List ℕ → DateRangeLine

@@ -1,8 +1,8 @@
 -- Which line may stand where in a playlist, and what the lines so far come to.
 use Rattle.std.specs.Prelude.{ℕ, List, [], ◌∷◌, ◌++◌, Bool, true, false, not, ◌&&◌, ◌||◌, ◌==◌, Option, Some, None, is_none, nat_le, bytes_eq}
 use Rattle.std.specs.List.{list_any}
-use Rattle.ll_page.specs.Playlist.{Block, DateRangeLine, Header, Playlist}
-use Rattle.ll_read.specs.Lines.{Line, First, Version, TargetDuration, Control, PartTarget, MediaSequence, DiscontinuitySequence, DateRange, Skipped, Discontinuity, Map, Time, Part, Duration, Uri, ReportOf, Hint, EndList}
+use Rattle.ll_line.specs.Line.{DateRange, DateRangeLine, Discontinuity, DiscontinuitySequence, Duration, EndList, First, Hint, Line, Map, MediaSequence, Part, PartTarget, RenditionReport, ServerControl, Skipped, TargetDuration, Time, Uri, Version}
+use Rattle.ll_page.specs.Playlist.{Block, Header, Playlist}
 
 -- what stands before a line
 pub data Place : Type 0 where
@@ -68,8 +68,8 @@ abbrev pub in_header : Place → Line → Playlist → Option Reading
 in_header AtStart First p = at AfterFirst p
 in_header AfterFirst (Version n) p = at_if (n == 9 || n == 10) AfterVersion (with_header (record (p.header) { version = n }) p)
 in_header AfterVersion (TargetDuration n) p = at AfterTargetDuration (with_header (record (p.header) { target = n }) p)
-in_header AfterTargetDuration (Control hold_back skip_until skips) p =
-    at AfterControl (with_header (record (p.header) { hold_back = hold_back; skip_until = skip_until; skips_date_ranges = skips }) p)
+in_header AfterTargetDuration (ServerControl control) p =
+    at AfterControl (with_header (record (p.header) { hold_back = control.hold_back; skip_until = control.skip_until; skips_date_ranges = control.skips_date_ranges }) p)
 in_header AfterControl (PartTarget n) p = at AfterPartTarget (with_header (record (p.header) { part_target = n }) p)
 in_header AfterPartTarget (MediaSequence n) p = at AfterMediaSequence (record p { sequence = n })
 in_header AfterMediaSequence (DiscontinuitySequence n) p = at InRanges (record p { discontinuity = n })
@@ -89,7 +89,7 @@ may_end p = is_none p.skipped || not (is_empty p.segments)
 
 -- the lines after all segments
 abbrev pub after_segments : Line → Playlist → Option Reading
-after_segments (ReportOf r) p = at InReports (record p { reports = p.reports ++ r ∷ [] })
+after_segments (RenditionReport r) p = at InReports (record p { reports = p.reports ++ r ∷ [] })
 after_segments (Hint uri) p = at AtEnd (record p { hint = Some uri })
 after_segments EndList p = at AtEnd p
 after_segments line p = None

@@ -1,7 +1,7 @@
 -- Which line may stand where, by just what decides it.
 use Rattle.std.specs.Prelude.{Bool, true, false, not, ◌&&◌, ◌||◌, ◌==◌, Option, Some, None, is_none, nat_le}
+use Rattle.ll_line.specs.Line.{DateRange, Discontinuity, DiscontinuitySequence, Duration, EndList, First, Hint, Line, Map, MediaSequence, Part, PartTarget, RenditionReport, ServerControl, Skipped, TargetDuration, Time, Uri, Version}
 use Rattle.ll_page.specs.Playlist.{Playlist}
-use Rattle.ll_read.specs.Lines.{Line, First, Version, TargetDuration, Control, PartTarget, MediaSequence, DiscontinuitySequence, DateRange, Skipped, Discontinuity, Map, Time, Part, Duration, Uri, ReportOf, Hint, EndList}
 use Rattle.ll_read.specs.Shape.{Reading, Place, is_new, is_empty}
 use Rattle.ll_read.specs.Shape as place
 use Rattle.ll_read.specs.declared.shape.Shape.{Shape}
@@ -37,7 +37,7 @@ abbrev pub in_order : Stage → Line → Shape → Option Shape
 in_order AtStart First s = Some (at_stage AfterFirst s)
 in_order AfterFirst (Version n) s = some_if (n == 9 || n == 10) (at_stage AfterVersion s)
 in_order AfterVersion (TargetDuration n) s = Some (at_stage AfterTargetDuration s)
-in_order AfterTargetDuration (Control hold_back skip_until skips) s = Some (at_stage AfterControl s)
+in_order AfterTargetDuration (ServerControl control) s = Some (at_stage AfterControl s)
 in_order AfterControl (PartTarget n) s = Some (at_stage AfterPartTarget s)
 in_order AfterPartTarget (MediaSequence n) s = Some (at_stage AfterMediaSequence s)
 in_order AfterMediaSequence (DiscontinuitySequence n) s = Some (at_stage InRanges s)
@@ -47,7 +47,7 @@ in_order AfterDuration (Uri uri) s = Some (after_segment s)
 in_order stage line s = None
 
 abbrev pub after_segments : Line → Shape → Option Shape
-after_segments (ReportOf r) s = Some (at_stage InReports s)
+after_segments (RenditionReport r) s = Some (at_stage InReports s)
 after_segments (Hint uri) s = Some (at_stage AtEnd s)
 after_segments EndList s = Some (at_stage AtEnd s)
 after_segments line s = None

@@ -3,16 +3,17 @@ ghost use Rattle.std.specs.Prelude.{◌≡◌, ◌++◌, ◌∷◌, [], IfOk, ma
 ghost use Rattle.std.specs.Option.{option_map};
 ghost use Rattle.ll_read.specs.Draft.{draft_of, with_part, closed, takes_memory};
 ghost use Rattle.ll_read.specs.Draft as spec;
-ghost use Rattle.ll_read.specs.Lines as line;
+ghost use Rattle.ll_line.specs.Line as line;
 ghost use Rattle.ll_read.specs.Shape.{start};
-ghost use Rattle.ll_read.specs.Lines.{ids_in};
-ghost use Rattle.ll_read.specs.Meaning.{meant};
+ghost use Rattle.ll_format.specs.Words.{cut_at};
+ghost use Rattle.ll_line.specs.Meaning.{meant, date_time_text};
+ghost use Rattle.ll_line.specs.Uris.{uri_text};
 ghost use Rattle.ll_read.specs.Ranges.{range_at, has_id};
 
-use crate::line::Line;
 use crate::playlist::{Block, Finished, Header, PartLine, Playlist, Report, Skip};
 use indexmap::IndexMap;
 use ll_attr::{Text, cut};
+use ll_line::{DateTime, Line, Uri};
 use std::alloc::{AllocError, Global};
 use std::marker::Model;
 
@@ -83,48 +84,48 @@ impl Draft {
     pub(crate) fn put(&mut self, alloc: Global, line: &Line<'_>) -> Result<(), AllocError>
         ensures { IfOk result (λ u. self.new ≡ spec.put (meant line.now) self.old) }
     {
-        match *line {
-            Line::DateRange { id, attributes } => {
-                if self.has_range(id) {
+        match line {
+            Line::DateRange(range) => {
+                if self.has_range(range.id) {
                     return Err(AllocError);
                 }
-                put_range(&mut self.playlist.ranges, alloc, id, attributes)
+                put_range(&mut self.playlist.ranges, alloc, range.id, range.attributes)
             }
-            Line::Skipped { count, removed } => {
-                let removed = removed_ids(alloc, removed)?;
-                self.playlist.skipped = Some(Skip { count, removed });
+            Line::Skipped(skip) => {
+                let removed = removed_ids(alloc, skip.removed)?;
+                self.playlist.skipped = Some(Skip {
+                    count: skip.count,
+                    removed,
+                });
                 Ok(())
             }
             Line::Map(uri) => {
-                self.map = Some(Text::from_str(alloc, uri)?);
+                self.map = Some(uri_copy(alloc, uri)?);
                 Ok(())
             }
             Line::Time(time) => self.open(alloc, time),
-            Line::Part {
-                duration,
-                uri,
-                independent,
-            } => {
-                let uri = Text::from_str(alloc, uri)?;
-                put_part(
-                    &mut self.segment,
-                    PartLine {
-                        duration,
-                        uri,
-                        independent,
-                    },
-                )
+            Line::Part(part) => {
+                let part = PartLine {
+                    duration: part.duration.0,
+                    uri: uri_copy(alloc, &part.uri)?,
+                    independent: part.independent,
+                };
+                put_part(&mut self.segment, part)
             }
             Line::Uri(uri) => self.finish_segment(alloc, uri),
-            Line::Report { uri, number, index } => {
+            Line::RenditionReport(report) => {
                 self.close();
-                let uri = Text::from_str(alloc, uri)?;
-                self.playlist.reports.push(Report { uri, number, index })?;
+                let report = Report {
+                    uri: uri_copy(alloc, &report.uri)?,
+                    number: report.number,
+                    index: report.index,
+                };
+                self.playlist.reports.push(report)?;
                 Ok(())
             }
             Line::Hint(uri) => {
                 self.close();
-                self.playlist.hint = Some(Text::from_str(alloc, uri)?);
+                self.playlist.hint = Some(uri_copy(alloc, uri)?);
                 Ok(())
             }
             _ => {
@@ -139,33 +140,29 @@ impl Draft {
         requires { takes_memory (meant line.now) ≡ false }
         ensures { self.new ≡ spec.put (meant line.now) self.old }
     {
-        match *line {
-            Line::Version(version) => self.playlist.header.version = version,
-            Line::TargetDuration(target) => self.playlist.header.target = target,
-            Line::Control {
-                hold_back,
-                skip_until,
-                skips_date_ranges,
-            } => {
-                self.playlist.header.hold_back = hold_back;
-                self.playlist.header.skip_until = skip_until;
-                self.playlist.header.skips_date_ranges = skips_date_ranges;
+        match line {
+            Line::Version(version) => self.playlist.header.version = *version,
+            Line::TargetDuration(target) => self.playlist.header.target = *target,
+            Line::ServerControl(control) => {
+                self.playlist.header.hold_back = control.hold_back.0;
+                self.playlist.header.skip_until = control.skip_until.0;
+                self.playlist.header.skips_date_ranges = control.skips_date_ranges;
             }
-            Line::PartTarget(part_target) => self.playlist.header.part_target = part_target,
-            Line::MediaSequence(number) => self.playlist.sequence = number,
-            Line::DiscontinuitySequence(number) => self.playlist.discontinuity = number,
+            Line::PartTarget(part_target) => self.playlist.header.part_target = part_target.0,
+            Line::MediaSequence(number) => self.playlist.sequence = *number,
+            Line::DiscontinuitySequence(number) => self.playlist.discontinuity = *number,
             Line::Discontinuity => self.broken = true,
-            Line::Duration(duration) => self.duration = duration,
+            Line::Duration(duration) => self.duration = duration.0,
             Line::EndList => self.close(),
             _ => {}
         }
     }
 
     /// A segment begins at this time.
-    fn open(&mut self, alloc: Global, time: &str) -> Result<(), AllocError>
-        ensures { IfOk result (λ u. self.new ≡ spec.put (line.Time time.now) self.old) }
+    fn open(&mut self, alloc: Global, time: &DateTime<'_>) -> Result<(), AllocError>
+        ensures { IfOk result (λ u. self.new ≡ spec.put (line.Time (date_time_text time.now)) self.old) }
     {
-        let time = Text::from_str(alloc, time)?;
+        let time = Text::from_string(format!(in alloc; "{time}")?);
         self.segment = Some(Block {
             broken: self.broken,
             map: self.map.take(),
@@ -177,10 +174,10 @@ impl Draft {
     }
 
     /// The segment has this URI.
-    fn finish_segment(&mut self, alloc: Global, uri: &str) -> Result<(), AllocError>
-        ensures { IfOk result (λ u. self.new ≡ spec.put (line.Uri uri.now) self.old) }
+    fn finish_segment(&mut self, alloc: Global, uri: &Uri<'_>) -> Result<(), AllocError>
+        ensures { IfOk result (λ u. self.new ≡ spec.put (line.Uri (uri_text uri.now)) self.old) }
     {
-        let uri = Text::from_str(alloc, uri)?;
+        let uri = uri_copy(alloc, uri)?;
         let duration = self.duration;
         self.duration = 0;
         let Some(block) = self.segment.take() else {
@@ -209,6 +206,13 @@ impl Draft {
     {
         self.playlist
     }
+}
+
+/// A URI as a text of its own.
+fn uri_copy(alloc: Global, uri: &Uri<'_>) -> Result<Text, AllocError>
+    ensures { IfOk result (λ text. text ≡ uri_text uri.now) }
+{
+    Ok(Text::from_string(format!(in alloc; "{uri}")?))
 }
 
 /// Puts a date range of a new id after the others.
@@ -242,7 +246,7 @@ fn put_part(segment: &mut Option<Block>, part: PartLine) -> Result<(), AllocErro
 
 /// The ids that a skip line lists, where it does.
 fn removed_ids(alloc: Global, removed: Option<&str>) -> Result<Option<Vec<Text>>, AllocError>
-    ensures { IfOk result (λ r. option_map (λ ids. ids.items) r ≡ option_map (λ ids. ids_in ids.now) removed.entry) }
+    ensures { IfOk result (λ r. option_map (λ ids. ids.items) r ≡ option_map (λ ids. cut_at 9 ids.now) removed.entry) }
 {
     match removed {
         Some(ids) => Ok(Some(split_ids(alloc, ids)?)),
@@ -252,7 +256,7 @@ fn removed_ids(alloc: Global, removed: Option<&str>) -> Result<Option<Vec<Text>>
 
 /// The ids of a text with a tab between two of them.
 fn split_ids(alloc: Global, text: &str) -> Result<Vec<Text>, AllocError>
-    ensures { IfOk result (λ ids. ids.items ≡ ids_in text.now) }
+    ensures { IfOk result (λ ids. ids.items ≡ cut_at 9 text.now) }
 {
     let mut ids = Vec::new(alloc);
     if text.is_empty() {

@@ -4,17 +4,15 @@
 mod draft;
 mod fault;
 mod laws;
-mod line;
 mod outline;
 mod playlist;
 mod reading;
 mod shape;
-mod tags;
-mod value;
 mod writing;
 
 pub use fault::ReadFault;
 pub use laws::{reads_back_law, spelled_again_law};
+pub use ll_line::DateRange;
 pub use outline::{Outline, read_outline};
-pub use playlist::{Block, DateRange, Finished, Header, PartLine, Playlist, Report, Skip};
+pub use playlist::{Block, Finished, Header, PartLine, Playlist, Report, Skip};
 pub use reading::read;

@@ -2,17 +2,17 @@
 ghost use Rattle.std.specs.Prelude.{◌≡◌, ◌+◌, ◌<◌, ◌^◌, Ok};
 ghost use Rattle.ll_attr.specs.Words.{parts_at};
 ghost use Rattle.ll_page.specs.Playlist.{Playlist};
-ghost use Rattle.ll_read.specs.Meaning.{meant};
+ghost use Rattle.ll_line.specs.Meaning.{meant};
 ghost use Rattle.ll_read.specs.Outline.{outline_of};
 ghost use Rattle.ll_read.specs.Outline as spec;
 ghost use Rattle.ll_read.specs.Reading.{playlist_in, read_from};
 ghost use Rattle.ll_read.specs.Shape.{start};
 
-use crate::line::Line;
 use crate::playlist::Playlist;
 use crate::reading::without_end;
-use crate::tags::read_line;
 use ll_attr::cut;
+use ll_line::Line;
+use std::alloc::Global;
 use std::str;
 
 /// What a playlist comes to without its texts.
@@ -40,23 +40,23 @@ impl Playlist {
 }
 
 /// What the playlist comes to that a text spells, told without memory; of a text that spells none nothing is told.
-pub fn read_outline(bytes: &[u8]) -> Outline
+pub fn read_outline(alloc: Global, bytes: &[u8]) -> Outline
     ensures { (p : Playlist) → playlist_in bytes.now ≡ Ok p → result ≡ outline_of p }
 {
     match str::from_utf8(bytes) {
-        Ok(text) => outline_of_lines(text),
+        Ok(text) => outline_of_lines(alloc, text),
         Err(_) => Outline::start(),
     }
 }
 
 /// What lines come to.
-fn outline_of_lines(text: &str) -> Outline
+fn outline_of_lines(alloc: Global, text: &str) -> Outline
     ensures { (p : Playlist) → read_from 1 start (parts_at 10 text.now) ≡ Ok p → result ≡ outline_of p }
 {
     let mut outline = Outline::start();
     let mut rest = text;
     while let Some((line, below)) = cut(rest, '\n') {
-        if let Some(line) = read_line(without_end(line)) {
+        if let Some(line) = Line::read(alloc, without_end(line)) {
             outline = outline.with_line(&line);
         }
         rest = below;
@@ -81,10 +81,13 @@ impl Outline {
         requires { self.segments + 1 < 2 ^ 64 }
         ensures { result ≡ spec.with_line (meant line.now) self }
     {
-        match *line {
-            Line::MediaSequence(sequence) => Outline { sequence, ..self },
-            Line::Skipped { count, .. } => Outline {
-                skipped: Some(count),
+        match line {
+            Line::MediaSequence(sequence) => Outline {
+                sequence: *sequence,
+                ..self
+            },
+            Line::Skipped(skip) => Outline {
+                skipped: Some(skip.count),
                 ..self
             },
             Line::Uri(_) => Outline {

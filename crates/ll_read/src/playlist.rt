@@ -4,6 +4,7 @@ ghost use Rattle.ll_read.specs.Ranges.{has_id, range_at};
 
 use indexmap::IndexMap;
 use ll_attr::Text;
+use ll_line::DateRange;
 use std::marker::Model;
 
 /// An EXT-X-PART line (section 4.4.4.9).
@@ -16,7 +17,7 @@ pub struct PartLine {
 }
 
 impl Model for PartLine {
-    ghost use Rattle.ll_page.specs.Playlist.{PartLine};
+    ghost use Rattle.ll_line.specs.Line.{PartLine};
 
     ghost Value = { PartLine };
 
@@ -71,7 +72,7 @@ pub struct Skip {
 
 impl Model for Skip {
     ghost use Rattle.std.specs.Option.{option_map};
-    ghost use Rattle.ll_page.specs.Playlist.{Skip};
+    ghost use Rattle.ll_line.specs.Line.{Skip};
 
     ghost Value = { Skip };
 
@@ -89,7 +90,7 @@ pub struct Report {
 }
 
 impl Model for Report {
-    ghost use Rattle.ll_page.specs.Playlist.{Report};
+    ghost use Rattle.ll_line.specs.Line.{Report};
 
     ghost Value = { Report };
 
@@ -126,15 +127,6 @@ impl Model for Header {
       skips_date_ranges = h.skips_date_ranges;
       part_target = h.part_target;
     } };
-}
-
-/// An EXT-X-DATERANGE line (section 4.4.5.1).
-#[derive(Clone, Copy, Debug)]
-pub struct DateRange<'a> {
-    /// The value of its ID attribute.
-    pub id: &'a str,
-    /// Its other attributes, as a list of attributes is spelled.
-    pub attributes: &'a str,
 }
 
 /// A Media Playlist or a Playlist Delta Update.

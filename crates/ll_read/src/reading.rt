@@ -3,8 +3,8 @@ ghost use Rattle.std.specs.Prelude.{◌≡◌, ◌≢◌, ◌∷◌, ◌++◌, [
 ghost use Rattle.std.specs.Str.Lines.{strip_carriage_return};
 ghost use Rattle.ll_attr.specs.Words.{parts_at};
 ghost use Rattle.ll_read.specs.Draft.{drafted, IsAt};
-ghost use Rattle.ll_read.specs.Lines.{line_in};
-ghost use Rattle.ll_read.specs.Meaning.{meant};
+ghost use Rattle.ll_line.specs.Formats.{line_in};
+ghost use Rattle.ll_line.specs.Meaning.{meant};
 ghost use Rattle.ll_read.specs.Ranges.{has_id, ranges_of, ranges_in};
 ghost use Rattle.ll_read.specs.Reading.{playlist_in, first_line, next_line, read_from};
 ghost use Rattle.ll_read.specs.Shape.{Reading, start, next};
@@ -12,11 +12,10 @@ ghost use Rattle.ll_read.specs.Steps.{is_new_line, shape_of};
 
 use crate::draft::Draft;
 use crate::fault::ReadFault;
-use crate::line::Line;
 use crate::playlist::Playlist;
 use crate::shape::Shape;
-use crate::tags::read_line;
 use ll_attr::cut;
+use ll_line::Line;
 use std::alloc::{AllocError, Global};
 use std::str;
 
@@ -110,8 +109,8 @@ fn step(
         (λ s. (q : Reading) × (next_line r (line_in line.now) ≡ Some q) × (s.0 ≡ shape_of q) × drafted s.1 q
         × (q.playlist.ranges ≡ r.playlist.ranges ++ ranges_in (line_in line.now))) }
 {
-    let line = read_line(line)?;
-    let is_new = is_new(&draft, text, count, &line);
+    let line = Line::read(alloc, line)?;
+    let is_new = is_new(alloc, &draft, text, count, &line);
     let shape = shape.next(&line, is_new)?;
     Some((shape, grown(draft, alloc, &line)))
 }
@@ -128,27 +127,27 @@ fn grown(draft: Option<Draft>, alloc: Global, line: &Line<'_>) -> Option<Draft>
 }
 
 /// Whether the id of a line is new after so many lines, where it has one. Without a draft the lines are gone through again.
-fn is_new(draft: &Option<Draft>, text: &str, count: usize, line: &Line<'_>) -> bool
+fn is_new(alloc: Global, draft: &Option<Draft>, text: &str, count: usize, line: &Line<'_>) -> bool
     ensures { (r : Reading) → drafted draft.now r → r.playlist.ranges ≡ ranges_of (take count (parts_at 10 text.now)) → result ≡ is_new_line (meant line.now) r.playlist }
 {
     match (line, draft) {
-        (Line::DateRange { id, .. }, Some(draft)) => !draft.has_range(id),
-        (Line::DateRange { id, .. }, None) => !stands_before(text, count, id),
+        (Line::DateRange(range), Some(draft)) => !draft.has_range(range.id),
+        (Line::DateRange(range), None) => !stands_before(alloc, text, count, range.id),
         _ => true,
     }
 }
 
 /// Whether one of the first so many lines of a text is a date range of this id.
-fn stands_before(text: &str, count: usize, id: &str) -> bool
+fn stands_before(alloc: Global, text: &str, count: usize, id: &str) -> bool
     ensures { result ≡ has_id id.now (ranges_of (take count (parts_at 10 text.now))) }
 {
     let mut left = count;
     let mut rest = text;
     while 0 < left {
         let Some((line, below)) = cut(rest, '\n') else {
-            return has_this_id(without_end(rest), id);
+            return has_this_id(alloc, without_end(rest), id);
         };
-        if has_this_id(without_end(line), id) {
+        if has_this_id(alloc, without_end(line), id) {
             return true;
         }
         rest = below;
@@ -158,11 +157,11 @@ fn stands_before(text: &str, count: usize, id: &str) -> bool
 }
 
 /// Whether a line is a date range of this id.
-fn has_this_id(line: &str, id: &str) -> bool
+fn has_this_id(alloc: Global, line: &str, id: &str) -> bool
     ensures { result ≡ has_id id.now (ranges_in (line_in line.now)) }
 {
-    match read_line(line) {
-        Some(Line::DateRange { id: other, .. }) => id == other,
+    match Line::read(alloc, line) {
+        Some(Line::DateRange(range)) => id == range.id,
         _ => false,
     }
 }

@@ -1,9 +1,9 @@
 //! Which line may stand where.
 ghost use Rattle.std.specs.Prelude.{◌≡◌};
-ghost use Rattle.ll_read.specs.Meaning.{meant};
+ghost use Rattle.ll_line.specs.Meaning.{meant};
 ghost use Rattle.ll_read.specs.Steps as spec;
 
-use crate::line::Line;
+use ll_line::Line;
 
 /// After which line one stands.
 #[derive(Clone, Copy, Debug)]
@@ -84,7 +84,7 @@ impl Shape {
             (Stage::AfterVersion, Line::TargetDuration(_)) => {
                 Some(self.to(Stage::AfterTargetDuration))
             }
-            (Stage::AfterTargetDuration, Line::Control { .. }) => {
+            (Stage::AfterTargetDuration, Line::ServerControl(_)) => {
                 Some(self.to(Stage::AfterControl))
             }
             (Stage::AfterControl, Line::PartTarget(_)) => Some(self.to(Stage::AfterPartTarget)),
@@ -106,10 +106,10 @@ impl Shape {
         ensures { result ≡ spec.in_ranges (meant line.now) is_new self }
     {
         match line {
-            Line::DateRange { .. } if is_new => Some(self),
-            Line::DateRange { .. } => None,
-            Line::Skipped { count: 0, .. } => None,
-            Line::Skipped { .. } => Some(self.after_skip()),
+            Line::DateRange(_) if is_new => Some(self),
+            Line::DateRange(_) => None,
+            Line::Skipped(skip) if 1 <= skip.count => Some(self.after_skip()),
+            Line::Skipped(_) => None,
             _ => self.between_segments(line),
         }
     }
@@ -134,7 +134,7 @@ impl Shape {
         ensures { result ≡ spec.in_segment (meant line.now) self }
     {
         match line {
-            Line::Part { .. } => Some(self.after_part()),
+            Line::Part(_) => Some(self.after_part()),
             Line::Duration(_) => Some(self.to(Stage::AfterDuration)),
             _ => self.after_segments_if((!self.skipped || self.segments) && self.parts, line),
         }
@@ -156,7 +156,7 @@ impl Shape {
         ensures { result ≡ spec.after_segments (meant line.now) self }
     {
         match line {
-            Line::Report { .. } => Some(self.to(Stage::InReports)),
+            Line::RenditionReport(_) => Some(self.to(Stage::InReports)),
             Line::Hint(_) | Line::EndList => Some(self.to(Stage::AtEnd)),
             _ => None,
         }

@@ -1,12 +1,14 @@
 //! Playlists, written line by line.
-ghost use Rattle.std.specs.Prelude.{◌≡◌, ◌++◌, IfOk, OnOk, string_bytes, flat_map};
-ghost use Rattle.ll_page.specs.Spelling.{spelling, front_lines, head_lines, tail_lines, header_lines, date_range_line, skip_lines, block_lines, segment_lines, open_lines, part_line, report_line, last_line, broken_line, map_lines};
+ghost use Rattle.std.specs.Prelude.{◌≡◌, ◌++◌, ◌∷◌, IfOk, OnOk, map, string_bytes, flat_map};
+ghost use Rattle.std.specs.List.{join_with_byte};
+ghost use Rattle.std.specs.Option.{option_map};
+ghost use Rattle.ll_line.specs.Line as says;
+ghost use Rattle.ll_line.specs.Text.{line_text, text_of};
+ghost use Rattle.ll_page.specs.Spelling.{spelling, head_lines, header_lines, tail_lines, skip_lines, break_lines, map_lines, block_lines, segment_lines, open_lines, last_line};
 
-use crate::playlist::{Block, Finished, Header, Playlist, Report};
+use crate::playlist::{Block, Finished, Header, Playlist, Report, Skip};
 use ll_attr::{Micros, Text};
-use ll_page::Uri;
-use ll_page::lines::*;
-use ll_window::Place;
+use ll_line::{Control, DateTime, Line, Uri, push_line};
 use std::alloc::{AllocError, Global};
 
 impl Playlist {
@@ -17,7 +19,7 @@ impl Playlist {
         let mut text = String::new(alloc);
         self.push_head(&mut text)?;
         self.push_ranges(&mut text)?;
-        self.push_skip(&mut text)?;
+        self.push_skip(alloc, &mut text)?;
         push_segments(&mut text, &self.segments)?;
         self.push_tail(&mut text)?;
         Ok(Text::from_string(text))
@@ -25,87 +27,86 @@ impl Playlist {
 
     /// Adds the lines that stand before all date ranges and segments.
     pub fn push_head(&self, text: &mut String) -> Result<(), AllocError>
-        ensures { OnOk result (string_bytes text.new ≡ string_bytes text.old ++ head_lines self.now) }
+        ensures { OnOk result (string_bytes text.new ≡ string_bytes text.old ++ text_of (head_lines self.now)) }
     {
         self.header.push_lines(text)?;
-        push_sequence_line(text, self.sequence)?;
-        push_discontinuity_line(text, self.discontinuity)
+        push_line(text, &Line::MediaSequence(self.sequence))?;
+        push_line(text, &Line::DiscontinuitySequence(self.discontinuity))
     }
 
     /// Adds a line for each date range.
     pub fn push_ranges(&self, text: &mut String) -> Result<(), AllocError>
-        ensures { OnOk result (string_bytes text.new ≡ string_bytes text.old ++ flat_map date_range_line self.now.ranges) }
+        ensures { OnOk result (string_bytes text.new ≡ string_bytes text.old ++ text_of (map says.DateRange self.now.ranges)) }
     {
         for place in 0..self.ranges() {
             if let Some(range) = self.range(place) {
-                push_date_range_line(text, range.id, range.attributes)?;
+                push_line(text, &Line::DateRange(range))?;
             }
         }
         Ok(())
     }
 
     /// Adds the line that stands for skipped segments, where there are any.
-    fn push_skip(&self, text: &mut String) -> Result<(), AllocError>
-        ensures { OnOk result (string_bytes text.new ≡ string_bytes text.old ++ skip_lines self.now.skipped) }
+    fn push_skip(&self, alloc: Global, text: &mut String) -> Result<(), AllocError>
+        ensures { OnOk result (string_bytes text.new ≡ string_bytes text.old ++ text_of (skip_lines self.now.skipped)) }
     {
         match &self.skipped {
-            Some(skip) => push_skip_line(text, skip.count, skip.removed.as_deref()),
+            Some(skip) => push_skip_line(alloc, text, skip),
             None => Ok(()),
         }
     }
 
     /// Adds the lines that stand after all finished segments.
+    #[tactic(auto, using(ll_page::proofs::Texts::tail_texts))]
     pub fn push_tail(&self, text: &mut String) -> Result<(), AllocError>
-        ensures { OnOk result (string_bytes text.new ≡ string_bytes text.old ++ tail_lines self.now) }
+        ensures { OnOk result (string_bytes text.new ≡ string_bytes text.old ++ text_of (tail_lines self.now)) }
     {
-        if let Some(block) = &self.open_block {
-            block.push_lines(text)?;
-        }
+        push_open(text, self.open_block.as_ref())?;
         push_reports(text, &self.reports)?;
-        match &self.hint {
-            Some(uri) => push_hint_line(text, Uri::Text(uri.as_str())),
-            None => push_end_line(text),
-        }
+        push_last_line(text, self.hint.as_ref())
     }
 }
 
 impl Header {
     /// Adds its lines.
     fn push_lines(&self, text: &mut String) -> Result<(), AllocError>
-        ensures { OnOk result (string_bytes text.new ≡ string_bytes text.old ++ header_lines self.now) }
+        ensures { OnOk result (string_bytes text.new ≡ string_bytes text.old ++ text_of (header_lines self.now)) }
     {
-        push_first_lines(text, self.version)?;
-        push_target_line(text, self.target)?;
-        push_control_line(
-            text,
-            Micros(self.hold_back),
-            Micros(self.skip_until),
-            self.skips_date_ranges,
-        )?;
-        push_part_target_line(text, Micros(self.part_target))
+        let control = Control {
+            hold_back: Micros(self.hold_back),
+            skip_until: Micros(self.skip_until),
+            skips_date_ranges: self.skips_date_ranges,
+        };
+        push_line(text, &Line::First)?;
+        push_line(text, &Line::Version(self.version))?;
+        push_line(text, &Line::TargetDuration(self.target))?;
+        push_line(text, &Line::ServerControl(control))?;
+        push_line(text, &Line::PartTarget(Micros(self.part_target)))
     }
 }
 
 impl Block {
     /// Adds its lines.
     fn push_lines(&self, text: &mut String) -> Result<(), AllocError>
-        ensures { OnOk result (string_bytes text.new ≡ string_bytes text.old ++ block_lines self.now) }
+        ensures { OnOk result (string_bytes text.new ≡ string_bytes text.old ++ text_of (block_lines self.now)) }
     {
-        push_broken_line(text, self.broken)?;
-        if let Some(uri) = &self.map {
-            push_map_line(text, Uri::Text(uri.as_str()))?;
-        }
-        push_spelled_time_line(text, self.time.as_str())?;
+        push_break(text, self.broken)?;
+        push_map(text, self.map.as_ref())?;
+        push_line(text, &Line::Time(DateTime::Text(self.time.as_str())))?;
         self.push_parts(text)
     }
 
     /// Adds a line for each part.
     pub fn push_parts(&self, text: &mut String) -> Result<(), AllocError>
-        ensures { OnOk result (string_bytes text.new ≡ string_bytes text.old ++ flat_map part_line self.now.parts) }
+        ensures { OnOk result (string_bytes text.new ≡ string_bytes text.old ++ text_of (map says.Part self.now.parts)) }
     {
         for part in &self.parts {
-            let uri = Uri::Text(part.uri.as_str());
-            push_part_line(text, Micros(part.duration), uri, part.independent)?;
+            let line = ll_line::PartLine {
+                duration: Micros(part.duration),
+                uri: Uri::Text(part.uri.as_str()),
+                independent: part.independent,
+            };
+            push_line(text, &Line::Part(line))?;
         }
         Ok(())
     }
@@ -114,16 +115,90 @@ impl Block {
 impl Finished {
     /// Adds its lines.
     fn push_lines(&self, text: &mut String) -> Result<(), AllocError>
-        ensures { OnOk result (string_bytes text.new ≡ string_bytes text.old ++ segment_lines self.now) }
+        ensures { OnOk result (string_bytes text.new ≡ string_bytes text.old ++ text_of (segment_lines self.now)) }
     {
         self.block.push_lines(text)?;
-        push_finished_lines(text, Micros(self.duration), Uri::Text(self.uri.as_str()))
+        push_line(text, &Line::Duration(Micros(self.duration)))?;
+        push_line(text, &Line::Uri(Uri::Text(self.uri.as_str())))
     }
+}
+
+/// Adds the line of a discontinuity, where the segment is broken from the one before it.
+fn push_break(text: &mut String, broken: bool) -> Result<(), AllocError>
+    ensures { OnOk result (string_bytes text.new ≡ string_bytes text.old ++ text_of (break_lines broken)) }
+{
+    if broken {
+        push_line(text, &Line::Discontinuity)
+    } else {
+        Ok(())
+    }
+}
+
+/// Adds the line of a map, where there is one.
+fn push_map(text: &mut String, uri: Option<&Text>) -> Result<(), AllocError>
+    ensures { OnOk result (string_bytes text.new ≡ string_bytes text.old ++ text_of (map_lines (option_map (λ uri. uri.now) uri.entry))) }
+{
+    match uri {
+        Some(uri) => push_line(text, &Line::Map(Uri::Text(uri.as_str()))),
+        None => Ok(()),
+    }
+}
+
+/// Adds the line of a skip.
+#[tactic(auto, using(crate::proofs::Written::ids_told))]
+fn push_skip_line(alloc: Global, text: &mut String, skip: &Skip) -> Result<(), AllocError>
+    ensures { OnOk result (string_bytes text.new ≡ string_bytes text.old ++ line_text (says.Skipped skip.now)) }
+{
+    let count = skip.count;
+    match &skip.removed {
+        Some(ids) => {
+            let ids = joined(alloc, ids)?;
+            let removed = Some(ids.as_str());
+            push_line(text, &Line::Skipped(ll_line::Skip { count, removed }))
+        }
+        None => {
+            let removed = None;
+            push_line(text, &Line::Skipped(ll_line::Skip { count, removed }))
+        }
+    }
+}
+
+/// Ids with a tab between two of them.
+fn joined(alloc: Global, ids: &[Text]) -> Result<Text, AllocError>
+    ensures { IfOk result (λ text. text ≡ join_with_byte 9 ids.now) }
+{
+    let mut text = String::new(alloc);
+    push_ids(&mut text, ids)?;
+    Ok(Text::from_string(text))
+}
+
+/// Adds ids with a tab between two of them.
+fn push_ids(text: &mut String, ids: &[Text]) -> Result<(), AllocError>
+    ensures { OnOk result (string_bytes text.new ≡ string_bytes text.old ++ join_with_byte 9 ids.now) }
+{
+    match ids.split_first() {
+        Some((first, more)) => {
+            text.push_str(first.as_str())?;
+            push_after_tabs(text, more)
+        }
+        None => Ok(()),
+    }
+}
+
+/// Adds ids with a tab before each of them.
+fn push_after_tabs(text: &mut String, ids: &[Text]) -> Result<(), AllocError>
+    ensures { OnOk result (string_bytes text.new ≡ string_bytes text.old ++ flat_map (λ id. 9 ∷ id) ids.now) }
+{
+    for id in ids {
+        text.push('\t')?;
+        text.push_str(id.as_str())?;
+    }
+    Ok(())
 }
 
 /// Adds the lines of segments.
 fn push_segments(text: &mut String, segments: &[Finished]) -> Result<(), AllocError>
-    ensures { OnOk result (string_bytes text.new ≡ string_bytes text.old ++ flat_map segment_lines segments.now) }
+    ensures { OnOk result (string_bytes text.new ≡ string_bytes text.old ++ text_of (flat_map segment_lines segments.now)) }
 {
     for segment in segments {
         segment.push_lines(text)?;
@@ -131,16 +206,37 @@ fn push_segments(text: &mut String, segments: &[Finished]) -> Result<(), AllocEr
     Ok(())
 }
 
+/// Adds the lines of the open segment, where there is one.
+fn push_open(text: &mut String, block: Option<&Block>) -> Result<(), AllocError>
+    ensures { OnOk result (string_bytes text.new ≡ string_bytes text.old ++ text_of (open_lines (option_map (λ block. block.now) block.entry))) }
+{
+    match block {
+        Some(block) => block.push_lines(text),
+        None => Ok(()),
+    }
+}
+
 /// Adds a line for each report.
 fn push_reports(text: &mut String, reports: &[Report]) -> Result<(), AllocError>
-    ensures { OnOk result (string_bytes text.new ≡ string_bytes text.old ++ flat_map report_line reports.now) }
+    ensures { OnOk result (string_bytes text.new ≡ string_bytes text.old ++ text_of (map says.RenditionReport reports.now)) }
 {
     for report in reports {
-        let last = Place {
+        let line = ll_line::Report {
+            uri: Uri::Text(report.uri.as_str()),
             number: report.number,
             index: report.index,
         };
-        push_report_line(text, Uri::Text(report.uri.as_str()), last)?;
+        push_line(text, &Line::RenditionReport(line))?;
     }
     Ok(())
+}
+
+/// Adds the hint of the part that comes next, or the end.
+fn push_last_line(text: &mut String, hint: Option<&Text>) -> Result<(), AllocError>
+    ensures { OnOk result (string_bytes text.new ≡ string_bytes text.old ++ line_text (last_line (option_map (λ uri. uri.now) hint.entry))) }
+{
+    match hint {
+        Some(uri) => push_line(text, &Line::Hint(Uri::Text(uri.as_str()))),
+        None => push_line(text, &Line::EndList),
+    }
 }

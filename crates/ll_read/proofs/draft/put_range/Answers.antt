@@ -1,6 +1,6 @@
 -- A key that the map lacks comes after the others.
 use Rattle.std.proofs.Common.{[], ◌∷◌, ◌++◌, ap, map, ◌∙◌}
-use Rattle.ll_page.specs.Playlist.{DateRangeLine}
+use Rattle.ll_line.specs.Line.{DateRangeLine}
 use Rattle.ll_read.specs.Ranges.{range_at}
 use Rattle.ll_read.proofs.Entries.{put_last}
 use Rattle.ll_read.proofs.draft.put_range.Goals as goal

@@ -1,7 +1,7 @@
 -- A line that may stand there takes the draft on.
 use Rattle.std.proofs.Common.{◌∙◌, ap}
 use Rattle.ll_read.specs.Draft.{put}
-use Rattle.ll_read.specs.Meaning.{meant}
+use Rattle.ll_line.specs.Meaning.{meant}
 use Rattle.ll_read.proofs.Steps.{step}
 use Rattle.ll_read.proofs.reading.grown.Goals as goal
 

@@ -1,7 +1,7 @@
 -- A line more is read, or is the first that can't stand in its place.
 use Rattle.std.proofs.Common.{◌++◌, ◌+◌, take, refl, ap, sym, ◌∙◌, arith, rules}
 use Rattle.ll_attr.specs.Words.{parts_at}
-use Rattle.ll_read.specs.Lines.{line_in}
+use Rattle.ll_line.specs.Formats.{line_in}
 use Rattle.ll_read.specs.Ranges.{ranges_in, ranges_of}
 use Rattle.ll_read.specs.Shape.{start}
 use Rattle.ll_read.proofs.Before.{one_line}

@@ -1,6 +1,6 @@
 -- One line more, by the shape.
-use Rattle.ll_read.specs.Lines.{line_in}
-use Rattle.ll_read.specs.Meaning.{meant}
+use Rattle.ll_line.specs.Formats.{line_in}
+use Rattle.ll_line.specs.Meaning.{meant}
 use Rattle.ll_read.proofs.Onward.{step_none, step_some}
 use Rattle.ll_read.proofs.reading.step.Goals as goal
 
