@@ -4,7 +4,7 @@ use Rattle.ll_page.specs.Playlist.{Skip, Playlist}
 use Rattle.ll_page.specs.Spelling.{spelling}
 use Rattle.ll_read.specs.Outline.{outline_of}
 use Rattle.ll_read.specs.declared.fault.ReadFault.{ReadFault}
-use Rattle.ll_apply.specs.Applied.{applied_by, put_upon, unless_missing}
+use Rattle.ll_apply.specs.Applied.{applied_by, updated, unless_missing}
 use Rattle.ll_apply.specs.Found.{IsAnswer, IsFound, missing_of, missing_by_skip, merged, merged_by}
 use Rattle.ll_apply.specs.Texts.{and_then, base_of, chain, delta_of, unless_skipping}
 use Rattle.ll_apply.specs.declared.fault.ApplyFault.{ApplyFault}
@@ -20,11 +20,11 @@ bad-delta (Ok b) y f o found e = ap (λ r. chain (Ok b) r) e
 
 lacks_by : (s : Option Skip) (b d : Playlist) (n : ℕ) → Some n ≡ missing_by_skip s b d → applied_by s b d ≡ Err (NotRecent n)
 lacks_by None b d n e = absurd (cc)
-lacks_by (Some skip) b d n e = ap (λ o. unless_missing o (put_upon b d skip)) (sym e)
+lacks_by (Some skip) b d n e = ap (λ o. unless_missing o (updated b d skip)) (sym e)
 
 has_by : (s : Option Skip) (b d : Playlist) → None ≡ missing_by_skip s b d → applied_by s b d ≡ Ok (merged_by s b d)
 has_by None b d e = refl
-has_by (Some skip) b d e = ap (λ o. unless_missing o (put_upon b d skip)) (sym e)
+has_by (Some skip) b d e = ap (λ o. unless_missing o (updated b d skip)) (sym e)
 
 -- where a number is missing
 pub not-recent : (x y : Result Playlist ApplyFault) (n : ℕ) (o u : Found) → IsFound o x → IsFound u y

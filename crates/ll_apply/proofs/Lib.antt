@@ -1,6 +1,7 @@
 pub mod AppliedTexts
 pub mod Chain
 pub mod FoundLemmas
+pub mod Ids
 pub mod MissingLemmas
 pub mod OrderLemmas
 pub mod OutlineLemmas

@@ -3,7 +3,7 @@ use Rattle.std.proofs.Common.{◌≡◌, ℕ, zero, suc, ◌+◌, ◌≤◌, ◌
 use Rattle.std.proofs.lemmas.Bool.Decides.{nat_tests}
 use Rattle.ll_page.specs.Playlist.{Playlist}
 use Rattle.ll_apply.specs.declared.fault.ApplyFault.TheVariants.{NotRecent}
-use Rattle.ll_apply.specs.Applied.{applied_by, missing, missing_by, has, unless_missing, put_upon}
+use Rattle.ll_apply.specs.Applied.{applied_by, missing, missing_by, has, unless_missing, updated}
 use Rattle.ll_apply.specs.NotRecent.{IsLeastMissing, NotRecentLaw}
 
 missing_at : (base : Playlist) (m n k : ℕ) (b : Bool) → has base m ≡ b → (missing base (m + 1) n ≡ Some k → IsLeastMissing base (m + 1) n k)
@@ -35,7 +35,7 @@ missed (Some m) p number h = let same : m ≡ number = grind (arith, h) in ap So
 pub not-recent : NotRecentLaw
 not-recent base delta skip number e h =
     least-missing base delta.sequence skip.count number
-    (missed (missing base delta.sequence skip.count) (put_upon base delta skip) number (ap (λ s. applied_by s base delta) (sym e) ∙ h))
+    (missed (missing base delta.sequence skip.count) (updated base delta skip) number (ap (λ s. applied_by s base delta) (sym e) ∙ h))
 
 -- the numbers that a playlist lacks, by how it lies to the numbers asked for
 

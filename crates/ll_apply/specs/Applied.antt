@@ -60,8 +60,8 @@ abbrev pub ranges_by : Option (List (List ℕ)) → List DateRangeLine → List 
 ranges_by None earlier own = own
 ranges_by (Some removed) earlier own = filter (stays removed own) earlier ++ own
 
-abbrev pub put_upon : Playlist → Playlist → Skip → Playlist
-put_upon base delta skip = record delta {
+abbrev pub updated : Playlist → Playlist → Skip → Playlist
+updated base delta skip = record delta {
   ranges = ranges_by skip.removed base.ranges delta.ranges;
   skipped = None;
   segments = mapped (in_force None (kept base delta.sequence skip.count ++ delta.segments));
@@ -73,7 +73,7 @@ unless_missing None p = Ok p
 
 abbrev pub applied_by : Option Skip → Playlist → Playlist → Result Playlist ApplyFault
 applied_by None base delta = Ok delta
-applied_by (Some skip) base delta = unless_missing (missing base delta.sequence skip.count) (put_upon base delta skip)
+applied_by (Some skip) base delta = unless_missing (missing base delta.sequence skip.count) (updated base delta skip)
 
 -- the playlist that a delta update makes of an earlier one, or why it makes none; a playlist that skips nothing is the
 -- result itself

@@ -1,10 +1,12 @@
 -- For private contracts: what was found of a text, and what comes of it.
-use Rattle.std.specs.Prelude.{◌≡◌, ◌≤◌, ℕ, List, Option, Some, None, Result, Ok, Err, IfSome, IsOk}
+use Rattle.std.specs.Prelude.{◌≡◌, ◌≤◌, ℕ, List, Option, Some, None, Result, Ok, Err, IfSome, IsOk, Bool, bytes_eq}
+use Rattle.std.specs.Borrow.{Bor}
+use Rattle.std.specs.List.{list_any}
 use Rattle.ll_page.specs.Playlist.{Skip, Playlist}
 use Rattle.ll_read.specs.Lines.{number_end}
 use Rattle.ll_read.specs.Outline.{outline_of}
 use Rattle.ll_read.specs.declared.outline.Outline.{Outline}
-use Rattle.ll_apply.specs.Applied.{missing, put_upon}
+use Rattle.ll_apply.specs.Applied.{missing, updated}
 use Rattle.ll_apply.specs.declared.fault.ApplyFault.{ApplyFault}
 use Rattle.ll_apply.specs.declared.fault.ApplyFault.TheVariants.{Memory}
 use Rattle.ll_apply.specs.declared.found.Found.{Found}
@@ -28,7 +30,7 @@ missing_of base delta = missing_by_skip delta.skipped base delta
 
 abbrev pub merged_by : Option Skip → Playlist → Playlist → Playlist
 merged_by None base delta = delta
-merged_by (Some skip) base delta = put_upon base delta skip
+merged_by (Some skip) base delta = updated base delta skip
 
 -- the playlist that an update makes of one that lacks nothing
 abbrev pub merged : Playlist → Playlist → Playlist
@@ -39,3 +41,7 @@ abbrev pub IsAnswer : Result (List ℕ) ApplyFault → Result (List ℕ) ApplyFa
 IsAnswer (Ok text) right = right ≡ Ok text
 IsAnswer (Err Memory) right = IsOk right
 IsAnswer (Err fault) right = right ≡ Err fault
+
+-- whether an id is one of these borrowed texts
+abbrev pub is_among : List ℕ → List (Bor (List ℕ)) → Bool
+is_among id texts = list_any (λ (text : Bor (List ℕ)). bytes_eq id text.now) texts

@@ -33,23 +33,23 @@ pub fn apply(alloc: Global, base: &[u8], delta: &[u8]) -> Result<Text, ApplyFaul
     ensures full { FullLaw }
 {
     match look_at_base(alloc, base) {
-        Ok(base) => read_upon(alloc, &base, delta),
+        Ok(base) => apply_to(alloc, &base, delta),
         Err(fault) => Err(fault),
     }
 }
 
 /// The same of an earlier playlist that was found.
-fn read_upon(alloc: Global, base: &Found, delta: &[u8]) -> Result<Text, ApplyFault>
+fn apply_to(alloc: Global, base: &Found, delta: &[u8]) -> Result<Text, ApplyFault>
     ensures { (x : Result Playlist ApplyFault) → IsFound base.now x → IsAnswer result (chain x (delta_of (playlist_in delta.now))) }
 {
     match look_at_delta(alloc, delta) {
-        Ok(delta) => put_upon(alloc, base, &delta),
+        Ok(delta) => apply_found(alloc, base, &delta),
         Err(fault) => Err(fault),
     }
 }
 
 /// The same of an update that was found.
-fn put_upon(alloc: Global, base: &Found, delta: &Found) -> Result<Text, ApplyFault>
+fn apply_found(alloc: Global, base: &Found, delta: &Found) -> Result<Text, ApplyFault>
     requires { AreRead delta.now.outline }
     ensures { (x y : Result Playlist ApplyFault) → IsFound base.now x → IsFound delta.now y → IsAnswer result (chain x y) }
 {
@@ -90,7 +90,7 @@ fn with_skipped(
     delta: &Playlist,
     skip: &Skip,
 ) -> Result<Text, AllocError>
-    ensures { IfOk result (λ text. text ≡ spelling (spec.put_upon base.now delta.now skip.now)) }
+    ensures { IfOk result (λ text. text ≡ spelling (spec.updated base.now delta.now skip.now)) }
 {
     let from = delta.sequence.saturating_sub(base.sequence) as usize;
     let count = skip.count as usize;

@@ -1,14 +1,16 @@
 //! The date ranges of the playlist that an update makes of an earlier one, as text.
-ghost use Rattle.std.specs.Prelude.{◌≡◌, ◌++◌, OnOk, string_bytes, flat_map, filter};
+ghost use Rattle.std.specs.Prelude.{◌≡◌, ◌++◌, ℕ, List, IfOk, OnOk, string_bytes, flat_map, filter};
 ghost use Rattle.std.specs.Option.{option_map};
 ghost use Rattle.ll_apply.specs.Applied.{ranges_by};
 ghost use Rattle.ll_apply.specs.Applied as spec;
+ghost use Rattle.ll_apply.specs.Found.{is_among};
 ghost use Rattle.ll_page.specs.Spelling.{date_range_line};
 
+use indexmap::IndexSet;
 use ll_attr::Text;
 use ll_page::lines::push_date_range_line;
 use ll_read::{DateRange, Playlist};
-use std::alloc::AllocError;
+use std::alloc::{AllocError, Global};
 
 /// Adds the date ranges: those of the update, where it doesn't say which were taken away; else those of the earlier playlist
 /// that stay, and then the update's.
@@ -37,9 +39,10 @@ fn push_staying(
     ensures { OnOk result (string_bytes text.new ≡ string_bytes text.old
         ++ flat_map date_range_line (filter (spec.stays removed.now delta.now.ranges) base.now.ranges)) }
 {
+    let removed = set_of(*text.allocator(), removed)?;
     for place in 0..base.ranges() {
         if let Some(range) = base.range(place) {
-            if stays(removed, delta, range) {
+            if stays(&removed, delta, range) {
                 push_date_range_line(text, range.id, range.attributes)?;
             }
         }
@@ -48,15 +51,23 @@ fn push_staying(
 }
 
 /// Whether a date range was not taken away, and the update doesn't list it.
-fn stays(removed: &[Text], delta: &Playlist, range: DateRange<'_>) -> bool
-    ensures { result ≡ spec.stays removed.now delta.now.ranges (record { id = range.entry.id.now; attributes = range.entry.attributes.now }) }
+fn stays(removed: &IndexSet<&str>, delta: &Playlist, range: DateRange<'_>) -> bool
+    ensures { (ids : List (List ℕ)) → ((id : List ℕ) → is_among id removed.now.keys ≡ spec.is_one_of id ids)
+        → result ≡ spec.stays ids delta.now.ranges (record { id = range.entry.id.now; attributes = range.entry.attributes.now }) }
 {
-    !is_one_of(range.id, removed) && !delta.has_range(range.id)
+    !removed.contains(range.id) && !delta.has_range(range.id)
 }
 
-/// Whether an id is one of these.
-fn is_one_of(id: &str, ids: &[Text]) -> bool
-    ensures { result ≡ spec.is_one_of id.now ids.now }
+/// These ids as a set.
+fn set_of(alloc: Global, ids: &[Text]) -> Result<IndexSet<&str>, AllocError>
+    ensures { IfOk result (λ set. (id : List ℕ) → is_among id set.keys ≡ spec.is_one_of id ids.now) }
 {
-    ids.iter().any(|other| id == other.as_str())
+    let mut set = IndexSet::new(alloc);
+    for id in ids {
+        match set.insert(id.as_str()) {
+            Ok(_) => {}
+            Err(_) => return Err(AllocError),
+        }
+    }
+    Ok(set)
 }

@@ -1,4 +1,4 @@
--- A delta update, put upon an earlier full playlist, is the later full playlist.
+-- A delta update, applied to an earlier full playlist, is the later full playlist.
 use Rattle.std.proofs.Common.{◌≡◌, ℕ, zero, suc, ◌+◌, ◌-◌, ◌*◌, ◌≤◌, List, ◌++◌, true, false, map, take, drop, length, ◌==◌, None, Ok, refl, ap, sym, ◌∙◌, arith}
 use Rattle.std.proofs.lemmas.List.Elements.{filter-append}
 use Rattle.ll_item.specs.Items.{rendition_of}
@@ -13,7 +13,7 @@ use Rattle.ll_page.specs.Full.{printed, full_playlist, sequence_of}
 use Rattle.ll_page.specs.Delta.{update_of, delta_by}
 use Rattle.ll_page.specs.View.{Seen, seen, asked, kept}
 use Rattle.ll_apply.specs.Applied as spec
-use Rattle.ll_apply.specs.Applied.{applied, missing, mapped, in_force, without_parts, unless_missing, put_upon}
+use Rattle.ll_apply.specs.Applied.{applied, missing, mapped, in_force, without_parts, unless_missing, updated}
 use Rattle.ll_laws.specs.Laws.{CompanionLaw}
 use Rattle.ll_laws.proofs.ItemLemmas.{IsLater, in-order, is-later}
 use Rattle.ll_laws.proofs.MapLemmas.{AreCounted, counted-rows}
@@ -43,7 +43,7 @@ update-law : (v : Seen) (base : Playlist) (n : ℕ) → missing base (full_playl
     → mapped (in_force None (spec.kept base (full_playlist v).sequence (suc n) ++ printed false (drop (suc n) (asked v).window.window))) ≡ (full_playlist v).segments
     → applied base (update_of v (suc n)) ≡ Ok (full_playlist v)
 update-law v base n none same =
-    ap (λ o. unless_missing o (put_upon base (update_of v (suc n)) (record { count = suc n; removed = None }))) none
+    ap (λ o. unless_missing o (updated base (update_of v (suc n)) (record { count = suc n; removed = None }))) none
     ∙ ap (λ ss. Ok (record (full_playlist v) { segments = ss })) same
 
 gap : (first v w : ℕ) → first + w - (first + v) ≡ w - v

@@ -1,4 +1,4 @@
--- A delta update, put upon a full playlist: its numbers are those of the window's rows, and no skipped one is missing.
+-- A delta update, applied to a full playlist: its numbers are those of the window's rows, and no skipped one is missing.
 use Rattle.std.proofs.Common.{◌≡◌, ℕ, zero, suc, ◌+◌, ◌-◌, ◌*◌, ◌≤◌, ◌<◌, List, [], ◌∷◌, ◌++◌, Bool, true, false, nat_lt, drop, length, refl, ap, ◌∙◌, arith}
 use Rattle.std.proofs.lemmas.List.{length-drop}
 use Rattle.ll_item.specs.Settings.{Configuration}

@@ -1,4 +1,4 @@
--- The text of a date range is read as an attribute list: its ID stands in front, and no other attribute has that name.
+-- The text of a date range is read as an attribute list: its ID stands first, and no other attribute has that name.
 use Rattle.std.proofs.Common.{◌≡◌, ℕ, ◌==◌, ◌||◌, Bool, true, false, List, [], ◌∷◌, ◌++◌, refl, ap, sym, ◌∙◌, arith, bytes_eq, codes, Option, Some, None, Ok, if◌then◌else◌}
 use Rattle.std.proofs.lemmas.Bool.{and_parts, or_parts, or_from}
 use Rattle.std.proofs.lemmas.Bool.Decides.{nat_tests}

@@ -1,4 +1,4 @@
--- The segments of a delta update, put upon an earlier playlist, are those of the later playlist.
+-- The segments of a delta update, applied to an earlier playlist, are those of the later playlist.
 use Rattle.std.proofs.Common.{◌≡◌, ℕ, suc, ◌+◌, ◌-◌, ◌≤◌, List, ◌++◌, true, false, map, take, drop, length, None, ap, sym, ◌∙◌, arith}
 use Rattle.std.proofs.lemmas.List.{take-map, drop-map}
 use Rattle.ll_window.specs.Rows.{Row}

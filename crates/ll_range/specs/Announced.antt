@@ -60,7 +60,7 @@ add_refusal now id attributes a =
 abbrev pub remove_refusal : List ℕ → Announced → Option RangeFault
 remove_refusal id a = if is_listed id a then None else Some IdUnknown
 
--- the first reason for which date ranges refuse an item, or none, where all parts last until now
+-- the first rule of date ranges that refuses an item, or none, where all parts last until now
 abbrev pub refusal_after : ℕ → Announced → Item → Option RangeFault
 refusal_after now a (item.Range rendition id attributes) = add_refusal now id attributes a
 refusal_after now a (item.Unrange rendition id) = remove_refusal id a
@@ -68,6 +68,6 @@ refusal_after now a (item.Part rendition duration independent finish) = None
 refusal_after now a (item.Break rendition) = None
 refusal_after now a (item.End rendition) = None
 
--- the first reason for which date ranges refuse an item after these items of its rendition, or none
+-- the first rule of date ranges that refuses an item after these items of its rendition, or none
 abbrev pub refusal : Configuration → List Item → Item → Option RangeFault
 refusal c before item = refusal_after (end_time before) (announced c before) item

@@ -20,7 +20,7 @@ laid number index (g ∷ gs) open_parts = placed number index g ++ laid (number 
 abbrev numbered : ℕ → ℕ → Part → NumberedPart
 numbered number index p = record { number = number; index = index; part = p }
 
--- a part in front
+-- a part at the start
 laid-put : (b : Bool) (number index : ℕ) (p : Part) (gs : List (List Part)) (rest : List Part)
     → numbered number index p ∷ cond b (laid (number + 1) 0 gs rest) (laid number (index + 1) gs rest)
     ≡ laid number index (put_by b p gs rest).finished (put_by b p gs rest).unfinished

@@ -1,4 +1,4 @@
--- Parts in segments, one more part at the end: what a part does at the end is what it does in front, segment by segment.
+-- Parts in segments, one more part at the end: what a part does at the end is what it does at the start, segment by segment.
 use Rattle.std.proofs.Common.{◌≡◌, List, [], ◌∷◌, ◌++◌, Bool, true, false, refl, ap, ◌∙◌}
 use Rattle.ll_window.specs.declared.part.Part.{Part}
 use Rattle.ll_window.specs.Segments.{Split, split, put_by}
@@ -11,7 +11,7 @@ added_by false s p = record { finished = s.finished; unfinished = s.unfinished +
 abbrev onto : Bool → Part → Split → Split
 onto a q s = put_by a q s.finished s.unfinished
 
--- a part in front and one at the end
+-- a part at the start and one at the end
 both_ends : (a b : Bool) (q p : Part) (gs : List (List Part)) (ps : List Part)
     → onto a q (added_by b (record { finished = gs; unfinished = ps }) p) ≡ added_by b (onto a q (record { finished = gs; unfinished = ps })) p
 both_ends true true q p gs ps = refl

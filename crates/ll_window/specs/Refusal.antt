@@ -40,6 +40,6 @@ abbrev pub refusal_by : Bool → Option PushFault → Option PushFault
 refusal_by true other = Some Ended
 refusal_by false other = other
 
--- the first reason for which an item may not follow these items of its rendition, or none
+-- the first rule that refuses an item after these items of its rendition, or none
 abbrev pub refusal : Configuration → List Item → Item → Option PushFault
 refusal c before item = refusal_by (ended before) (refusal_before_end c before item)

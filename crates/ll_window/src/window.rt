@@ -114,9 +114,9 @@ impl Window {
         })
     }
 
-    /// Adds the next item, or answers the first reason for which it may not follow, or that no memory was found; nothing
-    /// changes then. A date range changes nothing here, and the end alone refuses it. The caller brings the items of one
-    /// rendition alone: which one an item names isn't looked at.
+    /// Adds the next item, or answers the first rule that refuses it, or that memory ran out; nothing changes then. A date range
+    /// changes nothing here, and the end alone refuses it. The caller brings the items of one rendition alone: which one an item
+    /// names isn't looked at.
     pub fn push(&mut self, item: Item) -> Result<(), PushFault>
         ensures accepted { (items : List Item) → self.old ≡ compact self.old.settings items
             → OnOk result ((refusal self.old.settings items item ≡ None)

@@ -1,4 +1,4 @@
--- The laws hold of the definition; a fault of the earlier text is no want of memory.
+-- The laws hold of the definition; a fault of the earlier text is never out of memory.
 use Rattle.std.proofs.Common.{Err}
 use Rattle.ll_read.specs.Reading.{playlist_in}
 use Rattle.ll_apply.specs.Texts.{applied_text, base_of, delta_of}

@@ -11,11 +11,11 @@ loop-place-preserved c =
     elim c.match-range.branch [
       | in-Some+then-stays+in_ok-push_date_range_line w ↦
           next-staying (spec.stays c.args.removed.now c.args.delta.now.ranges) (string_bytes c.loop-place.text) (string_bytes c.match-range.text) _ c.args.base.now.ranges
-          c.loop-place.place _ true w.in-Some.ensures (sym w.stays.ensures ∙ w.if-stays.true)
+          c.loop-place.place _ true w.in-Some.ensures (sym (w.stays.ensures c.args.removed.now c.in_ok-removed.ensures) ∙ w.if-stays.true)
           (ap string_bytes w.text-is ∙ w.in_ok-push_date_range_line.ensures) c.loop-place.invariant
       | in-Some+else-stays w ↦
           next-staying (spec.stays c.args.removed.now c.args.delta.now.ranges) (string_bytes c.loop-place.text) (string_bytes c.match-range.text) _ c.args.base.now.ranges
-          c.loop-place.place _ false w.in-Some.ensures (sym w.stays.ensures ∙ w.if-stays.false)
+          c.loop-place.place _ false w.in-Some.ensures (sym (w.stays.ensures c.args.removed.now c.in_ok-removed.ensures) ∙ w.if-stays.false)
           (ap string_bytes w.text-is ∙ sym (append-nil (string_bytes c.loop-place.text))) c.loop-place.invariant
       | in_default w ↦ absurd (omega (arith, w.in_default.ensures))
     ]

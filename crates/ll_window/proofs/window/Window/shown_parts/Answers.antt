@@ -1,4 +1,4 @@
--- A segment lists its parts just where those after it are near.
+-- A segment lists its parts exactly when those after it are near.
 use Rattle.std.proofs.Common.{sym, ap, ◌∙◌}
 use Rattle.std.specs.Option.{option_copied}
 use Rattle.ll_window.proofs.ReaderLemmas.{after_all, shown_are, none_are, nothing_is}

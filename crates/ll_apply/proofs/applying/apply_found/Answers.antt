@@ -1,7 +1,7 @@
 -- A number is missing, or the playlists that were found come to one.
 use Rattle.std.proofs.Common.{sym, ◌∙◌}
 use Rattle.ll_apply.proofs.Chain.{not-recent, goes, text-of-found}
-use Rattle.ll_apply.proofs.applying.put_upon.Goals as goal
+use Rattle.ll_apply.proofs.applying.apply_found.Goals as goal
 
 pub returns-in-Some : goal.returns-in-Some
 returns-in-Some c x y base delta =
