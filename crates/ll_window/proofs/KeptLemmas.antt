@@ -1,5 +1,5 @@
 -- A window as it is kept, one part more.
-use Rattle.std.proofs.Common.{◌≡◌, ℕ, ◌+◌, ◌*◌, ◌≤◌, List, [], ◌∷◌, ◌++◌, Bool, true, false, cond, length, ◌==◌, Some, None, nat_le, refl, ap, ap₂, sym, subst, ◌∙◌, arith}
+use Rattle.std.proofs.Common.{◌≡◌, ℕ, ◌+◌, ◌*◌, ◌≤◌, List, [], ◌∷◌, ◌++◌, Bool, true, false, cond, length, ◌==◌, None, nat_le, refl, ap, ap₂, sym, subst, ◌∙◌, arith}
 use Rattle.std.proofs.lemmas.Bool.Decides.{nat_tests}
 use Rattle.ll_item.specs.Settings.{Configuration, number_end, last_micro}
 use Rattle.ll_window.specs.declared.finished.Finished.{Finished}
@@ -12,7 +12,7 @@ use Rattle.ll_window.specs.Kept.{AreTimed, IsKept, grown, after, spare}
 use Rattle.ll_window.specs.Refusal.{part_refusal}
 use Rattle.ll_window.specs.Rows.{Row, row, one_if, is_broken, lasting, broken_in}
 use Rattle.ll_window.specs.Segments.{duration}
-use Rattle.ll_window.specs.Step.{with_open, with_part, with_part_by, after_segment, with_end, ended_by, next_place}
+use Rattle.ll_window.specs.Step.{with_open, with_part_by, after_segment, with_end, next_place}
 use Rattle.ll_window.specs.Window.{window_limit, near_limit, gone, window, listed}
 use Rattle.ll_window.proofs.StepLemmas.{duration-snoc, again}
 use Rattle.ll_window.proofs.SuffixLemmas.{suffix}
@@ -73,11 +73,7 @@ closed_with c w f g qs os q s wide lasts none same items left =
 abbrev pub ending : Progress → Progress
 ending p = record p { ended = true }
 
--- the end, where no segment is open
-pub with_end_alone : (c : Configuration) (f : Finished) (ps : List Part) (p : Progress) (k : Compact) → kept c f ps p ≡ k → ps ≡ [] → kept c f ps (ending p) ≡ with_end k
-with_end_alone c f ps p k is none =
-    ap (λ xs. ended_by xs (kept c f ps p)) (sym none) ∙ ap with_end is
-
+-- the end, where a segment is open
 open_by : (c : Configuration) (f : Finished) (ps : List Part) (p : Progress) → (ps ≡ [] → ⊥)
     → after_segment (kept c f ps (ending p)) ≡ with_end (kept c f ps p)
 open_by c f [] p some = absurd (some refl)
