@@ -1,5 +1,7 @@
 -- The segments that are kept of an earlier playlist, and then those of the update, as they are written.
 use Rattle.std.proofs.Common.{◌≡◌, ◌==◌, ℕ, List, [], ◌∷◌, ◌++◌, true, false, length, arith, map, take, drop, Option, None, refl, ap, sym, ◌∙◌, append_assoc}
+use Rattle.ll_line.specs.Text.{text_of}
+use Rattle.ll_page.proofs.Texts.{texts}
 use Rattle.ll_page.specs.Playlist.{Finished}
 use Rattle.ll_apply.specs.Applied.{in_force, kept, without_parts}
 use Rattle.ll_apply.specs.Order.{both, both_lines, force_after, lines_from, shown}
@@ -37,9 +39,9 @@ shown-none (s ∷ ss) = ap (λ ts. without_parts s ∷ ts) (shown-none ss)
 
 -- a text with the update's segments alone, where none is kept
 pub pushed-own : (old whole : List ℕ) (before : Option (List ℕ)) (kept own : List Finished) → kept ≡ []
-    → whole ≡ old ++ lines_from true None (map (shown true) own) → whole ≡ old ++ both_lines before kept own
+    → whole ≡ old ++ text_of (lines_from true None (map (shown true) own)) → whole ≡ old ++ text_of (both_lines before kept own)
 pushed-own old whole before kept own none is =
-    is ∙ ap (λ ss. old ++ lines_from true None ss) (shown-all own) ∙ ap (λ ss. old ++ both_lines before ss own) (sym none)
+    is ∙ ap (λ ss. old ++ text_of (lines_from true None ss)) (shown-all own) ∙ ap (λ ss. old ++ text_of (both_lines before ss own)) (sym none)
 
 both_by : (before : Option (List ℕ)) (kept own : List Finished) → (kept ≡ [] → ⊥)
     → both_lines before kept own ≡ lines_from true before (map without_parts kept) ++ lines_from false (force_after before kept) own
@@ -48,23 +50,24 @@ both_by before (s ∷ kept) own some = refl
 
 -- a text with the kept segments, and then with the update's
 pub pushed-both : (old middle whole : List ℕ) (before : Option (List ℕ)) (kept own : List Finished) → (kept ≡ [] → ⊥)
-    → middle ≡ old ++ lines_from true before (map (shown false) kept)
-    → whole ≡ middle ++ lines_from false (force_after before kept) (map (shown true) own) → whole ≡ old ++ both_lines before kept own
+    → middle ≡ old ++ text_of (lines_from true before (map (shown false) kept))
+    → whole ≡ middle ++ text_of (lines_from false (force_after before kept) (map (shown true) own)) → whole ≡ old ++ text_of (both_lines before kept own)
 pushed-both old middle whole before kept own some first then =
+    let front = lines_from true before (map without_parts kept) in
     let after = lines_from false (force_after before kept) own in
-    then ∙ ap (λ ss. middle ++ lines_from false (force_after before kept) ss) (shown-all own)
-    ∙ ap (λ text. text ++ after) (first ∙ ap (λ ss. old ++ lines_from true before ss) (shown-none kept))
-    ∙ append_assoc old (lines_from true before (map without_parts kept)) after
-    ∙ ap (λ text. old ++ text) (sym (both_by before kept own some))
+    then ∙ ap (λ ss. middle ++ text_of (lines_from false (force_after before kept) ss)) (shown-all own)
+    ∙ ap (λ text. text ++ text_of after) (first ∙ ap (λ ss. old ++ text_of (lines_from true before ss)) (shown-none kept))
+    ∙ append_assoc old (text_of front) (text_of after)
+    ∙ ap (λ text. old ++ text) (sym (texts front after) ∙ ap text_of (sym (both_by before kept own some)))
 
 -- a text with what was cut off and kept is the definition's
 pub pushed-kept : (old whole : List ℕ) (before : Option (List ℕ)) (from count : ℕ) (base gone kept own : List Finished)
     → before ≡ force_after None gone → gone ≡ take from base → kept ≡ take count (drop from base)
-    → whole ≡ old ++ both_lines before kept own → whole ≡ old ++ both from count base own
+    → whole ≡ old ++ text_of (both_lines before kept own) → whole ≡ old ++ text_of (both from count base own)
 pushed-kept old whole before from count base gone kept own map-is gone-is kept-is is =
-    is ∙ ap (λ uri. old ++ both_lines uri kept own) (map-is ∙ ap (force_after None) gone-is)
-    ∙ ap (λ ss. old ++ both_lines (force_after None (take from base)) ss own) kept-is
-    ∙ ap (λ text. old ++ text) (sym (both-written from count base own))
+    is ∙ ap (λ uri. old ++ text_of (both_lines uri kept own)) (map-is ∙ ap (force_after None) gone-is)
+    ∙ ap (λ ss. old ++ text_of (both_lines (force_after None (take from base)) ss own)) kept-is
+    ∙ ap (λ lines. old ++ text_of lines) (sym (both-written from count base own))
 
 pub no-segments : (ss : List Finished) → (length ss == 0) ≡ true → ss ≡ []
 no-segments [] e = refl

@@ -26,7 +26,7 @@ fn look(alloc: Global, bytes: &[u8]) -> Result<Found, ReadFault>
             playlist: Some(playlist),
         }),
         Err(ReadFault::Memory) => Ok(Found {
-            outline: read_outline(bytes),
+            outline: read_outline(alloc, bytes),
             playlist: None,
         }),
         Err(fault) => Err(fault),

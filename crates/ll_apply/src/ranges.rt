@@ -1,15 +1,16 @@
 //! The date ranges of the playlist that an update makes of an earlier one, as text.
-ghost use Rattle.std.specs.Prelude.{◌≡◌, ◌++◌, ℕ, List, IfOk, OnOk, string_bytes, flat_map, filter};
+ghost use Rattle.std.specs.Prelude.{◌≡◌, ◌++◌, ℕ, List, IfOk, OnOk, string_bytes, map, filter};
 ghost use Rattle.std.specs.Option.{option_map};
 ghost use Rattle.ll_apply.specs.Applied.{ranges_by};
 ghost use Rattle.ll_apply.specs.Applied as spec;
 ghost use Rattle.ll_apply.specs.Found.{is_among};
-ghost use Rattle.ll_page.specs.Spelling.{date_range_line};
+ghost use Rattle.ll_line.specs.Line as says;
+ghost use Rattle.ll_line.specs.Text.{text_of};
 
 use indexmap::IndexSet;
 use ll_attr::Text;
-use ll_page::lines::push_date_range_line;
-use ll_read::{DateRange, Playlist};
+use ll_line::{DateRange, Line, push_line};
+use ll_read::Playlist;
 use std::alloc::{AllocError, Global};
 
 /// Adds the date ranges: those of the update, where it doesn't say which were taken away; else those of the earlier playlist
@@ -21,7 +22,7 @@ pub(crate) fn push_ranges(
     removed: Option<&[Text]>,
 ) -> Result<(), AllocError>
     ensures { OnOk result (string_bytes text.new ≡ string_bytes text.old
-        ++ flat_map date_range_line (ranges_by (option_map (λ ids. ids.now) removed.entry) base.now.ranges delta.now.ranges)) }
+        ++ text_of (map says.DateRange (ranges_by (option_map (λ ids. ids.now) removed.entry) base.now.ranges delta.now.ranges))) }
 {
     if let Some(removed) = removed {
         push_staying(text, base, delta, removed)?;
@@ -37,13 +38,13 @@ fn push_staying(
     removed: &[Text],
 ) -> Result<(), AllocError>
     ensures { OnOk result (string_bytes text.new ≡ string_bytes text.old
-        ++ flat_map date_range_line (filter (spec.stays removed.now delta.now.ranges) base.now.ranges)) }
+        ++ text_of (map says.DateRange (filter (spec.stays removed.now delta.now.ranges) base.now.ranges))) }
 {
     let removed = set_of(*text.allocator(), removed)?;
     for place in 0..base.ranges() {
         if let Some(range) = base.range(place) {
             if stays(&removed, delta, range) {
-                push_date_range_line(text, range.id, range.attributes)?;
+                push_line(text, &Line::DateRange(range))?;
             }
         }
     }

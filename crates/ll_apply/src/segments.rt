@@ -3,11 +3,11 @@ ghost use Rattle.std.specs.Prelude.{◌≡◌, ◌++◌, OnOk, string_bytes, map
 ghost use Rattle.std.specs.Option.{option_map};
 ghost use Rattle.ll_apply.specs.Applied.{or_else, with_map};
 ghost use Rattle.ll_apply.specs.Order.{both, both_lines, force_after, lines_from, shown};
+ghost use Rattle.ll_line.specs.Text.{text_of};
 ghost use Rattle.ll_page.specs.Spelling.{segment_lines};
 
 use ll_attr::Micros;
-use ll_page::Uri;
-use ll_page::lines::*;
+use ll_line::{DateTime, Line, Uri, push_line};
 use ll_read::Finished;
 use std::alloc::AllocError;
 
@@ -20,7 +20,7 @@ pub(crate) fn push_segments(
     count: usize,
     own: &[Finished],
 ) -> Result<(), AllocError>
-    ensures { OnOk result (string_bytes text.new ≡ string_bytes text.old ++ both from count base.now own.now) }
+    ensures { OnOk result (string_bytes text.new ≡ string_bytes text.old ++ text_of (both from count base.now own.now)) }
 {
     let (gone, kept) = split_kept(base, from, count);
     push_both(text, map_after(None, gone), kept, own)
@@ -44,7 +44,7 @@ fn push_both(
     own: &[Finished],
 ) -> Result<(), AllocError>
     ensures { OnOk result (string_bytes text.new ≡ string_bytes text.old
-        ++ both_lines (option_map (λ uri. uri.now) before.entry) kept.now own.now) }
+        ++ text_of (both_lines (option_map (λ uri. uri.now) before.entry) kept.now own.now)) }
 {
     if kept.is_empty() {
         return push_in_order(text, own, None, true, true);
@@ -83,7 +83,7 @@ fn push_in_order(
     with_parts: bool,
 ) -> Result<(), AllocError>
     ensures { OnOk result (string_bytes text.new ≡ string_bytes text.old
-        ++ lines_from leads (option_map (λ uri. uri.now) before.entry) (map (shown with_parts) segments.now)) }
+        ++ text_of (lines_from leads (option_map (λ uri. uri.now) before.entry) (map (shown with_parts) segments.now))) }
 {
     let (mut map, mut leads) = (before, leads);
     for segment in segments {
@@ -103,19 +103,21 @@ fn push_segment(
     with_parts: bool,
 ) -> Result<(), AllocError>
     ensures { OnOk result (string_bytes text.new ≡ string_bytes text.old
-        ++ segment_lines (with_map (option_map (λ uri. uri.now) map.entry) (shown with_parts segment.now))) }
+        ++ text_of (segment_lines (with_map (option_map (λ uri. uri.now) map.entry) (shown with_parts segment.now)))) }
 {
-    push_broken_line(text, segment.block.broken)?;
-    if let Some(uri) = map {
-        push_map_line(text, Uri::Text(uri))?;
+    if segment.block.broken {
+        push_line(text, &Line::Discontinuity)?;
     }
-    push_spelled_time_line(text, segment.block.time.as_str())?;
+    if let Some(uri) = map {
+        push_line(text, &Line::Map(Uri::Text(uri)))?;
+    }
+    push_line(
+        text,
+        &Line::Time(DateTime::Text(segment.block.time.as_str())),
+    )?;
     if with_parts {
         segment.block.push_parts(text)?;
     }
-    push_finished_lines(
-        text,
-        Micros(segment.duration),
-        Uri::Text(segment.uri.as_str()),
-    )
+    push_line(text, &Line::Duration(Micros(segment.duration)))?;
+    push_line(text, &Line::Uri(Uri::Text(segment.uri.as_str())))
 }
