@@ -24,7 +24,7 @@ use std::str;
 pub(crate) enum Unread {
     /// No script has this line in its place.
     BadLine,
-    /// No memory was found.
+    /// Out of memory.
     Memory,
 }
 

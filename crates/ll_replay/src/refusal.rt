@@ -27,7 +27,7 @@ pub enum Refusal {
     IdUnknown,
     /// The channel has taken 2^60 events.
     RecordFull,
-    /// No memory was found.
+    /// Out of memory.
     Memory,
     /// A publisher's line that isn't of its form.
     BadLine,
