@@ -2,9 +2,9 @@
 use Rattle.std.proofs.Common.{◌≡◌, ◌≤◌, ℕ, List, true, Option, Some, None, is_some, IfSome, Result, Ok, Err, refl, ap, sym, subst, ◌∙◌}
 use Rattle.std.specs.Option.{option_map}
 use Rattle.ll_page.specs.Playlist.{Skip, Playlist}
-use Rattle.ll_read.specs.Lines.{number_end}
+use Rattle.ll_line.specs.Formats.{largest_number}
 use Rattle.ll_read.specs.Outline.{outline_of}
-use Rattle.ll_read.specs.Readable.{Where}
+use Rattle.ll_format.specs.Format.{Where}
 use Rattle.ll_read.specs.Reading.{playlist_in}
 use Rattle.ll_read.specs.declared.fault.ReadFault.{ReadFault}
 use Rattle.ll_read.specs.declared.outline.Outline.{Outline}
@@ -23,11 +23,11 @@ pub base-skips : (r : Result Playlist ReadFault) (f : Found) → IsFound f r →
 base-skips (Err fault) f found e = absurd found
 base-skips (Ok p) f found e = skips_by p.skipped p (ap (λ (o : Outline). is_some o.skipped) (sym found.0) ∙ e)
 
-counted : (s : Option Skip) → Where (λ (s : Skip). s.count ≤ number_end) s → IfSome (option_map (λ (s : Skip). s.count) s) (λ n. n ≤ number_end)
+counted : (s : Option Skip) → Where (λ (s : Skip). s.count ≤ largest_number) s → IfSome (option_map (λ (s : Skip). s.count) s) (λ n. n ≤ largest_number)
 counted None h = tt
 counted (Some skip) h = h
 
-within : (o : Outline) (p : Playlist) → o ≡ outline_of p → (p.sequence ≤ number_end) × Where (λ (s : Skip). s.count ≤ number_end) p.skipped → AreRead o
+within : (o : Outline) (p : Playlist) → o ≡ outline_of p → (p.sequence ≤ largest_number) × Where (λ (s : Skip). s.count ≤ largest_number) p.skipped → AreRead o
 within o p e h = subst (λ u. AreRead u) (sym e) (h.0, counted p.skipped h.1)
 
 read_by : (text : List ℕ) (r : Result Playlist ReadFault) (f : Found) → playlist_in text ≡ r → IsFound f r → AreRead f.outline

@@ -3,7 +3,7 @@ use Rattle.std.specs.Prelude.{◌≡◌, ◌≤◌, ℕ, List, Option, Some, Non
 use Rattle.std.specs.Borrow.{Bor}
 use Rattle.std.specs.List.{list_any}
 use Rattle.ll_page.specs.Playlist.{Skip, Playlist}
-use Rattle.ll_read.specs.Lines.{number_end}
+use Rattle.ll_line.specs.Formats.{largest_number}
 use Rattle.ll_read.specs.Outline.{outline_of}
 use Rattle.ll_read.specs.declared.outline.Outline.{Outline}
 use Rattle.ll_apply.specs.Applied.{missing, updated}
@@ -18,7 +18,7 @@ IsFound f (Ok p) = (f.outline ≡ outline_of p) × IfSome f.playlist (λ q. q �
 
 -- numbers that were read are at most this large
 abbrev pub AreRead : Outline → Type 0
-AreRead o = (o.sequence ≤ number_end) × IfSome o.skipped (λ n. n ≤ number_end)
+AreRead o = (o.sequence ≤ largest_number) × IfSome o.skipped (λ n. n ≤ largest_number)
 
 abbrev pub missing_by_skip : Option Skip → Playlist → Playlist → Option ℕ
 missing_by_skip None base delta = None

@@ -10,7 +10,7 @@ use Rattle.ll_item.specs.declared.item.Item.{Item}
 use Rattle.ll_replay.specs.declared.act.Want.{Want}
 use Rattle.ll_replay.specs.Answers.{no_line, ok_line, text_reply, unavailable_reply, told}
 use Rattle.ll_replay.specs.Events.{Event, Publish, Ask, items, refusal, full_by}
-use Rattle.ll_replay.specs.Kept.{Kept, KeptChannel, Stands, kept, kept_channel}
+use Rattle.ll_replay.specs.Kept.{Kept, KeptChannel, Stands, kept_world, kept_channel}
 use Rattle.ll_replay.specs.Cuts.{IsCutBetween}
 use Rattle.ll_replay.specs.Stream.{AppendsPrefix, StopsBetween}
 use Rattle.ll_replay.specs.World.{World, Channel, act, count_end, get_at, got, happens, offer_at, offered, wanted_text, with_event}
@@ -59,8 +59,8 @@ up_to_end n s t m e f = omega arith
 
 -- an event of the channel at a place
 pub kept-happens : (w : World) (place : ℕ) (c : Channel) (e : Event) (ks : List KeptChannel) (lines : ℕ) (last : Option ℕ) (events replies : ℕ)
-    → slice_get w.channels place ≡ Some c → made ks lines last events replies ≡ kept w
-    → made (slice_set ks place (kept_channel (with_event e c))) lines last (min (events + 1) count_end) replies ≡ kept (happens w place c e)
+    → slice_get w.channels place ≡ Some c → made ks lines last events replies ≡ kept_world w
+    → made (slice_set ks place (kept_channel (with_event e c))) lines last (min (events + 1) count_end) replies ≡ kept_world (happens w place c e)
 kept-happens w place c e ks lines last events replies at h =
     let channels : slice_set ks place (kept_channel (with_event e c)) ≡ map kept_channel (slice_set w.channels place (with_event e c)) =
     ap (λ (k : Kept). slice_set k.channels place (kept_channel (with_event e c))) h ∙ sym (map-set kept_channel w.channels place (with_event e c)) in
@@ -73,14 +73,14 @@ none_past : (cs : List Channel) (place : ℕ) (o : Option Channel) → slice_get
 none_past cs place None e h = refl
 none_past cs place (Some c) e h = absurd (omega (arith, h, slice_get_within cs place c e))
 
-past_by : (w : World) (place : ℕ) (i : Item) (o : Option Channel) → o ≡ None → (kept w ≡ kept (offer_at w place i o)) × ((offer_at w place i o).text ≡ w.text ++ [])
+past_by : (w : World) (place : ℕ) (i : Item) (o : Option Channel) → o ≡ None → (kept_world w ≡ kept_world (offer_at w place i o)) × ((offer_at w place i o).text ≡ w.text ++ [])
 past_by w place i None e = (refl, sym (append-nil w.text))
 past_by w place i (Some c) e = cc
 
 -- an item for a place where no channel stands
 pub offer-past : (w : World) (place : ℕ) (i : Item) (ks : List KeptChannel) (lines : ℕ) (last : Option ℕ) (events replies : ℕ)
-    → made ks lines last events replies ≡ kept w → length ks ≤ place
-    → (kept w ≡ kept (act w (Offer place i))) × ((act w (Offer place i)).text ≡ w.text ++ [])
+    → made ks lines last events replies ≡ kept_world w → length ks ≤ place
+    → (kept_world w ≡ kept_world (act w (Offer place i))) × ((act w (Offer place i)).text ≡ w.text ++ [])
 offer-past w place i ks lines last events replies h past =
     let long = length-map w.channels kept_channel in
     let same : length ks ≡ length (map kept_channel w.channels) = ap (λ (k : Kept). length k.channels) h in
@@ -88,31 +88,31 @@ offer-past w place i ks lines last events replies h past =
 
 -- an item that its channel accepts
 pub offer-accepted : (w : World) (place : ℕ) (i : Item) (ks ds new : List KeptChannel) (lines : ℕ) (last : Option ℕ) (events replies n : ℕ) (line : List ℕ)
-    → made ks lines last events replies ≡ kept w → ds ≡ ks → place < length ds
+    → made ks lines last events replies ≡ kept_world w → ds ≡ ks → place < length ds
     → ((c : Channel) → slice_get ds place ≡ Some (kept_channel c) → (refusal c.settings c.events i ≡ None) × (n ≡ length (items c.events) + 1)
     × (new ≡ slice_set ds place (kept_channel (with_event (Publish i) c))))
     → line ≡ ok_line n
-    → (made new lines last (min (events + 1) count_end) replies ≡ kept (act w (Offer place i))) × ((act w (Offer place i)).text ≡ w.text ++ line)
+    → (made new lines last (min (events + 1) count_end) replies ≡ kept_world (act w (Offer place i))) × ((act w (Offer place i)).text ≡ w.text ++ line)
 offer-accepted w place i ks ds new lines last events replies n line h same within says told =
     let c = channel-at w ds place (same ∙ ap (λ (k : Kept). k.channels) h) within in
     let s = says c.0 c.2 in
     let is : act w (Offer place i) ≡ offered w place c.0 i None = ap (offer_at w place i) c.1 ∙ ap (offered w place c.0 i) s.0 in (
       ap (λ xs. made xs lines last (min (events + 1) count_end) replies) (s.2 ∙ ap (λ xs. slice_set xs place (kept_channel (with_event (Publish i) c.0))) same)
-          ∙ kept-happens w place c.0 (Publish i) ks lines last events replies c.1 h ∙ sym (ap kept is),
+          ∙ kept-happens w place c.0 (Publish i) ks lines last events replies c.1 h ∙ sym (ap kept_world is),
       ap (λ (v : World). v.text) is ∙ ap (λ t. w.text ++ t) (ap ok_line (sym s.1) ∙ sym told),
     )
 
 -- an item that its channel refuses
 pub offer-refused : (w : World) (place : ℕ) (i : Item) (ks ds new : List KeptChannel) (lines : ℕ) (last : Option ℕ) (events replies : ℕ) (r : Refusal) (line : List ℕ)
-    → made ks lines last events replies ≡ kept w → ds ≡ ks → place < length ds
+    → made ks lines last events replies ≡ kept_world w → ds ≡ ks → place < length ds
     → ((c : Channel) → slice_get ds place ≡ Some (kept_channel c) → (r ≢ refused.Memory → refusal c.settings c.events i ≡ Some r) × (new ≡ ds))
     → r ≢ refused.Memory → line ≡ no_line r
-    → (made new lines last events replies ≡ kept (act w (Offer place i))) × ((act w (Offer place i)).text ≡ w.text ++ line)
+    → (made new lines last events replies ≡ kept_world (act w (Offer place i))) × ((act w (Offer place i)).text ≡ w.text ++ line)
 offer-refused w place i ks ds new lines last events replies r line h same within says other told =
     let c = channel-at w ds place (same ∙ ap (λ (k : Kept). k.channels) h) within in
     let s = says c.0 c.2 in
     let is : act w (Offer place i) ≡ offered w place c.0 i (Some r) = ap (offer_at w place i) c.1 ∙ ap (offered w place c.0 i) (s.0 other) in (
-      ap (λ xs. made xs lines last events replies) (s.1 ∙ same) ∙ h ∙ sym (ap kept is),
+      ap (λ xs. made xs lines last events replies) (s.1 ∙ same) ∙ h ∙ sym (ap kept_world is),
       ap (λ (v : World). v.text) is ∙ ap (λ t. w.text ++ t) (sym told),
     )
 
@@ -124,26 +124,26 @@ chosen_past r n x y h = let not : nat_lt r n ≡ false = grind (arith, nat_tests
 
 -- a request for a rendition that is not there
 pub get-nowhere : (w : World) (id place : ℕ) (want : Want) (ks ds new : List KeptChannel) (lines : ℕ) (last : Option ℕ) (events replies : ℕ)
-    → made ks lines last events replies ≡ kept w → ds ≡ ks → place < length ds
+    → made ks lines last events replies ≡ kept_world w → ds ≡ ks → place < length ds
     → ((c : Channel) → slice_get ds place ≡ Some (kept_channel c) → (length c.settings.renditions ≤ want.rendition) × (new ≡ ds))
-    → (made new lines last events replies ≡ kept (act w (Get id place want))) × ((act w (Get id place want)).text ≡ w.text ++ [])
+    → (made new lines last events replies ≡ kept_world (act w (Get id place want))) × ((act w (Get id place want)).text ≡ w.text ++ [])
 get-nowhere w id place want ks ds new lines last events replies h same within says =
     let c = channel-at w ds place (same ∙ ap (λ (k : Kept). k.channels) h) within in
     let s = says c.0 c.2 in
     let is : act w (Get id place want) ≡ w =
     ap (get_at w id place want) c.1
     ∙ chosen_past want.rendition (length c.0.settings.renditions) (got w id place c.0 want (full_by c.0.events)) w s.0 in (
-      ap (λ xs. made xs lines last events replies) (s.1 ∙ same) ∙ h ∙ sym (ap kept is),
+      ap (λ xs. made xs lines last events replies) (s.1 ∙ same) ∙ h ∙ sym (ap kept_world is),
       ap (λ (v : World). v.text) is ∙ sym (append-nil w.text),
     )
 
 -- a request that gets the text of its playlist
 pub get-text : (w : World) (id place : ℕ) (want : Want) (ks ds new : List KeptChannel) (lines : ℕ) (last : Option ℕ) (events replies : ℕ) (text line : List ℕ)
-    → made ks lines last events replies ≡ kept w → ds ≡ ks → place < length ds
+    → made ks lines last events replies ≡ kept_world w → ds ≡ ks → place < length ds
     → ((c : Channel) → slice_get ds place ≡ Some (kept_channel c) → (want.rendition < length c.settings.renditions) × (full_by c.events ≡ None)
     × (text ≡ wanted_text c.settings (items c.events) want) × (new ≡ slice_set ds place (kept_channel (with_event (Ask want) c))))
     → line ≡ text_reply id text
-    → (made new lines (Some id) (min (events + 1) count_end) (min (replies + 1) count_end) ≡ kept (act w (Get id place want)))
+    → (made new lines (Some id) (min (events + 1) count_end) (min (replies + 1) count_end) ≡ kept_world (act w (Get id place want)))
     × ((act w (Get id place want)).text ≡ w.text ++ line)
 get-text w id place want ks ds new lines last events replies text line h same within says told =
     let c = channel-at w ds place (same ∙ ap (λ (k : Kept). k.channels) h) within in
@@ -155,17 +155,17 @@ get-text w id place want ks ds new lines last events replies text line h same wi
     let more = up_to_end replies w.replies (w.replies + 1) count_end (ap (λ (k : Kept). k.replies) h) refl in (
       ap₂ (λ xs n. made xs lines (Some id) (min (events + 1) count_end) n) (s.3 ∙ ap (λ xs. slice_set xs place (kept_channel (with_event (Ask want) c.0))) same) more
           ∙ ap (λ (k : Kept). made k.channels k.lines (Some id) k.events (min (w.replies + 1) count_end)) (kept-happens w place c.0 (Ask want) ks lines last events replies c.1 h)
-          ∙ sym (ap kept is),
+          ∙ sym (ap kept_world is),
       ap (λ (v : World). v.text) is ∙ ap (λ t. w.text ++ t) (ap (text_reply id) (sym s.2) ∙ sym told),
     )
 
 -- a request that a full channel refuses
 pub get-refused : (w : World) (id place : ℕ) (want : Want) (ks ds new : List KeptChannel) (lines : ℕ) (last : Option ℕ) (events replies : ℕ) (r : Refusal) (line : List ℕ)
-    → made ks lines last events replies ≡ kept w → ds ≡ ks → place < length ds
+    → made ks lines last events replies ≡ kept_world w → ds ≡ ks → place < length ds
     → ((c : Channel) → slice_get ds place ≡ Some (kept_channel c)
     → (r ≢ refused.Memory → (want.rendition < length c.settings.renditions) × (full_by c.events ≡ Some r)) × (new ≡ ds))
     → r ≢ refused.Memory → line ≡ unavailable_reply id r
-    → (made new lines (Some id) events (min (replies + 1) count_end) ≡ kept (act w (Get id place want)))
+    → (made new lines (Some id) events (min (replies + 1) count_end) ≡ kept_world (act w (Get id place want)))
     × ((act w (Get id place want)).text ≡ w.text ++ line)
 get-refused w id place want ks ds new lines last events replies r line h same within says other told =
     let c = channel-at w ds place (same ∙ ap (λ (k : Kept). k.channels) h) within in
@@ -178,13 +178,13 @@ get-refused w id place want ks ds new lines last events replies r line h same wi
     let more = up_to_end replies w.replies (w.replies + 1) count_end (ap (λ (k : Kept). k.replies) h) refl in (
       ap₂ (λ xs n. made xs lines (Some id) events n) (s.1 ∙ same) more
           ∙ ap (λ (k : Kept). made k.channels k.lines (Some id) k.events (min (w.replies + 1) count_end)) h
-          ∙ sym (ap kept is),
+          ∙ sym (ap kept_world is),
       ap (λ (v : World). v.text) is ∙ ap (λ t. w.text ++ t) (sym told),
     )
 
 -- an act whose answer was written
 pub act-said : (new old : Kept) (a : Act) (answer : Option (String Global)) (r : Result Unit RunFault) (mid after : Option (List ℕ))
-    → ((w : World) → old ≡ kept w → (new ≡ kept (act w a)) × ((act w a).text ≡ w.text ++ told answer))
+    → ((w : World) → old ≡ kept_world w → (new ≡ kept_world (act w a)) × ((act w a).text ≡ w.text ++ told answer))
     → OnOk r (Appends mid after (told answer)) → OnOk r ((w : World) (base : Option (List ℕ)) → Stands old base mid w → Stands new base after (act w a))
 act-said new old a answer (Err f) mid after steps said = tt
 act-said new old a answer (Ok x) mid after steps said = λ w base s.
@@ -196,7 +196,7 @@ act-said new old a answer (Ok x) mid after steps said = λ w base s.
 
 -- a fault in writing the answer to an act
 pub act-cut : (new old : Kept) (a : Act) (answer : Option (String Global)) (r : Result Unit RunFault) (mid after : Option (List ℕ))
-    → ((w : World) → old ≡ kept w → (new ≡ kept (act w a)) × ((act w a).text ≡ w.text ++ told answer))
+    → ((w : World) → old ≡ kept_world w → (new ≡ kept_world (act w a)) × ((act w a).text ≡ w.text ++ told answer))
     → IfErr r (λ f. f ≡ fault.Write) → OnErr r (AppendsPrefix mid after (told answer))
     → IfErr r (λ f. (w : World) (base : Option (List ℕ)) → Stands old base mid w → IsCutBetween base after w (act w a) f)
 act-cut new old a answer (Ok x) mid after steps kind prefix = tt

@@ -9,7 +9,7 @@ use Rattle.std.proofs.lemmas.Option.{get_or_from_slice_get, none-some, same_Some
 use Rattle.std.proofs.lemmas.Slice.Eq.{bytes_eq-Decides}
 use Rattle.ll_item.specs.Settings.{Configuration}
 use Rattle.ll_replay.specs.Kept.{FindsPlaces, KeptChannel, place_in, settings_kept}
-use Rattle.ll_replay.specs.Lines.{channel_named}
+use Rattle.ll_replay.specs.Lines.{channel_of_name}
 
 -- what stands at a place that is known
 pub stands-at : {A : Type 0} (xs : List A) (i : ℕ) (x d : A) → slice_get xs i ≡ Some x → get_or xs i d ≡ x
@@ -39,11 +39,11 @@ settings-at ks i d new e = map-set_same (λ (k : KeptChannel). k.settings) ks i 
 
 -- a map of names finds places among channels of the same settings
 pub FindsPlaces-same : (es : List (String Global × ℕ)) (ks js : List KeptChannel) → settings_kept js ≡ settings_kept ks → FindsPlaces es ks → FindsPlaces es js
-FindsPlaces-same es ks js e finds name = finds name ∙ ap (λ cs. option_map (λ f. f.0) (channel_named cs 0 name)) (sym e)
+FindsPlaces-same es ks js e finds name = finds name ∙ ap (λ cs. option_map (λ f. f.0) (channel_of_name cs 0 name)) (sym e)
 
 named-step : (b : Bool) (cs : List Configuration) (d : Configuration) (first place : ℕ) (name : List ℕ) (c : Configuration)
-    → (channel_named cs (first + 1) name ≡ Some (place, c) → (i : ℕ) × (place ≡ (first + 1) + i) × (slice_get cs i ≡ Some c))
-    → (if b then Some (first, d) else channel_named cs (first + 1) name) ≡ Some (place, c) → (i : ℕ) × (place ≡ first + i) × (slice_get (d ∷ cs) i ≡ Some c)
+    → (channel_of_name cs (first + 1) name ≡ Some (place, c) → (i : ℕ) × (place ≡ (first + 1) + i) × (slice_get cs i ≡ Some c))
+    → (if b then Some (first, d) else channel_of_name cs (first + 1) name) ≡ Some (place, c) → (i : ℕ) × (place ≡ first + i) × (slice_get (d ∷ cs) i ≡ Some c)
 named-step true cs d first place name c next h = let p = some_pair_parts first place d c h in (0, omega (arith, p.0), ap Some p.1)
 named-step false cs d first place name c next h =
     let r = next h in
@@ -51,7 +51,7 @@ named-step false cs d first place name c next h =
     (suc r.0, n, r.2)
 
 -- a channel that is found stands at its place
-named-within : (cs : List Configuration) (first place : ℕ) (name : List ℕ) (c : Configuration) → channel_named cs first name ≡ Some (place, c)
+named-within : (cs : List Configuration) (first place : ℕ) (name : List ℕ) (c : Configuration) → channel_of_name cs first name ≡ Some (place, c)
     → (i : ℕ) × (place ≡ first + i) × (slice_get cs i ≡ Some c)
 named-within [] first place name c e = absurd (none-some (place, c) e)
 named-within (d ∷ cs) first place name c e = named-step (bytes_eq name d.channel) cs d first place name c (named-within cs (first + 1) place name c) e
@@ -66,9 +66,9 @@ kept-of (Some k) c e = (k, refl, same_Some k.settings c e)
 
 -- what stands at the place that a map of names gives
 pub found-at : (es : List (String Global × ℕ)) (ks : List KeptChannel) (name : List ℕ) (place : ℕ) → FindsPlaces es ks → place_in es name ≡ Some place
-    → (k : KeptChannel) × (slice_get ks place ≡ Some k) × (channel_named (settings_kept ks) 0 name ≡ Some (place, k.settings))
+    → (k : KeptChannel) × (slice_get ks place ≡ Some k) × (channel_of_name (settings_kept ks) 0 name ≡ Some (place, k.settings))
 found-at es ks name place finds is =
-    let f = found-first (channel_named (settings_kept ks) 0 name) place (sym is ∙ finds name) in
+    let f = found-first (channel_of_name (settings_kept ks) 0 name) place (sym is ∙ finds name) in
     let w = named-within (settings_kept ks) 0 place name f.0 f.1 in
     let same : w.0 ≡ place = omega (arith, w.1) in
     let at : option_map (λ (k : KeptChannel). k.settings) (slice_get ks place) ≡ Some f.0 =
@@ -78,8 +78,8 @@ found-at es ks name place finds is =
 
 -- a name that the map lacks is no channel's
 pub found-nowhere : (es : List (String Global × ℕ)) (ks : List KeptChannel) (name : List ℕ) → FindsPlaces es ks → place_in es name ≡ None
-    → channel_named (settings_kept ks) 0 name ≡ None
-found-nowhere es ks name finds none = by_place (channel_named (settings_kept ks) 0 name) (sym none ∙ finds name)
+    → channel_of_name (settings_kept ks) 0 name ≡ None
+found-nowhere es ks name finds none = by_place (channel_of_name (settings_kept ks) 0 name) (sym none ∙ finds name)
   where
     by_place : (o : Option (ℕ × Configuration)) → None ≡ option_map (λ f. f.0) o → o ≡ None
     by_place None e = refl
@@ -91,13 +91,13 @@ chosen-or false x o p = refl
 
 -- one more channel, and one more name
 named-push : (cs : List Configuration) (c : Configuration) (first : ℕ) (name : List ℕ)
-    → channel_named (cs ++ c ∷ []) first name ≡ option_or (channel_named cs first name) (if bytes_eq name c.channel then Some (first + length cs, c) else None)
+    → channel_of_name (cs ++ c ∷ []) first name ≡ option_or (channel_of_name cs first name) (if bytes_eq name c.channel then Some (first + length cs, c) else None)
 named-push [] c first name = let e : first ≡ first + 0 = omega arith in ap (λ n. if bytes_eq name c.channel then Some (n, c) else None) e
 named-push (d ∷ cs) c first name =
     let e : (first + 1) + length cs ≡ first + length (d ∷ cs) = omega arith in
     ap (λ o. if bytes_eq name d.channel then Some (first, d) else o)
-    (named-push cs c (first + 1) name ∙ ap (λ n. option_or (channel_named cs (first + 1) name) (if bytes_eq name c.channel then Some (n, c) else None)) e)
-    ∙ chosen-or (bytes_eq name d.channel) (first, d) (channel_named cs (first + 1) name) (if bytes_eq name c.channel then Some (first + length (d ∷ cs), c) else None)
+    (named-push cs c (first + 1) name ∙ ap (λ n. option_or (channel_of_name cs (first + 1) name) (if bytes_eq name c.channel then Some (n, c) else None)) e)
+    ∙ chosen-or (bytes_eq name d.channel) (first, d) (channel_of_name cs (first + 1) name) (if bytes_eq name c.channel then Some (first + length (d ∷ cs), c) else None)
 
 place-or : (o : Option (ℕ × Configuration)) (b : Bool) (n : ℕ) (c : Configuration)
     → option_or (option_map (λ f. f.0) o) (if b then Some n else None) ≡ option_map (λ f. f.0) (option_or o (if b then Some (n, c) else None))
@@ -112,9 +112,9 @@ FindsPlaces-push es fs ks k name n finds same long added m =
     let count : n ≡ 0 + length (settings_kept ks) = let l = length-map ks (λ (c : KeptChannel). c.settings) in omega arith in
     added m
     ∙ ap₂ (λ o t. option_or o (if bytes_eq m t then Some n else None)) (finds m) same
-    ∙ place-or (channel_named (settings_kept ks) 0 m) (bytes_eq m k.settings.channel) n k.settings
-    ∙ ap (λ l. option_map (λ f. f.0) (option_or (channel_named (settings_kept ks) 0 m) (if bytes_eq m k.settings.channel then Some (l, k.settings) else None))) count
-    ∙ ap (option_map (λ f. f.0)) (sym (named-push (settings_kept ks) k.settings 0 m) ∙ ap (λ cs. channel_named cs 0 m) (sym all))
+    ∙ place-or (channel_of_name (settings_kept ks) 0 m) (bytes_eq m k.settings.channel) n k.settings
+    ∙ ap (λ l. option_map (λ f. f.0) (option_or (channel_of_name (settings_kept ks) 0 m) (if bytes_eq m k.settings.channel then Some (l, k.settings) else None))) count
+    ∙ ap (option_map (λ f. f.0)) (sym (named-push (settings_kept ks) k.settings 0 m) ∙ ap (λ cs. channel_of_name cs 0 m) (sym all))
 
 -- a name that is new goes last
 pub place-pushed : (es : List (String Global × ℕ)) (key : String Global) (place : ℕ) (n : List ℕ)

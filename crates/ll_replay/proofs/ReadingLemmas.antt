@@ -15,7 +15,7 @@ use lib.Utf8.{encode}
 use Rattle.ll_attr.specs.Words.{parts_at, words}
 use Rattle.ll_item.specs.Settings.{Configuration}
 use Rattle.std.specs.List.{after_first, before_first, list_any}
-use Rattle.ll_replay.specs.Lines.{acts, channel_named, get_of, is_question, offer, offer_to, rendition_in, skip_of, skipping, target_of, want_in, whole}
+use Rattle.ll_replay.specs.Lines.{acts, channel_of_name, get_of, is_question, offer, offer_to, rendition_in, skip_asked, skipping, target_of, want_in, whole}
 use Rattle.ll_replay.specs.declared.act.Act.TheVariants.{Refuse}
 use Rattle.ll_replay.specs.declared.refusal.Refusal.TheVariants as refused
 
@@ -31,7 +31,7 @@ has-none c text e =
 
 -- a publisher's line is cut at its first space
 pub offer-cut : (channels : List Configuration) (text : List ℕ) (r : Option (Bor (List ℕ) × Bor (List ℕ))) → IsUtf8 text → IsSplitOnceResult 32 text r
-    → MatchOption r (offer channels text ≡ Refuse refused.BadLine) (λ x. offer channels text ≡ offer_to (channel_named channels 0 x.0.now) x.1.now)
+    → MatchOption r (offer channels text ≡ Refuse refused.BadLine) (λ x. offer channels text ≡ offer_to (channel_of_name channels 0 x.0.now) x.1.now)
 offer-cut channels text None u h =
     let utf8 = is_utf8-from_IsUtf8 text u in
     let no = has-none 32 text (split_once_first 32 text None h (lit< tt)) in
@@ -40,7 +40,7 @@ offer-cut channels text (Some x) u h =
     let utf8 = is_utf8-from_IsUtf8 text u in
     let parts = split_once_first 32 text (Some x) h (lit< tt) in
     let yes = has-space text parts.0 in
-    rw (utf8, yes) (ap₂ (λ a b. offer_to (channel_named channels 0 a) b) (sym parts.1) (sym parts.2))
+    rw (utf8, yes) (ap₂ (λ a b. offer_to (channel_of_name channels 0 a) b) (sym parts.1) (sym parts.2))
 
 -- a text has at least one part
 some-part : (c : ℕ) (text : List ℕ) → parts_at c text ≢ []
@@ -53,13 +53,13 @@ only-part c text part e = sym (ap (join_with_byte c) e) ∙ join_with_byte-slice
 -- the last part of a target is the file that every playlist has
 file-is : (channels : List Configuration) (channel rendition file : List ℕ) (parts : List (List ℕ)) → parts_at 47 file ≡ parts
     → target_of channels ([] ∷ channel ∷ rendition ∷ parts)
-    ≡ (if bytes_eq file (codes "live.m3u8") then rendition_in (channel_named channels 0 channel) rendition else None)
+    ≡ (if bytes_eq file (codes "live.m3u8") then rendition_in (channel_of_name channels 0 channel) rendition else None)
 file-is channels channel rendition file [] e = absurd (some-part 47 file e)
 file-is channels channel rendition file (part ∷ []) e =
-    ap (λ f. if bytes_eq f (codes "live.m3u8") then rendition_in (channel_named channels 0 channel) rendition else None) (only-part 47 file part e)
+    ap (λ f. if bytes_eq f (codes "live.m3u8") then rendition_in (channel_of_name channels 0 channel) rendition else None) (only-part 47 file part e)
 file-is channels channel rendition file (part ∷ next ∷ more) e = by_test (bytes_eq file (codes "live.m3u8")) refl
   where
-    by_test : (b : Bool) → bytes_eq file (codes "live.m3u8") ≡ b → None ≡ (if b then rendition_in (channel_named channels 0 channel) rendition else None)
+    by_test : (b : Bool) → bytes_eq file (codes "live.m3u8") ≡ b → None ≡ (if b then rendition_in (channel_of_name channels 0 channel) rendition else None)
     by_test true same =
         let one : codes "live.m3u8" ∷ [] ≡ part ∷ next ∷ more = ap (parts_at 47) (sym ((bytes_eq-Decides file (codes "live.m3u8")).0 same)) ∙ e in
         absurd (omega (arith, ap length one))
@@ -69,14 +69,14 @@ file-is channels channel rendition file (part ∷ next ∷ more) e = by_test (by
 pub target-cut : (channels : List Configuration) (target front path channel rest rendition file : List ℕ) (is_target : Bool)
     → parts_at 47 target ≡ front ∷ parts_at 47 path → parts_at 47 path ≡ channel ∷ parts_at 47 rest → parts_at 47 rest ≡ rendition ∷ parts_at 47 file
     → ((length front == 0) && bytes_eq file (codes "live.m3u8")) ≡ is_target
-    → target_of channels (parts_at 47 target) ≡ (if is_target then rendition_in (channel_named channels 0 channel) rendition else None)
+    → target_of channels (parts_at 47 target) ≡ (if is_target then rendition_in (channel_of_name channels 0 channel) rendition else None)
 target-cut channels target front path channel rest rendition file is_target a b c test =
     ap (target_of channels) (a ∙ ap (λ ps. front ∷ ps) (b ∙ ap (λ ps. channel ∷ ps) c))
     ∙ by_front front
-    ∙ ap (λ b. if b then rendition_in (channel_named channels 0 channel) rendition else None) test
+    ∙ ap (λ b. if b then rendition_in (channel_of_name channels 0 channel) rendition else None) test
   where
     by_front : (front : List ℕ) → target_of channels (front ∷ channel ∷ rendition ∷ parts_at 47 file)
-        ≡ (if (length front == 0) && bytes_eq file (codes "live.m3u8") then rendition_in (channel_named channels 0 channel) rendition else None)
+        ≡ (if (length front == 0) && bytes_eq file (codes "live.m3u8") then rendition_in (channel_of_name channels 0 channel) rendition else None)
     by_front [] = file-is channels channel rendition file (parts_at 47 file) refl
     by_front (b ∷ bs) = let no : (length (b ∷ bs) == 0) ≡ false = grind (arith, nat_tests) in rw no refl
 
@@ -127,4 +127,4 @@ pub whole-target : (channels : List Configuration) (target : List ℕ) (place re
     → Some (place, rendition) ≡ target_of channels (parts_at 47 target) → Some (place, record { rendition = rendition; skip = None }) ≡ want_in channels target
 whole-target channels target place rendition no_query path =
     ap whole path
-    ∙ sym (ap (λ b. if b then skipping (skip_of (after_first is_question target)) (target_of channels (parts_at 47 (before_first is_question target))) else whole (target_of channels (parts_at 47 target))) no_query)
+    ∙ sym (ap (λ b. if b then skipping (skip_asked (after_first is_question target)) (target_of channels (parts_at 47 (before_first is_question target))) else whole (target_of channels (parts_at 47 target))) no_query)

@@ -91,7 +91,7 @@ take-too_long k base written w text s long =
     let is = line-too-long w text s.goes_on long in
     (is.0 ∙ ap (λ (q : Kept). Some (LineTooLong (q.lines + 1))) (sym s.stands), subst (Appends base written) (sym is.1) s.wrote)
 
--- a line that means something, for which no memory was found
+-- out of memory at a line that means something
 pub take-nowhere : (k : Kept) (ds : List KeptChannel) (base written : Option (List ℕ)) (w : World) (text : List ℕ) → Stands k base written w
     → ds ≡ k.channels → length text ≤ 65536 → IsSome (acts (settings_kept ds) k.last_id text) → StopsBetween base written w (line w text)
 take-nowhere k ds base written w text s d short some = by_meaning (acts (settings_kept ds) k.last_id text) refl some

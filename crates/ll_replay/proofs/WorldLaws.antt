@@ -11,7 +11,7 @@ use Rattle.ll_replay.specs.Lines.{acts}
 use Rattle.ll_replay.specs.declared.act.Act.{Act}
 use Rattle.ll_replay.specs.declared.act.Act.TheVariants.{Declare, Offer, Refuse, Get}
 use Rattle.ll_replay.specs.declared.refusal.Refusal.{Refusal}
-use Rattle.ll_replay.specs.World.{World, Channel, Ending, LineTooLong, act, acted, counted, get_at, got, line, line_by, offer_at, offered, read_by, settings_of, wanted_text}
+use Rattle.ll_replay.specs.World.{World, Channel, Ending, LineTooLong, act, acted, counted, get_at, got, line, line_by, offer_at, offered, read_by, all_settings, wanted_text}
 
 -- a world that says more and ends as the first
 abbrev pub Follows : World → World → Type 0
@@ -63,7 +63,7 @@ acted-text w (Some list) = let f = acted-follows w list in (f.0, f.1)
 
 read_by-text : (b : Bool) (w : World) (l : List ℕ) → Adds w (read_by b w l)
 read_by-text true w l = ([], sym (append-nil w.text))
-read_by-text false w l = acted-text (counted w) (acts (settings_of w) w.last_id l)
+read_by-text false w l = acted-text (counted w) (acts (all_settings w) w.last_id l)
 
 line_by-text : (o : Option Ending) (w : World) (l : List ℕ) → Adds w (line_by o w l)
 line_by-text (Some e) w l = ([], sym (append-nil w.text))
@@ -82,7 +82,7 @@ unfolding line
 line-read w l b h e = ap (λ o. line_by o w l) h ∙ ap (λ t. read_by t w l) e
 
 -- a line that isn't too long, by what it means
-pub line-means : (w : World) (l : List ℕ) (o : Option (List Act)) → w.ending ≡ None → length l ≤ 65536 → acts (settings_of w) w.last_id l ≡ o
+pub line-means : (w : World) (l : List ℕ) (o : Option (List Act)) → w.ending ≡ None → length l ≤ 65536 → acts (all_settings w) w.last_id l ≡ o
     → line w l ≡ acted (counted w) o
 line-means w l o goes_on short means =
     let fits : nat_lt 65536 (length l) ≡ false = at_most 65536 (length l) short in

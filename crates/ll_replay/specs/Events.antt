@@ -48,15 +48,15 @@ range_refusal_of range_fault.BadAttribute = refused.BadAttribute
 range_refusal_of range_fault.IdUnknown = refused.IdUnknown
 range_refusal_of range_fault.Memory = refused.Memory
 
-abbrev pub first_of : Option Refusal → Option Refusal → Option Refusal
-first_of (Some reason) later = Some reason
-first_of None later = later
+abbrev pub first_refusal : Option Refusal → Option Refusal → Option Refusal
+first_refusal (Some reason) later = Some reason
+first_refusal None later = later
 
 -- why an item may not follow these items of its rendition, or none: what its window refuses comes first, then what its date
 -- ranges refuse
 unfoldable pub rendition_refusal : Configuration → List Item → Item → Option Refusal
 rendition_refusal c before item =
-    first_of (option_map refusal_of (window.refusal c before item)) (option_map range_refusal_of (range.refusal c before item))
+    first_refusal (option_map refusal_of (window.refusal c before item)) (option_map range_refusal_of (range.refusal c before item))
 
 -- why an item may not follow these items of its channel, or none
 abbrev pub refusal_at : Configuration → List Item → Item → Option Refusal
@@ -69,10 +69,10 @@ refusal_at c before item =
 abbrev pub full_by : List Event → Option Refusal
 full_by events = if nat_le event_end (length events) then Some refused.RecordFull else None
 
-abbrev pub refusal_by : Option Refusal → List Event → Option Refusal
-refusal_by None events = full_by events
-refusal_by (Some reason) events = Some reason
+abbrev pub refusal_or_full : Option Refusal → List Event → Option Refusal
+refusal_or_full None events = full_by events
+refusal_or_full (Some reason) events = Some reason
 
 -- the first reason for which a channel refuses an item after these events, or none
 abbrev pub refusal : Configuration → List Event → Item → Option Refusal
-refusal c events item = refusal_by (refusal_at c (items events) item) events
+refusal c events item = refusal_or_full (refusal_at c (items events) item) events

@@ -7,7 +7,7 @@ use Rattle.ll_item.specs.Settings.{Configuration}
 use Rattle.ll_page.specs.View.{renditions}
 use Rattle.ll_page.specs.declared.rendition.Rendition.{Rendition}
 use Rattle.ll_replay.specs.Events.{items}
-use Rattle.ll_replay.specs.Lines.{channel_named}
+use Rattle.ll_replay.specs.Lines.{channel_of_name}
 use Rattle.ll_replay.specs.World.{Channel, World, count_end}
 
 pub record KeptChannel : Type 0 where
@@ -34,8 +34,8 @@ kept_channel c = record {
 }
 
 -- what is kept of what a script has come to
-abbrev pub kept : World → Kept
-kept w = record {
+abbrev pub kept_world : World → Kept
+kept_world w = record {
   channels = map kept_channel w.channels;
   lines = w.lines;
   last_id = w.last_id;
@@ -45,7 +45,7 @@ kept w = record {
 
 -- a driver stands for what a script has come to, and what was written since base is its text
 pub record Stands (driver : Kept) (base written : Option (List ℕ)) (w : World) : Type 0 where
-  pub stands : driver ≡ kept w
+  pub stands : driver ≡ kept_world w
   pub goes_on : w.ending ≡ None
   pub wrote : Appends base written w.text
 
@@ -58,4 +58,4 @@ place_in entries name = lookup (λ key. bytes_eq name (string_bytes key)) entrie
 
 -- a map gives to each name the place of the first channel of that name
 abbrev pub FindsPlaces : List (String Global × ℕ) → List KeptChannel → Type 0
-FindsPlaces entries channels = (name : List ℕ) → place_in entries name ≡ option_map (λ f. f.0) (channel_named (settings_kept channels) 0 name)
+FindsPlaces entries channels = (name : List ℕ) → place_in entries name ≡ option_map (λ f. f.0) (channel_of_name (settings_kept channels) 0 name)

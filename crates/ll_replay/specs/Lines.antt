@@ -18,9 +18,9 @@ use Rattle.ll_replay.specs.declared.act.Want.{Want}
 use Rattle.ll_replay.specs.declared.refusal.Refusal.TheVariants as refused
 
 -- the place of the channel of this name, and its settings; the first of these channels has this place
-abbrev pub channel_named : List Configuration → ℕ → List ℕ → Option (ℕ × Configuration)
-channel_named [] place name = None
-channel_named (c ∷ more) place name = if bytes_eq name c.channel then Some (place, c) else channel_named more (place + 1) name
+abbrev pub channel_of_name : List Configuration → ℕ → List ℕ → Option (ℕ × Configuration)
+channel_of_name [] place name = None
+channel_of_name (c ∷ more) place name = if bytes_eq name c.channel then Some (place, c) else channel_of_name more (place + 1) name
 
 -- a comment or an empty line
 abbrev pub is_passed_over : List ℕ → Bool
@@ -42,7 +42,7 @@ offer_to (Some channel) line = item_act channel.0 (item_in channel.1 line)
 abbrev pub offer : List Configuration → List ℕ → Act
 offer channels text =
     if is_utf8 text && list_any (λ b. b == 32) text
-    then offer_to (channel_named channels 0 (before_first (λ b. b == 32) text)) (after_first (λ b. b == 32) text)
+    then offer_to (channel_of_name channels 0 (before_first (λ b. b == 32) text)) (after_first (λ b. b == 32) text)
     else Refuse refused.BadLine
 
 abbrev pub rendition_in : Option (ℕ × Configuration) → List ℕ → Option (ℕ × ℕ)
@@ -52,7 +52,7 @@ rendition_in (Some channel) name = option_map (λ rendition. (channel.0, renditi
 -- the places of the channel and the rendition that the path `/CHANNEL/RENDITION/live.m3u8` names
 abbrev pub target_of : List Configuration → List (List ℕ) → Option (ℕ × ℕ)
 target_of channels ([] ∷ channel ∷ rendition ∷ file ∷ []) =
-    if bytes_eq file (codes "live.m3u8") then rendition_in (channel_named channels 0 channel) rendition else None
+    if bytes_eq file (codes "live.m3u8") then rendition_in (channel_of_name channels 0 channel) rendition else None
 target_of channels other = None
 
 abbrev pub rises : Option ℕ → ℕ → Bool
@@ -63,8 +63,8 @@ abbrev pub is_question : ℕ → Bool
 is_question b = b == 63
 
 -- the delta update that a query asks for
-abbrev pub skip_of : List ℕ → Option SkipKind
-skip_of query =
+abbrev pub skip_asked : List ℕ → Option SkipKind
+skip_asked query =
     if bytes_eq query (codes "_HLS_skip=YES") then Some Yes
     else if bytes_eq query (codes "_HLS_skip=v2") then Some V2
     else None
@@ -85,7 +85,7 @@ skipping (Some kind) (Some path) = Some (path.0, record { rendition = path.1; sk
 abbrev pub want_in : List Configuration → List ℕ → Option (ℕ × Want)
 want_in channels target =
     if list_any is_question target
-    then skipping (skip_of (after_first is_question target)) (target_of channels (parts_at 47 (before_first is_question target)))
+    then skipping (skip_asked (after_first is_question target)) (target_of channels (parts_at 47 (before_first is_question target)))
     else whole (target_of channels (parts_at 47 target))
 
 abbrev pub get_by : Option ℕ → Option ℕ → Option (ℕ × Want) → Option Act
@@ -101,7 +101,7 @@ get_of channels last other = None
 -- a channel whose name no other has
 abbrev pub declaration : List Configuration → Result Configuration SettingsFault → Option Act
 declaration channels (Err fault) = None
-declaration channels (Ok c) = if is_none (channel_named channels 0 c.channel) then Some (Declare c) else None
+declaration channels (Ok c) = if is_none (channel_of_name channels 0 c.channel) then Some (Declare c) else None
 
 abbrev pub act_by : List Configuration → Option ℕ → List ℕ → Option (List ℕ) → Option Act
 act_by channels last line (Some text) = get_of channels last (words text)

@@ -7,8 +7,8 @@ abbrev pub channel_line : List ℕ
 channel_line = codes "channel cam target=4 part=1000000 skip=24 window=36 renditions=hi first=0 start=0\n"
 
 -- the lines of a playlist that come first
-abbrev pub header_lines : List ℕ
-header_lines =
+abbrev pub first_lines_of_playlist : List ℕ
+first_lines_of_playlist =
     codes "#EXTM3U\n"
     ++ codes "#EXT-X-VERSION:9\n"
     ++ codes "#EXT-X-TARGETDURATION:4\n"
@@ -19,12 +19,12 @@ header_lines =
 
 -- no item was published
 abbrev pub empty_playlist : List ℕ
-empty_playlist = header_lines ++ codes "#EXT-X-PRELOAD-HINT:TYPE=PART,URI=\"s0.0.m4s\"\n"
+empty_playlist = first_lines_of_playlist ++ codes "#EXT-X-PRELOAD-HINT:TYPE=PART,URI=\"s0.0.m4s\"\n"
 
 -- one part, which is a whole segment
 abbrev pub segment_playlist : List ℕ
 segment_playlist =
-    header_lines
+    first_lines_of_playlist
     ++ codes "#EXT-X-MAP:URI=\"init0.mp4\"\n"
     ++ codes "#EXT-X-PROGRAM-DATE-TIME:1970-01-01T00:00:00.000Z\n"
     ++ codes "#EXT-X-PART:DURATION=1.000000,URI=\"s0.0.m4s\",INDEPENDENT=YES\n"

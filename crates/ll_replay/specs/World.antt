@@ -91,8 +91,8 @@ act w (Get id place want) = get_at w id place want (slice_get w.channels place)
 abbrev pub rest : World → World
 rest w = w
 
-abbrev pub settings_of : World → List Configuration
-settings_of w = map (λ (c : Channel). c.settings) w.channels
+abbrev pub all_settings : World → List Configuration
+all_settings w = map (λ (c : Channel). c.settings) w.channels
 
 abbrev pub acted : World → Option (List Act) → World
 acted w None = record w { ending = Some (BadLine w.lines) }
@@ -107,7 +107,7 @@ longest_line = 65536
 
 abbrev pub read_by : Bool → World → List ℕ → World
 read_by true w text = record (counted w) { ending = Some (LineTooLong (w.lines + 1)) }
-read_by false w text = acted (counted w) (acts (settings_of w) w.last_id text)
+read_by false w text = acted (counted w) (acts (all_settings w) w.last_id text)
 
 abbrev pub line_by : Option Ending → World → List ℕ → World
 line_by (Some ending) w text = w

@@ -4,7 +4,7 @@ ghost use Rattle.std.specs.Option.{option_or};
 ghost use Rattle.ll_replay.specs.Events.{full_by, items, refusal};
 ghost use Rattle.ll_replay.specs.Events as events;
 ghost use Rattle.ll_replay.specs.Kept.{kept_channel, place_in, settings_kept};
-ghost use Rattle.ll_replay.specs.Lines.{channel_named};
+ghost use Rattle.ll_replay.specs.Lines.{channel_of_name};
 ghost use Rattle.ll_replay.specs.World.{wanted_text};
 ghost use Rattle.ll_replay.specs.World as world;
 
@@ -55,8 +55,8 @@ impl Channels {
 
     /// The place of the channel of this name, and its settings.
     pub(crate) fn find(&self, name: &str) -> Option<(usize, &Settings)>
-        ensures { MatchOption result (channel_named (settings_kept self.now) 0 name.now ≡ None)
-            (λ f. channel_named (settings_kept self.now) 0 name.now ≡ Some (f.0, f.1.now)) }
+        ensures { MatchOption result (channel_of_name (settings_kept self.now) 0 name.now ≡ None)
+            (λ f. channel_of_name (settings_kept self.now) 0 name.now ≡ Some (f.0, f.1.now)) }
     {
         let place = *self.places.get(name)?;
         let channel = self.all.get(place)?;

@@ -7,7 +7,7 @@ ghost use Rattle.ll_replay.specs.Events.{items, refusal, full_by};
 ghost use Rattle.ll_replay.specs.Events as events;
 ghost use Rattle.ll_replay.specs.Answers as answers;
 ghost use Rattle.ll_replay.specs.Answers.{told};
-ghost use Rattle.ll_replay.specs.Kept.{Stands, kept, kept_channel};
+ghost use Rattle.ll_replay.specs.Kept.{Stands, kept_world, kept_channel};
 ghost use Rattle.ll_replay.specs.Cuts.{IsCutBetween};
 ghost use Rattle.ll_replay.specs.Stream.{AppendsPrefix};
 
@@ -123,8 +123,8 @@ impl Driver {
 
     /// What an act is answered, where it is answered.
     fn step(&mut self, act: Act) -> Result<Option<String>, AllocError>
-        ensures ok { (w : World) → self.old ≡ kept w → IfOk result (λ a.
-            (self.new ≡ kept (world.act w act)) × ((world.act w act).text ≡ w.text ++ told a)) }
+        ensures ok { (w : World) → self.old ≡ kept_world w → IfOk result (λ a.
+            (self.new ≡ kept_world (world.act w act)) × ((world.act w act).text ≡ w.text ++ told a)) }
         ensures lines { OnOk result (self.new.lines ≡ self.old.lines) }
     {
         match act {
@@ -140,8 +140,8 @@ impl Driver {
 
     /// What an item for the channel at this place is answered.
     fn offer(&mut self, place: usize, item: Item) -> Result<Option<String>, AllocError>
-        ensures ok { (w : World) → self.old ≡ kept w → IfOk result (λ a.
-            (self.new ≡ kept (world.act w (Act.Offer place item))) × ((world.act w (Act.Offer place item)).text ≡ w.text ++ told a)) }
+        ensures ok { (w : World) → self.old ≡ kept_world w → IfOk result (λ a.
+            (self.new ≡ kept_world (world.act w (Act.Offer place item))) × ((world.act w (Act.Offer place item)).text ≡ w.text ++ told a)) }
         ensures lines { OnOk result (self.new.lines ≡ self.old.lines) }
     {
         if place >= self.channels.len() {
@@ -158,8 +158,8 @@ impl Driver {
 
     /// What a request to the channel at this place is answered.
     fn get(&mut self, id: u64, place: usize, want: Want) -> Result<Option<String>, AllocError>
-        ensures ok { (w : World) → self.old ≡ kept w → IfOk result (λ a.
-            (self.new ≡ kept (world.act w (Act.Get id place want))) × ((world.act w (Act.Get id place want)).text ≡ w.text ++ told a)) }
+        ensures ok { (w : World) → self.old ≡ kept_world w → IfOk result (λ a.
+            (self.new ≡ kept_world (world.act w (Act.Get id place want))) × ((world.act w (Act.Get id place want)).text ≡ w.text ++ told a)) }
         ensures lines { OnOk result (self.new.lines ≡ self.old.lines) }
     {
         if place >= self.channels.len() {

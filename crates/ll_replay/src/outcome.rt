@@ -33,7 +33,7 @@ pub enum RunFault {
     /// The reader gave bytes for 2^32 reads.
     #[error("Endless")]
     Endless,
-    /// No memory was found.
+    /// Out of memory.
     #[error("Memory")]
     Memory,
 }

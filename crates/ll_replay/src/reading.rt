@@ -24,7 +24,7 @@ use std::str;
 pub(crate) enum Unread {
     /// No script has this line in its place.
     BadLine,
-    /// No memory was found.
+    /// Out of memory.
     Memory,
 }
 
@@ -159,7 +159,7 @@ fn split_query(target: &str) -> Option<(&str, &str)>
 
 /// The delta update that a query asks for.
 fn read_skip(query: &str) -> Option<SkipKind>
-    ensures { result ≡ spec.skip_of query.now }
+    ensures { result ≡ spec.skip_asked query.now }
 {
     if query == "_HLS_skip=YES" {
         Some(SkipKind::Yes)
@@ -182,7 +182,7 @@ fn read_path(channels: &Channels, path: &str) -> Option<(usize, usize)>
 /// The names of the channel and the rendition in `/CHANNEL/RENDITION/live.m3u8`.
 fn target_names(target: &str) -> Option<(&str, &str)>
     ensures { (channels : List Configuration) → MatchOption result (spec.target_of channels (parts_at 47 target.now) ≡ None)
-        (λ n. spec.target_of channels (parts_at 47 target.now) ≡ spec.rendition_in (spec.channel_named channels 0 n.0.now) n.1.now) }
+        (λ n. spec.target_of channels (parts_at 47 target.now) ≡ spec.rendition_in (spec.channel_of_name channels 0 n.0.now) n.1.now) }
 {
     let (front, path) = cut(target, '/')?;
     let (channel, path) = cut(path, '/')?;
@@ -211,7 +211,7 @@ fn read_declaration(alloc: Global, channels: &Channels, line: &str) -> Result<Op
 
 /// Whether a settings line names a channel that is declared. It takes no memory.
 fn is_declared(channels: &Channels, line: &str) -> bool
-    ensures { (c : Configuration) → settings_in line.now ≡ Ok c → result ≡ is_some (spec.channel_named (settings_kept channels.now) 0 c.channel) }
+    ensures { (c : Configuration) → settings_in line.now ≡ Ok c → result ≡ is_some (spec.channel_of_name (settings_kept channels.now) 0 c.channel) }
 {
     match second_word(line) {
         Some(name) => channels.find(name).is_some(),

@@ -1,5 +1,5 @@
 ghost use Rattle.std.specs.Prelude.{◌≡◌};
-ghost use Rattle.ll_replay.specs.Answers.{code_of, name_of};
+ghost use Rattle.ll_replay.specs.Answers.{refusal_code, refusal_name};
 
 /// Why a publisher's line or a request is refused.
 #[derive(Clone, Copy, Debug, PartialEq, Eq)]
@@ -27,7 +27,7 @@ pub enum Refusal {
     IdUnknown,
     /// The channel has taken 2^60 events.
     RecordFull,
-    /// No memory was found.
+    /// Out of memory.
     Memory,
     /// A publisher's line that isn't of its form.
     BadLine,
@@ -38,7 +38,7 @@ pub enum Refusal {
 impl Refusal {
     /// The number that a publisher reads.
     pub fn code(self) -> u64
-        ensures { result ≡ code_of self }
+        ensures { result ≡ refusal_code self }
     {
         match self {
             Refusal::NoRendition => 1,
@@ -60,7 +60,7 @@ impl Refusal {
 
     /// The name that publishers and players read.
     pub fn name(self) -> &'static str
-        ensures { result.now ≡ name_of self }
+        ensures { result.now ≡ refusal_name self }
     {
         match self {
             Refusal::NoRendition => "NoRendition",

@@ -1,48 +1,52 @@
-use crate::fault::Fault;
+ghost use Rattle.std.specs.Prelude.{◌≡◌, IfOk, MatchResult, Ok, Err, map, string_bytes};
+ghost use Rattle.std.specs.Vec.Iter.{into_iter_items};
+ghost use Rattle.llhls.specs.Commands.{call_of, command_of};
+
+use crate::fault::{Fault, fault_of};
+use ll_attr::Text;
+use std::alloc::{AllocError, Global};
 use std::{env, io};
 
 /// What the program was called to do.
-#[derive(Debug, Drop)]
-pub(crate) enum Command {
+pub(crate) enum Command<'a> {
     Replay,
     /// The names of two files: the earlier playlist, and the delta update.
-    Apply { base: String, delta: String },
+    Apply { base: &'a Text, delta: &'a Text },
 }
 
-impl Command {
-    /// The command that the program's arguments spell. An argument that is no UTF-8 is another use.
-    pub(crate) fn read(rt: &HostRuntime) -> Result<Command, Fault> {
-        match env::args(rt) {
-            Ok(args) => Command::from_words(args),
-            Err(error) if error.kind() == io::ErrorKind::OutOfMemory => Err(Fault::Memory),
-            Err(_) => Err(Fault::Usage),
-        }
-    }
-
-    /// The command that these words spell, the first of which names the program.
-    fn from_words(mut words: env::Args) -> Result<Command, Fault> {
-        let _program = words.next();
-        let name = next_word(&mut words)?;
-        let command = match name.as_str() {
-            "replay" => Command::Replay,
-            "apply" => {
-                let base = next_word(&mut words)?;
-                let delta = next_word(&mut words)?;
-                Command::Apply { base, delta }
+impl<'a> Command<'a> {
+    /// The command that the program's words spell, the first of which names the program.
+    pub(crate) fn of(words: &'a [Text]) -> Result<Command<'a>, Fault>
+        ensures { MatchResult result (λ c. command_of words.now ≡ Ok (call_of c)) (λ f. command_of words.now ≡ Err f) }
+    {
+        match words {
+            [_program, name] if name.as_str() == "replay" => Ok(Command::Replay),
+            [_program, name, base, delta] if name.as_str() == "apply" => {
+                Ok(Command::Apply { base, delta })
             }
-            _ => return Err(Fault::Usage),
-        };
-        match words.next() {
-            None => Ok(command),
-            Some(_) => Err(Fault::Usage),
+            _ => Err(Fault::Usage),
         }
     }
 }
 
-/// The next argument, which has to be there.
-fn next_word(words: &mut env::Args) -> Result<String, Fault> {
-    match words.next() {
-        Some(word) => Ok(word),
-        None => Err(Fault::Usage),
+/// The program's words. One that is no UTF-8 is wrong usage.
+pub(crate) fn words(rt: &HostRuntime) -> Result<Vec<Text>, Fault> {
+    match env::args(rt) {
+        Ok(args) => match texts(rt.alloc(), args) {
+            Ok(words) => Ok(words),
+            Err(AllocError) => Err(Fault::Memory),
+        },
+        Err(error) => Err(fault_of(error.kind(), Fault::Usage)),
     }
+}
+
+/// Words as texts.
+fn texts(alloc: Global, args: env::Args) -> Result<Vec<Text>, AllocError>
+    ensures { IfOk result (λ words. words.items ≡ map string_bytes (into_iter_items args)) }
+{
+    let mut words = Vec::new(alloc);
+    for arg in args {
+        words.push(Text::from_string(arg))?;
+    }
+    Ok(words)
 }

@@ -1,15 +1,16 @@
-ghost use Rattle.std.specs.Prelude.{◌≡◌};
+ghost use Rattle.std.specs.Prelude.{◌≡◌, ◌≢◌};
 ghost use Rattle.llhls.specs.Status.{status_of};
 ghost use Rattle.llhls.specs.Status as spec;
 
 use ll_apply::ApplyFault;
 use ll_replay::RunFault;
+use std::io::ErrorKind;
 use thiserror::Error;
 
 /// Why the program didn't do what it was called to do.
 #[derive(Clone, Copy, Debug, Error)]
 pub(crate) enum Fault {
-    /// It was called in another way than its usage.
+    /// Wrong usage: it was called with other words.
     #[error("usage")]
     Usage,
     /// A file could not be read.
@@ -18,7 +19,7 @@ pub(crate) enum Fault {
     /// Standard output took no more.
     #[error("Write")]
     Write,
-    /// No memory was found for the arguments or a file.
+    /// Out of memory for the arguments or a file.
     #[error("Memory")]
     Memory,
     /// A script was not run to its end.
@@ -30,7 +31,7 @@ pub(crate) enum Fault {
 }
 
 impl Fault {
-    /// The exit status: 2 for a wrong use, 3 for input to blame, 4 for any other.
+    /// The exit status: 2 for wrong usage, 3 for input to blame, 4 for any other.
     pub(crate) fn status(self) -> u8
         ensures { result ≡ status_of self }
     {
@@ -40,6 +41,18 @@ impl Fault {
             Fault::Replay(fault) => replay_status(fault),
             Fault::Apply(fault) => apply_status(fault),
         }
+    }
+}
+
+/// The fault of an error of std: out of memory is always told as such.
+pub(crate) fn fault_of(kind: ErrorKind, otherwise: Fault) -> Fault
+    ensures memory { kind ≡ ErrorKind.OutOfMemory → result ≡ Fault.Memory }
+    ensures other { kind ≢ ErrorKind.OutOfMemory → result ≡ otherwise }
+{
+    if kind == ErrorKind::OutOfMemory {
+        Fault::Memory
+    } else {
+        otherwise
     }
 }
 
@@ -53,7 +66,7 @@ fn replay_status(fault: RunFault) -> u8
     }
 }
 
-/// The exit status of a delta update: 3 for a file to blame, 4 for want of memory.
+/// The exit status of a delta update: 3 for a file to blame, 4 for out of memory.
 fn apply_status(fault: ApplyFault) -> u8
     ensures { result ≡ spec.apply_status fault }
 {

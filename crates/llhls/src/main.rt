@@ -1,16 +1,22 @@
-//! `llhls`: an origin for Low-Latency HLS. `llhls replay` replays a script, `llhls apply BASE DELTA` puts a delta update upon a
+//! `llhls`: an origin for Low-Latency HLS. `llhls replay` replays a script, `llhls apply BASE DELTA` applies a delta update to a
 //! playlist.
 #![tactic(auto)]
 
-ghost use Rattle.std.specs.Prelude.{◌≡◌};
+ghost use Rattle.std.specs.Prelude.{◌≡◌, ◌≢◌, List, ℕ, Ok, Err, IfErr, IsErrOf, IsOk, OnOk};
+ghost use Rattle.std.specs.Io.KnownBytes.{Appends};
+ghost use Rattle.ll_apply.specs.Texts.{applied_text};
+ghost use Rattle.ll_apply.specs.declared.fault.ApplyFault.{ApplyFault};
+ghost use Rattle.ll_apply.specs.declared.fault.ApplyFault.TheVariants as apply_fault;
+ghost use Rattle.ll_replay.specs.declared.outcome.RunFault.{RunFault};
 
 mod command;
 mod fault;
 
-use crate::command::Command;
-use crate::fault::Fault;
+use crate::command::{Command, words};
+use crate::fault::{Fault, fault_of};
 use ll_apply::apply;
 use ll_replay::{CountedReader, CountedWriter, run};
+use std::alloc::Global;
 use std::io::Write;
 use std::marker::Brand;
 use std::process::ExitCode;
@@ -18,16 +24,24 @@ use std::sync::ledger::{Blank, Ledger};
 use std::{fs, io};
 
 fn main(rt: HostRuntime) -> ExitCode {
-    let ended = match Command::read(&rt) {
-        Ok(Command::Replay) => replay::<Brand, Brand>(&rt, Blank::new(2), Blank::new(2)),
-        Ok(Command::Apply { base, delta }) => apply_files(&rt, base.as_str(), delta.as_str()),
-        Err(fault) => Err(fault),
-    };
-    match ended {
+    match called(&rt) {
         Ok(()) => ExitCode::SUCCESS,
         Err(fault) => {
             let _ = eprintln!(rt; "llhls: {fault}");
             ExitCode::from(fault.status())
+        }
+    }
+}
+
+/// Does what the program was called to do.
+fn called(rt: &HostRuntime) -> Result<(), Fault> {
+    let words = words(rt)?;
+    match Command::of(&words)? {
+        Command::Replay => replay::<Brand, Brand>(rt, Blank::new(2), Blank::new(2)),
+        Command::Apply { base, delta } => {
+            let base = read_file(rt, base.as_str())?;
+            let delta = read_file(rt, delta.as_str())?;
+            write_applied(rt.alloc(), &base, &delta, &mut rt.stdout())
         }
     }
 }
@@ -40,6 +54,7 @@ fn replay<L: Ledger, M: Ledger>(rt: &HostRuntime, reads: Blank, writes: Blank) -
     requires writes_name { writes.name ≡ M.name }
     requires writes_parts { writes.parts ≡ M.parts }
     requires writes_two { writes.parts ≡ 2 }
+    ensures { IfErr result (λ f. (fault : RunFault) × (f ≡ Fault.Replay fault)) }
 {
     let mut source: CountedReader<io::Stdin, L> = CountedReader::new(rt.stdin(), reads);
     let mut sink: CountedWriter<io::Stdout, M> = CountedWriter::new(rt.stdout(), writes);
@@ -49,34 +64,39 @@ fn replay<L: Ledger, M: Ledger>(rt: &HostRuntime, reads: Blank, writes: Blank) -
     }
 }
 
-/// Puts the delta update in one file upon the playlist in another; the full playlist goes to standard output. Both files are
-/// read whole before anything else is done.
-fn apply_files(rt: &HostRuntime, base: &str, delta: &str) -> Result<(), Fault> {
-    let base = read_file(rt, base)?;
-    let delta = read_file(rt, delta)?;
-    match apply(rt.alloc(), &base, &delta) {
-        Ok(text) => write_out(rt, text.as_str()),
-        Err(fault) => Err(Fault::Apply(fault)),
-    }
-}
-
 /// All bytes of a file.
 fn read_file(rt: &HostRuntime, path: &str) -> Result<Vec<u8>, Fault> {
     match fs::read(rt, path) {
         Ok(bytes) => Ok(bytes),
-        Err(error) if error.kind() == io::ErrorKind::OutOfMemory => Err(Fault::Memory),
-        Err(_) => Err(Fault::Read),
+        Err(error) => Err(fault_of(error.kind(), Fault::Read)),
     }
 }
 
-/// Writes a text to standard output.
-fn write_out(rt: &HostRuntime, text: &str) -> Result<(), Fault> {
-    let mut out = rt.stdout();
-    match out.write_all(text.as_bytes()) {
-        Ok(()) => match out.flush() {
-            Ok(()) => Ok(()),
-            Err(_) => Err(Fault::Write),
-        },
-        Err(_) => Err(Fault::Write),
+/// Applies a delta update to a playlist, and writes the full playlist.
+fn write_applied<W: Write>(
+    alloc: Global,
+    base: &[u8],
+    delta: &[u8],
+    out: &mut W,
+) -> Result<(), Fault>
+    ensures written { OnOk result ((text : List ℕ) × (applied_text base.now delta.now ≡ Ok text) × Appends (W.contents out.old) (W.contents out.new) text) }
+    ensures refused { (fault : ApplyFault) → IsErrOf result (Fault.Apply fault) → fault ≢ apply_fault.Memory → applied_text base.now delta.now ≡ Err fault }
+    ensures memory { IsErrOf result (Fault.Apply apply_fault.Memory) → IsOk (applied_text base.now delta.now) }
+    ensures kinds { IfErr result (λ f. f ≢ Fault.Write → (fault : ApplyFault) × (f ≡ Fault.Apply fault)) }
+{
+    match apply(alloc, base, delta) {
+        Ok(text) => write_out(text.as_str(), out),
+        Err(fault) => Err(Fault::Apply(fault)),
     }
+}
+
+/// Writes a whole text.
+fn write_out<W: Write>(text: &str, out: &mut W) -> Result<(), Fault>
+    ensures written { OnOk result (Appends (W.contents out.old) (W.contents out.new) text.now) }
+    ensures fault { IfErr result (λ f. f ≡ Fault.Write) }
+{
+    if out.write_all(text.as_bytes()).is_err() || out.flush().is_err() {
+        return Err(Fault::Write);
+    }
+    Ok(())
 }

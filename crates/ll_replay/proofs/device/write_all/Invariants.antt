@@ -1,4 +1,4 @@
--- A front of the text is written, and no write has failed.
+-- The first of the text is written, and no write has failed.
 use Rattle.std.proofs.Common.{length, ◌-◌, ◌≡◌, ◌≤◌, take}
 use Rattle.std.specs.Io.KnownBytes.{Appends}
 use Rattle.ll_replay.proofs.device.write_all.Given as goal

@@ -4,7 +4,7 @@ use Rattle.std.proofs.lemmas.Bool.Decides.{nat_tests}
 use Rattle.std.proofs.lemmas.Option.{slice_get_within}
 use Rattle.ll_item.specs.Settings.{Configuration}
 use Rattle.ll_replay.specs.Kept.{FindsPlaces, KeptChannel, settings_kept}
-use Rattle.ll_replay.specs.Lines.{channel_named}
+use Rattle.ll_replay.specs.Lines.{channel_of_name}
 use Rattle.ll_replay.proofs.PlaceLemmas.{found-at, found-nowhere, stands-at}
 use Rattle.ll_replay.proofs.channels.Channels.find.Goals as goal
 
@@ -26,5 +26,5 @@ returns c =
     let channel = c.in_ok-channel.channel.now in
     let f = found-at c.self.inside.places.entries all c.args.name.now place c.self.invariant (sym c.in_ok-place.ensures.value) in
     let is = c.in_ok-channel.ensures.lookup.1 ∙ ap (λ (ks : List KeptChannel). get_or ks place channel) c.deref.ensures.value ∙ stands-at all place f.0 channel f.1 in
-    ap (λ (ks : List KeptChannel). channel_named (settings_kept ks) 0 c.args.name.now) (sym c.self.view_is) ∙ f.2
+    ap (λ (ks : List KeptChannel). channel_of_name (settings_kept ks) 0 c.args.name.now) (sym c.self.view_is) ∙ f.2
     ∙ ap (λ (s : Configuration). Some (place, s)) (sym (c.settings.ensures ∙ ap (λ (k : KeptChannel). k.settings) is))

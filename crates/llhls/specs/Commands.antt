@@ -1,0 +1,22 @@
+-- What the program's words ask it to do.
+use Rattle.std.specs.Prelude.{ℕ, List, [], ◌∷◌, Result, Ok, Err, bytes_eq, codes, if◌then◌else◌}
+use Rattle.llhls.specs.declared.command.Command.{Command}
+use Rattle.llhls.specs.declared.command.Command.TheVariants as command
+use Rattle.llhls.specs.declared.fault.Fault.{Fault}
+use Rattle.llhls.specs.declared.fault.Fault.TheVariants.{Usage}
+
+pub data Call : Type 0 where
+  -- run the script on standard input
+  Replay : Call
+  -- apply the delta update in the second file to the playlist in the first
+  Apply : List ℕ → List ℕ → Call
+
+-- the first word names the program; words of no such form are wrong usage
+abbrev pub command_of : List (List ℕ) → Result Call Fault
+command_of (program ∷ name ∷ []) = if bytes_eq name (codes "replay") then Ok Replay else Err Usage
+command_of (program ∷ name ∷ base ∷ delta ∷ []) = if bytes_eq name (codes "apply") then Ok (Apply base delta) else Err Usage
+command_of other = Err Usage
+
+abbrev pub call_of : Command → Call
+call_of command.Replay = Replay
+call_of (command.Apply base delta) = Apply base.now delta.now
