@@ -9,7 +9,7 @@ use Rattle.ll_format.specs.Words.{duration, quotable, uri, is_uri, is_rest, rest
 use Rattle.ll_format.proofs.FormatLaws.{WordLaws, FormatLaws, until_again, up_to-laws, to_end-laws, beside-laws, after_key-laws, before_key-laws, quoted-laws, flag-laws, optional-laws, mapped-laws, whole-laws, mapped_word-laws, tested-laws, one_of-laws, IsNamed, by_name-laws, choice-laws}
 use Rattle.ll_format.proofs.SeparatedLaws.{separated-laws, separated-lacks}
 use Rattle.ll_format.proofs.WordLaws.{number-laws, duration-laws, uri-laws, quotable-laws, rest_of_line-laws, text_if-laws, number-lacks, duration-lacks, uri-lacks, quotable-lacks}
-use Rattle.ll_line.specs.Formats.{largest_number, count, field, control_of, control, range_of, text_or_none, text_or_empty, date_range_fields, is_attribute_list, skip_of, skip, part_of, part, segment_duration, report_of, report, Tag, VersionTag, TargetDurationTag, ServerControlTag, PartTargetTag, MediaSequenceTag, DiscontinuitySequenceTag, DateRangeTag, SkippedTag, MapTag, TimeTag, PartTag, DurationTag, RenditionReportTag, HintTag, tags, name, Said, word, tag_line, Bare, BareFirst, BareDiscontinuity, BareEndList, bares, bare_name, is_tag, has_colon, is_segment_uri, segment_uri, Kind, tagged, line_of, kind_of, line, said, said_by}
+use Rattle.ll_line.specs.Formats.{largest_number, count, field, control_from, control, range_from, text_or_none, text_or_empty, date_range_fields, is_attribute_list, skip_from, skip, part_from, part, segment_duration, report_from, report, Tag, VersionTag, TargetDurationTag, ServerControlTag, PartTargetTag, MediaSequenceTag, DiscontinuitySequenceTag, DateRangeTag, SkippedTag, MapTag, TimeTag, PartTag, DurationTag, RenditionReportTag, HintTag, tags, name, Said, word, tag_line, Bare, BareFirst, BareDiscontinuity, BareEndList, bares, bare_name, is_tag, has_colon, is_uri_line, uri_line, Kind, tagged, line_of, kind_of, line, said, said_by}
 use Rattle.ll_line.specs.Line.{DateRangeLine, Line, First, Version, TargetDuration, ServerControl, PartTarget, MediaSequence, DiscontinuitySequence, DateRange, Skipped, Discontinuity, Map, Time, Part, Duration, Uri, RenditionReport, Hint, EndList}
 
 in_word : largest_number < 2 ^ 64
@@ -29,10 +29,10 @@ quoted_uri key on = after_key-laws key on (quoted-laws uri-laws uri-lacks)
 
 control-laws : FormatLaws control
 control-laws =
-    mapped-laws control_of (λ c. (c.hold_back, (c.skip_until, c.skips_date_ranges))) (λ p h. refl) (λ c. refl)
+    mapped-laws control_from (λ c. (c.hold_back, (c.skip_until, c.skips_date_ranges))) (λ p h. refl) (λ c. refl)
     (beside-laws (duration-field (codes "CAN-BLOCK-RELOAD=YES,PART-HOLD-BACK=") refl) (beside-laws (duration-field (codes ",CAN-SKIP-UNTIL=") refl) (flag-laws (codes ",CAN-SKIP-DATERANGES=YES") refl)))
 
-control-ends : (h s : ℕ) (d : Bool) → control.ends (control_of (h, (s, d))) [] ≡ true
+control-ends : (h s : ℕ) (d : Bool) → control.ends (control_from (h, (s, d))) [] ≡ true
 control-ends h s true = refl
 control-ends h s false = refl
 
@@ -48,7 +48,7 @@ attributes_back (b ∷ bs) = refl
 
 range-laws : FormatLaws date_range_fields
 range-laws =
-    mapped-laws range_of (λ r. (r.id, text_or_none r.attributes)) (λ p h. ap (λ more. (p.0, more)) (attributes_there p.1 h.1))
+    mapped-laws range_from (λ r. (r.id, text_or_none r.attributes)) (λ p h. ap (λ more. (p.0, more)) (attributes_there p.1 h.1))
     (λ r. ap (λ text. let r : DateRangeLine = record { id = r.id; attributes = text } in r) (attributes_back r.attributes))
     (beside-laws (after_key-laws (codes "ID=\"") refl (quoted-laws quotable-laws quotable-lacks)) (optional-laws (codes ",") refl (to_end-laws rest_of_line-laws)))
 
@@ -58,20 +58,20 @@ range-ends id (Some text) = refl
 
 skip-laws : FormatLaws skip
 skip-laws =
-    mapped-laws skip_of (λ s. (s.count, s.removed)) (λ p h. refl) (λ s. refl)
+    mapped-laws skip_from (λ s. (s.count, s.removed)) (λ p h. refl) (λ s. refl)
     (beside-laws (count-field (codes "SKIPPED-SEGMENTS=") refl)
     (optional-laws (codes ",RECENTLY-REMOVED-DATERANGES=\"") refl (quoted-laws (separated-laws 9 refl refl) (λ ids h. separated-lacks 9 ids refl h))))
 
-skip-ends : (n : ℕ) (r : Option (List (List ℕ))) → skip.ends (skip_of (n, r)) [] ≡ true
+skip-ends : (n : ℕ) (r : Option (List (List ℕ))) → skip.ends (skip_from (n, r)) [] ≡ true
 skip-ends n (Some ids) = refl
 skip-ends n None = refl
 
 part-laws : FormatLaws part
 part-laws =
-    mapped-laws part_of (λ p. (p.duration, (p.uri, p.independent))) (λ p h. refl) (λ p. refl)
+    mapped-laws part_from (λ p. (p.duration, (p.uri, p.independent))) (λ p h. refl) (λ p. refl)
     (beside-laws (duration-field (codes "DURATION=") refl) (beside-laws (quoted_uri (codes ",URI=\"") refl) (flag-laws (codes ",INDEPENDENT=YES") refl)))
 
-part-ends : (d : ℕ) (u : List ℕ) (i : Bool) → part.ends (part_of (d, (u, i))) [] ≡ true
+part-ends : (d : ℕ) (u : List ℕ) (i : Bool) → part.ends (part_from (d, (u, i))) [] ≡ true
 part-ends d u true = refl
 part-ends d u false = refl
 
@@ -80,7 +80,7 @@ segment_duration-laws = before_key-laws (codes ",") refl (up_to-laws 44 duration
 
 report-laws : FormatLaws report
 report-laws =
-    mapped-laws report_of (λ r. (r.uri, (r.number, r.index))) (λ p h. refl) (λ r. refl)
+    mapped-laws report_from (λ r. (r.uri, (r.number, r.index))) (λ p h. refl) (λ r. refl)
     (beside-laws (quoted_uri (codes "URI=\"") refl) (beside-laws (count-field (codes ",LAST-MSN=") refl) (count-field (codes ",LAST-PART=") refl)))
 
 word-laws : (t : Tag) → WordLaws (word t)
@@ -164,13 +164,13 @@ is_no : (b : Bool) → not b ≡ true → b ≡ false
 is_no false h = refl
 is_no true h = absurd cc
 
-uri_parts : (text : List ℕ) → is_segment_uri text ≡ true → (is_uri text ≡ true) × (is_tag text ≡ false)
+uri_parts : (text : List ℕ) → is_uri_line text ≡ true → (is_uri text ≡ true) × (is_tag text ≡ false)
 uri_parts text h =
     let p = and_parts (is_uri text) (not (is_tag text)) h in
     (p.0, is_no (is_tag text) p.1)
 
-segment_uri-laws : WordLaws segment_uri
-segment_uri-laws = text_if-laws is_segment_uri (λ text h. uri-laws.inside text (uri_parts text h).0)
+uri_line-laws : WordLaws uri_line
+uri_line-laws = text_if-laws is_uri_line (λ text h. uri-laws.inside text (uri_parts text h).0)
 
 there_by : (t : Tag) (x : Said t) → kind_of (tagged t x) ≡ Left (Left (t, x))
 there_by VersionTag x = refl
@@ -220,7 +220,7 @@ line-laws =
     mapped_word-laws line_of kind_of there back
     (choice-laws is_tag (λ x h. tag_there x) (λ text h. (uri_parts text h).1)
     (choice-laws has_colon (λ p h. colon_there p) (λ b h. no_colon b) tag_line-laws (one_of-laws bare_name bares bare_found bare_inside))
-    segment_uri-laws)
+    uri_line-laws)
 
 abbrev pair_of : (t : Tag) → Said t → Option ((t : Tag) × Said t)
 pair_of t x = Some (t, x)
@@ -245,7 +245,7 @@ said_named (Some t) text = said_as t ((word t).read text)
 pub tag_read : (text tag rest more : List ℕ) → is_tag text ≡ true → until 58 text ≡ (tag, rest) → after (codes ":") rest ≡ Some more
     → line.read text ≡ said_by tag more
 tag_read text tag rest more is e k =
-    ap (λ b. either_by b (either_by (has_colon text) (tag_line.read text) (named bare_name bares text)) (segment_uri.read text) >>= λ k. Some (line_of k)) is
+    ap (λ b. either_by b (either_by (has_colon text) (tag_line.read text) (named bare_name bares text)) (uri_line.read text) >>= λ k. Some (line_of k)) is
     ∙ ap (λ (cut : List ℕ × List ℕ). ((either_by (is_some (after (codes ":") cut.1))
     (after (codes ":") cut.1 >>= λ said. named name tags cut.0 >>= λ t. (word t).read said >>= λ x. pair_of t x) (named bare_name bares text)) >>= λ k. Some (as_kind k)) >>= λ k. Some (line_of k)) e
     ∙ ap (λ o. ((either_by (is_some o) (o >>= λ said. named name tags tag >>= λ t. (word t).read said >>= λ x. pair_of t x) (named bare_name bares text)) >>= λ k. Some (as_kind k)) >>= λ k. Some (line_of k)) k

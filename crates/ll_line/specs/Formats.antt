@@ -20,12 +20,12 @@ abbrev pub field : {A : Type 0} → List ℕ → Word A → Format A
 field key w = after_key key (up_to 44 w)
 
 -- section 4.4.3.8
-abbrev pub control_of : ℕ × (ℕ × Bool) → Control
-control_of (h, (s, d)) = record { hold_back = h; skip_until = s; skips_date_ranges = d }
+abbrev pub control_from : ℕ × (ℕ × Bool) → Control
+control_from (h, (s, d)) = record { hold_back = h; skip_until = s; skips_date_ranges = d }
 
 abbrev pub control : Format Control
 control =
-    mapped control_of (λ c. (c.hold_back, (c.skip_until, c.skips_date_ranges)))
+    mapped control_from (λ c. (c.hold_back, (c.skip_until, c.skips_date_ranges)))
     (beside (field (codes "CAN-BLOCK-RELOAD=YES,PART-HOLD-BACK=") duration)
     (beside (field (codes ",CAN-SKIP-UNTIL=") duration) (flag (codes ",CAN-SKIP-DATERANGES=YES"))))
 
@@ -41,12 +41,12 @@ abbrev pub text_or_empty : Option (List ℕ) → List ℕ
 text_or_empty None = []
 text_or_empty (Some text) = text
 
-abbrev pub range_of : List ℕ × Option (List ℕ) → DateRangeLine
-range_of (id, more) = record { id = id; attributes = text_or_empty more }
+abbrev pub range_from : List ℕ × Option (List ℕ) → DateRangeLine
+range_from (id, more) = record { id = id; attributes = text_or_empty more }
 
 abbrev pub date_range_fields : Format DateRangeLine
 date_range_fields =
-    mapped range_of (λ r. (r.id, text_or_none r.attributes))
+    mapped range_from (λ r. (r.id, text_or_none r.attributes))
     (beside (after_key (codes "ID=\"") (quoted quotable)) (optional (codes ",") (to_end rest_of_line)))
 
 -- how attributes are spelled after the id
@@ -64,42 +64,42 @@ date_range = tested is_attribute_list (whole date_range_fields)
 abbrev pub removed : Format (Option (List (List ℕ)))
 removed = optional (codes ",RECENTLY-REMOVED-DATERANGES=\"") (quoted (separated 9))
 
-abbrev pub skip_of : ℕ × Option (List (List ℕ)) → Skip
-skip_of (n, r) = record { count = n; removed = r }
+abbrev pub skip_from : ℕ × Option (List (List ℕ)) → Skip
+skip_from (n, r) = record { count = n; removed = r }
 
 -- section 4.4.5.2
 abbrev pub skip : Format Skip
-skip = mapped skip_of (λ s. (s.count, s.removed)) (beside (field (codes "SKIPPED-SEGMENTS=") count) removed)
+skip = mapped skip_from (λ s. (s.count, s.removed)) (beside (field (codes "SKIPPED-SEGMENTS=") count) removed)
 
 -- section 4.4.4.5
-abbrev pub map_uri : Format (List ℕ)
-map_uri = after_key (codes "URI=\"") (quoted uri)
+abbrev pub map_field : Format (List ℕ)
+map_field = after_key (codes "URI=\"") (quoted uri)
 
-abbrev pub part_of : ℕ × (List ℕ × Bool) → PartLine
-part_of (d, (u, i)) = record { duration = d; uri = u; independent = i }
+abbrev pub part_from : ℕ × (List ℕ × Bool) → PartLine
+part_from (d, (u, i)) = record { duration = d; uri = u; independent = i }
 
 -- section 4.4.4.9
 abbrev pub part : Format PartLine
 part =
-    mapped part_of (λ p. (p.duration, (p.uri, p.independent)))
+    mapped part_from (λ p. (p.duration, (p.uri, p.independent)))
     (beside (field (codes "DURATION=") duration) (beside (after_key (codes ",URI=\"") (quoted uri)) (flag (codes ",INDEPENDENT=YES"))))
 
 -- section 4.4.4.1, without a title
 abbrev pub segment_duration : Format ℕ
 segment_duration = before_key (up_to 44 duration) (codes ",")
 
-abbrev pub report_of : List ℕ × (ℕ × ℕ) → Report
-report_of (u, (n, i)) = record { uri = u; number = n; index = i }
+abbrev pub report_from : List ℕ × (ℕ × ℕ) → Report
+report_from (u, (n, i)) = record { uri = u; number = n; index = i }
 
 -- section 4.4.5.4
 abbrev pub report : Format Report
 report =
-    mapped report_of (λ r. (r.uri, (r.number, r.index)))
+    mapped report_from (λ r. (r.uri, (r.number, r.index)))
     (beside (after_key (codes "URI=\"") (quoted uri)) (beside (field (codes ",LAST-MSN=") count) (field (codes ",LAST-PART=") count)))
 
 -- section 4.4.5.3
-abbrev pub hint_uri : Format (List ℕ)
-hint_uri = after_key (codes "TYPE=PART,URI=\"") (quoted uri)
+abbrev pub hint_field : Format (List ℕ)
+hint_field = after_key (codes "TYPE=PART,URI=\"") (quoted uri)
 
 -- the tags that say something after a colon
 pub data Tag : Type 0 where
@@ -164,12 +164,12 @@ word MediaSequenceTag = count
 word DiscontinuitySequenceTag = count
 word DateRangeTag = date_range
 word SkippedTag = whole skip
-word MapTag = whole map_uri
+word MapTag = whole map_field
 word TimeTag = rest_of_line
 word PartTag = whole part
 word DurationTag = whole segment_duration
 word RenditionReportTag = whole report
-word HintTag = whole hint_uri
+word HintTag = whole hint_field
 
 abbrev pub tag_line : Word ((t : Tag) × Said t)
 tag_line = by_name name tags word
@@ -199,11 +199,11 @@ abbrev pub has_colon : List ℕ → Bool
 has_colon text = is_some (after (codes ":") (until 58 text).1)
 
 -- a URI that is no tag
-abbrev pub is_segment_uri : List ℕ → Bool
-is_segment_uri text = is_uri text && not (is_tag text)
+abbrev pub is_uri_line : List ℕ → Bool
+is_uri_line text = is_uri text && not (is_tag text)
 
-abbrev pub segment_uri : Word (List ℕ)
-segment_uri = text_if is_segment_uri
+abbrev pub uri_line : Word (List ℕ)
+uri_line = text_if is_uri_line
 
 abbrev pub Kind : Type 0
 Kind = Either (Either ((t : Tag) × Said t) Bare) (List ℕ)
@@ -256,7 +256,7 @@ kind_of EndList = Left (Right BareEndList)
 
 -- a line: a tag with what it says, a tag alone or the URI of a segment
 abbrev pub line : Word Line
-line = mapped_word line_of kind_of (choice is_tag (choice has_colon tag_line (one_of bare_name bares)) segment_uri)
+line = mapped_word line_of kind_of (choice is_tag (choice has_colon tag_line (one_of bare_name bares)) uri_line)
 
 -- what a line says
 abbrev pub line_in : List ℕ → Option Line
@@ -274,6 +274,6 @@ said_by tag text = named name tags tag >>= λ t. said t text
 abbrev pub said_alone : List ℕ → Option Line
 said_alone text = named bare_name bares text >>= λ b. Some (bare b)
 
--- the URI of a segment, which is no tag
+-- what a line that is no tag says
 abbrev pub uri_said : List ℕ → Option Line
 uri_said text = if is_uri text then Some (Uri text) else None
