@@ -1,5 +1,5 @@
 -- Which date ranges stay, and their lines, one place after another.
-use Rattle.std.proofs.Common.{◌≡◌, ℕ, suc, ◌+◌, List, [], ◌∷◌, ◌++◌, Bool, true, false, not, ◌&&◌, ◌||◌, cond, drop, filter, flat_map, map, Some, bytes_eq, refl, ap, sym, ◌∙◌, arith, append_assoc}
+use Rattle.std.proofs.Common.{◌≡◌, ℕ, suc, ◌+◌, List, [], ◌∷◌, ◌++◌, Bool, true, false, not, ◌&&◌, ◌||◌, cond, drop, filter, map, Some, bytes_eq, refl, ap, sym, ◌∙◌, arith, append_assoc}
 use Rattle.std.specs.Prelude.{slice_get}
 use Rattle.ll_page.proofs.RangeLemmas.{rest-from}
 use Rattle.ll_line.specs.Line.{DateRangeLine, DateRange}
