@@ -64,7 +64,7 @@ fn expect_written(
 ) -> Result<(), Fail> {
     let playlist = read(alloc, text.as_bytes())?;
     let written = playlist.write(alloc)?;
-    let outlines = (playlist.outline(), read_outline(text.as_bytes()));
+    let outlines = (playlist.outline(), read_outline(alloc, text.as_bytes()));
     assert_eq!(rt; (written.as_str(), outlines), (again, (outline, outline)));
     Ok(())
 }

@@ -1,8 +1,7 @@
 use ll_attr::{AttrList, Text};
 use ll_item::Settings;
-use ll_range::{DateRange, RangeFault, Ranges};
+use ll_range::{RangeFault, Ranges};
 use std::alloc::Global;
-use std::process::Abort;
 use std::test::Fail;
 
 /// The attributes of a date range that may be added.
@@ -15,142 +14,170 @@ fn ranges(alloc: Global) -> Result<Ranges, Fail> {
     Ok(Ranges::new(alloc, &settings))
 }
 
-/// Adds a date range of each of these ids: the first before all parts, the others after one second of them.
-fn add_all(alloc: Global, ranges: &mut Ranges, ids: &[&str]) -> Result<(), Fail> {
-    let mut end = 0;
-    for id in ids {
-        let (id, attributes) = (Text::from_str(alloc, id)?, AttrList::parse(alloc, GOOD)?);
-        ranges.add(end, id, attributes)?;
-        end = 1_000_000;
-    }
-    Ok(())
-}
-
-/// These ids are listed, in this order.
-fn expect_listed(rt: &impl Abort, ranges: &Ranges, ids: &[&str]) {
-    assert_eq!(rt; ranges.count(), ids.len());
-    for (place, id) in ids.iter().enumerate() {
-        assert_eq!(rt; ranges.listed(place).map(|range| range.id), Some(*id));
-    }
-    assert!(rt; ranges.listed(ids.len()).is_none());
-}
-
-/// These ids were taken away lately, in this order.
-fn expect_recent(
-    rt: &impl Abort,
+/// Does what a word says, where all parts last so long, and tells the answer.
+fn change(
     alloc: Global,
-    ranges: &Ranges,
-    ids: &[&str],
-) -> Result<(), Fail> {
-    let recent = ranges.recent(alloc)?;
-    assert_eq!(rt; recent.len(), ids.len());
-    for (text, id) in recent.iter().zip(ids) {
-        assert_eq!(rt; text.as_str(), *id);
+    ranges: &mut Ranges,
+    word: &str,
+    end: u64,
+    id: &str,
+) -> Result<Result<(), RangeFault>, Fail> {
+    let attributes = AttrList::parse(alloc, GOOD)?;
+    Ok(match word {
+        "add" => ranges.add(end, Text::from_str(alloc, id)?, attributes),
+        "remove" => ranges.remove(end, id),
+        "test add" => ranges.test_add(end, id, &attributes),
+        "test remove" => ranges.test_remove(id),
+        _ => {
+            ranges.expire(end);
+            Ok(())
+        }
+    })
+}
+
+/// The ids that are listed, each with the time of its adding, and after a bar those that were removed recently.
+fn state(alloc: Global, ranges: &Ranges, end: u64) -> Result<String, Fail> {
+    let mut text = String::new(alloc);
+    for place in 0..ranges.count() {
+        if let Some(range) = ranges.listed(place) {
+            write!(text, "{} {} ", range.id, range.added)?;
+        }
     }
-    Ok(())
+    text.push('|')?;
+    for id in &ranges.recent(alloc, end)? {
+        write!(text, " {id}")?;
+    }
+    Ok(text)
 }
 
 #[test]
-fn an_id_is_taken_while_it_is_listed_or_its_removal_recent(rt: HostRuntime) -> Result<(), Fail> {
-    let good = AttrList::parse(rt.alloc(), GOOD)?;
+fn ids_are_taken_while_they_are_listed_or_removed_recently(rt: HostRuntime) -> Result<(), Fail> {
     let mut ranges = ranges(rt.alloc())?;
-    assert_eq!(rt; ranges.test_add("a", &good), Ok(()));
-    assert_eq!(rt; ranges.test_remove("a"), Err(RangeFault::IdUnknown));
-    add_all(rt.alloc(), &mut ranges, &["a"])?;
-    assert_eq!(rt; ranges.test_add("a", &good), Err(RangeFault::IdTaken));
-    assert_eq!(rt; ranges.test_remove("a"), Ok(()));
-    ranges.remove(1_000_000, "a")?;
-    assert_eq!(rt; ranges.remove(1_000_000, "a"), Err(RangeFault::IdUnknown));
-    ranges.expire(7_000_000);
-    assert_eq!(rt; ranges.test_add("a", &good), Err(RangeFault::IdTaken));
-    ranges.expire(7_000_001);
-    assert_eq!(rt; ranges.test_add("a", &good), Ok(()));
-    Ok(())
-}
-
-/// A date range of these attributes, with START-DATE after them, may be added or not; without it, it may not.
-fn expect_checked(
-    rt: &impl Abort,
-    alloc: Global,
-    ranges: &Ranges,
-    more: &str,
-    answer: Result<(), RangeFault>,
-) -> Result<(), Fail> {
-    let list = AttrList::parse(alloc, more)?;
-    assert_eq!(rt;
-        ranges.test_add("a", &list),
-        Err(RangeFault::BadAttribute),
-        "at {more}"
-    );
-    let text = format!(in alloc; "{more},{GOOD}")?;
-    let list = AttrList::parse(alloc, &text)?;
-    assert_eq!(rt; ranges.test_add("a", &list), answer, "at {more}");
-    Ok(())
-}
-
-#[test]
-fn attributes_and_ids_are_checked(rt: HostRuntime) -> Result<(), Fail> {
-    let ranges = ranges(rt.alloc())?;
-    for more in [
-        "CLASS=\"\"",
-        "END-DATE=\"2024-02-29T12:00:00.5+01:00\"",
-        "DURATION=1",
-        "DURATION=1.5",
-        "PLANNED-DURATION=0.0",
-        "X-=1",
-        "X-AD=\"1\",CLASS=\"b\"",
+    for (word, end, id, answer, text) in [
+        ("test add", 0, "c", Ok(()), "|"),
+        ("test remove", 0, "c", Err(RangeFault::IdUnknown), "|"),
+        ("remove", 0, "c", Err(RangeFault::IdUnknown), "|"),
+        ("add", 0, "c", Ok(()), "c 0 |"),
+        ("test add", 0, "c", Err(RangeFault::IdTaken), "c 0 |"),
+        ("test remove", 0, "c", Ok(()), "c 0 |"),
+        ("add", 1_000_000, "a", Ok(()), "c 0 a 1000000 |"),
+        ("add", 1_000_000, "b", Ok(()), "c 0 a 1000000 b 1000000 |"),
+        ("remove", 1_000_000, "c", Ok(()), "a 1000000 b 1000000 | c"),
+        (
+            "remove",
+            1_000_000,
+            "c",
+            Err(RangeFault::IdUnknown),
+            "a 1000000 b 1000000 | c",
+        ),
+        ("remove", 2_000_000, "a", Ok(()), "b 1000000 | c a"),
+        (
+            "test add",
+            7_000_000,
+            "c",
+            Err(RangeFault::IdTaken),
+            "b 1000000 | c a",
+        ),
+        ("test add", 7_000_001, "c", Ok(()), "b 1000000 | a"),
+        ("expire", 7_000_001, "", Ok(()), "b 1000000 | a"),
+        (
+            "add",
+            7_000_001,
+            "a",
+            Err(RangeFault::IdTaken),
+            "b 1000000 | a",
+        ),
+        ("add", 7_000_001, "c", Ok(()), "b 1000000 c 7000001 | a"),
+        ("expire", 8_000_001, "", Ok(()), "b 1000000 c 7000001 |"),
     ] {
-        expect_checked(&rt, rt.alloc(), &ranges, more, Ok(()))?;
-    }
-    for more in [
-        "CLASS=a",
-        "END-DATE=\"2023-02-29T12:00:00Z\"",
-        "END-DATE=2024-02-29T12:00:00Z",
-        "DURATION=1.",
-        "DURATION=.5",
-        "DURATION=1.5.5",
-        "DURATION=-1",
-        "DURATION=\"1\"",
-        "PLANNED-DURATION=1e3",
-        "X-AD=\"1\",CLASS=b",
-        "X=1",
-        "ID=\"b\"",
-        "END-ON-NEXT=YES",
-    ] {
-        expect_checked(
-            &rt,
-            rt.alloc(),
-            &ranges,
-            more,
-            Err(RangeFault::BadAttribute),
-        )?;
-    }
-    let good = AttrList::parse(rt.alloc(), GOOD)?;
-    assert_eq!(rt; ranges.test_add("a b,c='größe'", &good), Ok(()));
-    for id in ["", "a\tb", "a\"", "\r", "\na"] {
+        let answered = change(rt.alloc(), &mut ranges, word, end, id)?;
+        let told = state(rt.alloc(), &ranges, end)?;
         assert_eq!(rt;
-            ranges.test_add(id, &good),
-            Err(RangeFault::BadAttribute),
-            "at {id}"
+            (answered, told.as_str()),
+            (answer, text),
+            "{word} {id} at {end}"
         );
     }
     Ok(())
 }
 
 #[test]
-fn lists_are_in_order(rt: HostRuntime) -> Result<(), Fail> {
+fn copies_are_equal(rt: HostRuntime) -> Result<(), Fail> {
     let mut ranges = ranges(rt.alloc())?;
-    add_all(rt.alloc(), &mut ranges, &["c", "a", "d", "b"])?;
-    expect_listed(&rt, &ranges, &["c", "a", "d", "b"]);
-    assert_eq!(rt; ranges.listed(0).map(|range| range.added), Some(0));
-    assert_eq!(rt; ranges.listed(3).map(|range| range.added), Some(1_000_000));
-    ranges.remove(2_000_000, "d")?;
-    ranges.remove(3_000_000, "c")?;
-    expect_listed(&rt, &ranges, &["a", "b"]);
-    expect_recent(&rt, rt.alloc(), &ranges, &["d", "c"])?;
-    let copy = ranges.copy()?;
-    ranges.expire(8_000_001);
-    expect_recent(&rt, rt.alloc(), &ranges, &["c"])?;
-    expect_listed(&rt, &copy, &["a", "b"]);
-    expect_recent(&rt, rt.alloc(), &copy, &["d", "c"])
+    for (word, text) in [("add", "a 0 |"), ("remove", "| a"), ("expire", "|")] {
+        let _ = change(
+            rt.alloc(),
+            &mut ranges,
+            word,
+            if word == "expire" { 6_000_001 } else { 0 },
+            "a",
+        )?;
+        let copy = ranges.copy()?;
+        assert_eq!(rt; state(rt.alloc(), &copy, 0)?.as_str(), text);
+    }
+    Ok(())
+}
+
+#[test]
+fn attributes_are_checked(rt: HostRuntime) -> Result<(), Fail> {
+    let ranges = ranges(rt.alloc())?;
+    for (more, answer) in [
+        ("CLASS=\"\"", Ok(())),
+        ("END-DATE=\"2024-02-29T12:00:00.5+01:00\"", Ok(())),
+        ("DURATION=1", Ok(())),
+        ("DURATION=1.5", Ok(())),
+        ("PLANNED-DURATION=0.0", Ok(())),
+        ("X-=1", Ok(())),
+        ("X-AD=\"1\",CLASS=\"b\"", Ok(())),
+        ("CLASS=a", Err(RangeFault::BadAttribute)),
+        (
+            "END-DATE=\"2023-02-29T12:00:00Z\"",
+            Err(RangeFault::BadAttribute),
+        ),
+        (
+            "END-DATE=2024-02-29T12:00:00Z",
+            Err(RangeFault::BadAttribute),
+        ),
+        ("DURATION=1.", Err(RangeFault::BadAttribute)),
+        ("DURATION=.5", Err(RangeFault::BadAttribute)),
+        ("DURATION=1.5.5", Err(RangeFault::BadAttribute)),
+        ("DURATION=-1", Err(RangeFault::BadAttribute)),
+        ("DURATION=\"1\"", Err(RangeFault::BadAttribute)),
+        ("PLANNED-DURATION=1e3", Err(RangeFault::BadAttribute)),
+        ("X-AD=\"1\",CLASS=b", Err(RangeFault::BadAttribute)),
+        ("X=1", Err(RangeFault::BadAttribute)),
+        ("ID=\"b\"", Err(RangeFault::BadAttribute)),
+        ("END-ON-NEXT=YES", Err(RangeFault::BadAttribute)),
+    ] {
+        let alone = AttrList::parse(rt.alloc(), more)?;
+        let text = format!(in rt.alloc(); "{more},{GOOD}")?;
+        let with_start = AttrList::parse(rt.alloc(), &text)?;
+        let answers = (
+            ranges.test_add(0, "a", &alone),
+            ranges.test_add(0, "a", &with_start),
+        );
+        assert_eq!(rt;
+            answers,
+            (Err(RangeFault::BadAttribute), answer),
+            "at {more}"
+        );
+    }
+    Ok(())
+}
+
+#[test]
+fn ids_are_checked(rt: HostRuntime) -> Result<(), Fail> {
+    let ranges = ranges(rt.alloc())?;
+    let good = AttrList::parse(rt.alloc(), GOOD)?;
+    for (id, answer) in [
+        ("a b,c='größe'", Ok(())),
+        ("", Err(RangeFault::BadAttribute)),
+        ("a\tb", Err(RangeFault::BadAttribute)),
+        ("a\"", Err(RangeFault::BadAttribute)),
+        ("\r", Err(RangeFault::BadAttribute)),
+        ("\na", Err(RangeFault::BadAttribute)),
+    ] {
+        assert_eq!(rt; ranges.test_add(0, id, &good), answer, "at {id}");
+    }
+    Ok(())
 }

@@ -32,7 +32,7 @@ impl Ranges {
     }
 
     /// What `remove` would answer but for memory; nothing changes.
-    pub fn test_remove(&self, _end: u64, id: &str) -> Result<(), RangeFault>
+    pub fn test_remove(&self, id: &str) -> Result<(), RangeFault>
         ensures { MatchResult result (λ u. remove_refusal id.now self.now ≡ None) (λ f. remove_refusal id.now self.now ≡ Some f) }
     {
         if self.is_listed(id) {
@@ -91,7 +91,7 @@ impl Ranges {
             → IsErrOf result RangeFault.Memory → refusal c items (item.Unrange rendition id.now) ≡ None }
         ensures unchanged { OnErr result (self.new ≡ self.old) }
     {
-        self.test_remove(end, id)?;
+        self.test_remove(id)?;
         match self.take_away(end, id) {
             Ok(()) => Ok(()),
             Err(AllocError) => Err(RangeFault::Memory),

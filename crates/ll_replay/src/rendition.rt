@@ -70,7 +70,7 @@ fn test_ranges(end: u64, ranges: &Ranges, item: &Item) -> Result<(), RangeFault>
 {
     match item {
         Item::Range { id, attributes, .. } => ranges.test_add(end, id.as_str(), attributes),
-        Item::Unrange { id, .. } => ranges.test_remove(end, id.as_str()),
+        Item::Unrange { id, .. } => ranges.test_remove(id.as_str()),
         Item::Part { .. } | Item::Break { .. } | Item::End { .. } => Ok(()),
     }
 }
