@@ -25,7 +25,7 @@ abbrev pub and_then : {A B : Type 0} → Result A ApplyFault → (A → Result B
 and_then (Err fault) more = Err fault
 and_then (Ok x) more = more x
 
--- the text of the full playlist that an update makes of an earlier one, or the first reason that there is none
+-- the text of the full playlist that an update makes of an earlier one, or the first fault
 abbrev pub chain : Result Playlist ApplyFault → Result Playlist ApplyFault → Result (List ℕ) ApplyFault
 chain base delta = and_then base (λ b. and_then delta (λ d. and_then (applied b d) (λ p. Ok (spelling p))))
 

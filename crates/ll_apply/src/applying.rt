@@ -23,7 +23,7 @@ use std::alloc::{AllocError, Global};
 /// update's, but for date ranges where it lists those that were taken away. An update that skips nothing is the result itself. LF
 /// ends each line.
 ///
-/// Where there is no such playlist the first reason is told; memory that isn't found comes after all others. Where both texts are
+/// Where there is no such playlist the first fault is told; out of memory comes after all others. Where both texts are
 /// of one rendition, and the parts after the earlier one last no longer than the skip limit, there is one: the full playlist at
 /// the moment of the update.
 pub fn apply(alloc: Global, base: &[u8], delta: &[u8]) -> Result<Text, ApplyFault>

@@ -5,7 +5,7 @@ use std::error::Error;
 use std::fmt;
 
 /// Why there is no full playlist: the first of these that applies. Memory is answered only where there is no
-/// other reason.
+/// other fault.
 #[derive(Clone, Copy, Debug, PartialEq, Eq)]
 pub enum ApplyFault {
     /// The earlier text is no full playlist of this profile: it is no playlist at all, or a delta update itself. `ll_read::read`

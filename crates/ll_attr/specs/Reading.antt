@@ -1,4 +1,4 @@
--- What the steps that read an attribute list go by.
+-- For private contracts: what the steps that read an attribute list go by.
 use Rattle.std.specs.Prelude.{ℕ, suc, List, [], ◌∷◌, Bool, true, false, not, ◌&&◌, ◌==◌, Option, Some, None, bytes_eq, if◌then◌else◌}
 use Rattle.std.specs.List.{list_any, list_all, before_first, after_first}
 use Rattle.ll_attr.specs.Attributes.{quoted_after, is_equals, is_attribute_name, is_quoted_byte, value_in}

@@ -49,7 +49,7 @@ impl Ranges {
         self.listed.contains_key(id)
     }
 
-    /// Whether a date range of this id was taken away lately.
+    /// Whether a date range of this id was removed recently.
     fn was_removed(&self, end: u64, id: &str) -> bool
         ensures { result ≡ was_removed end id.now self.now }
     {
@@ -59,8 +59,8 @@ impl Ranges {
         }
     }
 
-    /// Adds a date range, where all parts of the rendition last so long until now (microseconds); or answers the first reason
-    /// for which it may not be added, or that no memory was found; nothing changes then (section 4.4.5.1).
+    /// Adds a date range, where all parts of the rendition last so long until now (microseconds); or answers the first rule
+    /// that refuses it, or that no memory was found; nothing changes then (section 4.4.5.1).
     pub fn add(&mut self, end: u64, id: Text, attributes: AttrList) -> Result<(), RangeFault>
         ensures accepted { (c : Configuration) (items : List Item) (rendition : ℕ) → self.old ≡ announced c items → end ≡ end_time items
             → OnOk result ((refusal c items (item.Range rendition id attributes) ≡ None)

@@ -9,8 +9,8 @@ use std::alloc::{AllocError, Global};
 use std::marker::Model;
 use thiserror::Error;
 
-/// Why a date range is not added or not taken away: the first reason, in this order. Memory that isn't found is answered
-/// only where there is no other reason.
+/// Why a date range is not added or not taken away: the first rule that refuses it, in this order. Memory is answered
+/// only where no rule refuses it.
 #[derive(Clone, Copy, Debug, PartialEq, Eq, Error)]
 pub enum RangeFault {
     /// A date range of this id is listed, or was taken away lately (section 4.4.5.2).

@@ -1,4 +1,4 @@
--- What the lines so far come to, with what they say of the segment that one stands in.
+-- For private contracts: what the lines so far come to, with what they say of the segment that one stands in.
 use Rattle.std.specs.Prelude.{◌≡◌, ℕ, List, [], ◌∷◌, ◌++◌, Bool, true, false, Option, Some, None}
 use Rattle.std.specs.Option.{option_map}
 use Rattle.ll_line.specs.Line.{DateRange, Discontinuity, DiscontinuitySequence, Duration, EndList, First, Hint, Line, Map, MediaSequence, Part, PartLine, PartTarget, RenditionReport, ServerControl, Skipped, TargetDuration, Time, Uri, Version}

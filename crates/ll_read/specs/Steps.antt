@@ -1,4 +1,4 @@
--- Which line may stand where, by just what decides it.
+-- For private contracts: which line may stand where, by only what decides it.
 use Rattle.std.specs.Prelude.{Bool, true, false, not, ◌&&◌, ◌||◌, ◌==◌, Option, Some, None, is_none, nat_le}
 use Rattle.ll_line.specs.Line.{DateRange, Discontinuity, DiscontinuitySequence, Duration, EndList, First, Hint, Line, Map, MediaSequence, Part, PartTarget, RenditionReport, ServerControl, Skipped, TargetDuration, Time, Uri, Version}
 use Rattle.ll_page.specs.Playlist.{Playlist}

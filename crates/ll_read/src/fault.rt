@@ -1,7 +1,7 @@
 use thiserror::Error;
 
-/// Why bytes are no playlist: the first of these that applies. Memory that isn't found is answered only where there is no other
-/// reason.
+/// Why bytes are no playlist: the first of these that applies. Memory is answered only where there is no other
+/// fault.
 #[derive(Clone, Copy, Debug, PartialEq, Eq, Error)]
 pub enum ReadFault {
     /// They aren't UTF-8, or don't begin with the line `#EXTM3U` (section 4.4.1.1).

@@ -20,7 +20,7 @@ use std::alloc::{AllocError, Global};
 use std::str;
 
 /// The playlist that a text spells: a Media Playlist or a Playlist Delta Update in UTF-8 (section 4) of this profile, whose
-/// lines end in LF or CR LF. Where it spells none, the first reason; memory that isn't found comes after all others.
+/// lines end in LF or CR LF. Where it spells none, the first fault; out of memory comes after all others.
 pub fn read(alloc: Global, bytes: &[u8]) -> Result<Playlist, ReadFault>
     ensures value { IfOk result (λ p. playlist_in bytes.now ≡ Ok p) }
     ensures refused { IfErr result (λ fault. fault ≢ ReadFault.Memory → playlist_in bytes.now ≡ Err fault) }

@@ -32,7 +32,7 @@ items events = fold taken [] events
 abbrev pub event_end : ℕ
 event_end = 2 ^ 60
 
--- the same reason by its name in answers
+-- the same refusal by its name in answers
 abbrev pub refusal_of : PushFault → Refusal
 refusal_of push.Ended = refused.Ended
 refusal_of push.BadDuration = refused.BadDuration
@@ -73,6 +73,6 @@ abbrev pub refusal_or_full : Option Refusal → List Event → Option Refusal
 refusal_or_full None events = full_by events
 refusal_or_full (Some reason) events = Some reason
 
--- the first reason for which a channel refuses an item after these events, or none
+-- the first rule that refuses an item after these events of its channel, or none
 abbrev pub refusal : Configuration → List Event → Item → Option Refusal
 refusal c events item = refusal_or_full (refusal_at c (items events) item) events

@@ -49,7 +49,7 @@ says w text = record w { text = w.text ++ text }
 abbrev pub happens : World → ℕ → Channel → Event → World
 happens w place channel event = record w { channels = slice_set w.channels place (with_event event channel) }
 
--- an item is accepted, or refused for a reason
+-- an item is accepted or refused
 abbrev pub offered : World → ℕ → Channel → Item → Option Refusal → World
 offered w place channel item (Some reason) = says w (no_line reason)
 offered w place channel item None = says (happens w place channel (Publish item)) (ok_line (length (items channel.events) + 1))

@@ -64,7 +64,7 @@ impl Channel {
         &self.settings
     }
 
-    /// Accepts an item and answers how many were accepted with it, or refuses it for the first reason.
+    /// Accepts an item and answers how many were accepted with it, or answers the first rule that refuses it.
     pub(crate) fn publish(&mut self, item: Item) -> Result<u64, Refusal>
         ensures accepted { (c : world.Channel) → self.old ≡ kept_channel c → IfOk result (λ n.
             (refusal c.settings c.events item ≡ None) × (n ≡ length (items c.events) + 1)

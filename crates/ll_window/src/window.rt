@@ -26,8 +26,8 @@ const LAST_NUMBER: u64 = 1 << 60;
 /// The last microsecond of the year 9999, from 1970 on.
 const LAST_MICRO: u64 = 253_402_300_799_999_999;
 
-/// Why an item may not follow the items before it: the first reason, in this order. Memory that isn't found is answered
-/// only where there is no other reason.
+/// Why an item may not follow the items before it: the first rule that refuses it, in this order. Memory is answered
+/// only where no rule refuses it.
 #[derive(Clone, Copy, Debug, PartialEq, Eq, Error)]
 pub enum PushFault {
     /// Anything after the end of its rendition (EXT-X-ENDLIST, section 4.4.3.4).
