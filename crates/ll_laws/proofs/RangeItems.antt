@@ -20,11 +20,13 @@ use Rattle.ll_range.specs.Attributes.{is_id, are_allowed}
 use Rattle.ll_range.specs.declared.ranges.RangeFault.TheVariants.{IdTaken, BadAttribute}
 use Rattle.ll_page.specs.Full.{range_line}
 use Rattle.ll_read.specs.Ranges.{has_id}
-use Rattle.ll_read.specs.Readable.{Each, IsReadableRange, are_distinct}
+use Rattle.ll_line.specs.Line.{DateRange}
+use Rattle.ll_read.specs.Readable.{Each, are_distinct}
 use Rattle.ll_laws.specs.Published.{AreAccepted, IsSpelled, HasTexts, ArePublished}
-use Rattle.ll_laws.proofs.EachLemmas.{each-append, each-filter, each-map}
+use Rattle.ll_laws.proofs.EachLemmas.{each-append, each-filter}
 use Rattle.ll_laws.proofs.ItemLemmas.{own_one, same}
-use Rattle.ll_laws.proofs.RangeTexts.{read-with_id}
+use Rattle.ll_laws.proofs.LineLemmas.{IsSound}
+use Rattle.ll_laws.proofs.RangeLines.{sound-range}
 
 pub accepted : (c : Configuration) (before items : List Item) → ArePublished c before items → AreAccepted c before items
 accepted c before [] h = tt
@@ -143,17 +145,14 @@ listable c items r published = listable_after c [] (own r items) (told_own c r [
 
 -- and their lines
 
-one_readable : (x : Listed) → IsListable x → IsReadableRange (range_line x)
-one_readable x h =
-    subst (λ text. IsReadableRange (record { id = x.id; attributes = text })) (sym h.spells)
-    (record {
-      more = h.attributes;
-      list = read-with_id x.id _ h.attributes h.id h.spelled.read h.allowed;
-      spelled = refl;
-    })
+one_sound : (x : Listed) → IsListable x → IsSound (DateRange (range_line x))
+one_sound x h =
+    subst (λ text. IsSound (DateRange (record { id = x.id; attributes = text }))) (sym h.spells)
+    (sound-range x.id h.attributes h.id h.utf8 h.allowed h.spelled.read h.spelled.utf8)
 
-pub readable-ranges : (xs : List Listed) → AreListable xs → Each IsReadableRange (map range_line xs)
-readable-ranges xs h = each-map IsListable IsReadableRange range_line one_readable xs h.each
+pub sound-ranges : (xs : List Listed) → Each IsListable xs → Each IsSound (map DateRange (map range_line xs))
+sound-ranges [] h = tt
+sound-ranges (x ∷ xs) h = (one_sound x h.0, sound-ranges xs h.1)
 
 has-lines : (id : List ℕ) (xs : List Listed) → has_id id (map range_line xs) ≡ has id xs
 has-lines id [] = refl
