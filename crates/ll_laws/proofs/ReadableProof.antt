@@ -1,5 +1,5 @@
 -- Playlists and delta updates of what was published are readable: all lines are sound, and they stand where they may.
-use Rattle.std.proofs.Common.{◌≡◌, ℕ, zero, suc, ◌*◌, ◌≤◌, ◌<◌, ◌==◌, ◌&&◌, ◌||◌, Bool, List, [], ◌∷◌, true, false, not, Option, None, is_none, length, drop, map, refl, ap, sym, subst, ◌∙◌, arith}
+use Rattle.std.proofs.Common.{◌≡◌, ℕ, zero, suc, ◌*◌, ◌≤◌, ◌<◌, ◌==◌, List, [], ◌∷◌, true, false, not, is_none, length, drop, map, refl, ap, sym, subst, ◌∙◌, arith}
 use Rattle.std.proofs.lemmas.Bool.Decides.{nat_tests}
 use Rattle.std.proofs.lemmas.List.{length-drop}
 use Rattle.std.proofs.lemmas.Str.{is_utf8-from_IsUtf8}
@@ -17,11 +17,11 @@ use Rattle.ll_window.specs.Window.{skip_limit}
 use Rattle.ll_page.specs.declared.rendition.Rendition.{Rendition}
 use Rattle.ll_page.specs.Delta.{skip_of, delta_by}
 use Rattle.ll_page.specs.Full.{printed, open_of, sequence_of, hint_of, range_line, reports_from, reports_of, playlist_of}
-use Rattle.ll_page.specs.Playlist.{Finished, Playlist}
+use Rattle.ll_page.specs.Playlist.{Playlist}
 use Rattle.ll_page.specs.Spelling.{skip_lines, segment_lines, open_lines, last_line, lines_of, spelling}
 use Rattle.ll_page.specs.View.{Seen, seen, asked, kept, renditions}
-use Rattle.ll_read.specs.Readable.{Each, IsReadable, IsReadableOpen, have_maps}
-use Rattle.ll_read.specs.Shape.{is_empty}
+use Rattle.ll_read.specs.Readable.{Each, IsReadable, IsReadableOpen}
+use Rattle.ll_read.specs.Shape.{is_empty, leads, may_end}
 use Rattle.ll_laws.specs.Published.{ArePublished}
 use Rattle.ll_laws.specs.Laws.{ReadableLaw}
 use Rattle.ll_laws.proofs.BoundLemmas.{IsBounded, bounded}
@@ -50,14 +50,13 @@ times_low c xs b = let t = b.times in omega (arith, t)
 abbrev reports_at : Configuration → List Item → ℕ → List Report
 reports_at c items r = reports_from r 0 c.renditions (renditions c items)
 
--- a rendition's playlist with these in the place of its segments and of what is skipped
-abbrev page_at : Configuration → List Report → Rendition → Option Skip → List Finished → Playlist
-page_at c reports k skipped segments = record (playlist_of c reports k) { skipped = skipped; segments = segments }
+-- a rendition's playlist where so many segments are skipped
+abbrev page_at : ℕ → Configuration → List Report → Rendition → Playlist
+page_at n c reports k = record (playlist_of c reports k) { skipped = skip_of n; segments = printed (is_none (skip_of n)) (drop n k.window.window) }
 
-sound_page : (c : Configuration) (items : List Item) (r : ℕ) (skipped : Option Skip) (segments : List Finished) → IsWithin c → ArePublished c [] items
-    → Each IsSound (skip_lines skipped) → Each IsSound (flat_map segment_lines segments)
-    → Each IsSound (lines_of (page_at c (reports_at c items r) (kept c (own r items)) skipped segments))
-sound_page c items r skipped segments within published skips finished =
+sound_page : (c : Configuration) (items : List Item) (r n : ℕ) → IsWithin c → ArePublished c [] items → Each IsSound (skip_lines (skip_of n))
+    → Each IsSound (lines_of (page_at n c (reports_at c items r) (kept c (own r items))))
+sound_page c items r n within published skips =
     let xs = own r items in
     let k = compact c xs in
     let b = bounded_own c items r within published in
@@ -65,10 +64,15 @@ sound_page c items r skipped segments within published skips finished =
     let few = breaks_low c xs b in
     let held : 3 * c.part_target < duration_end = omega (arith, within.target_high, within.part_target_high) in
     let skip : skip_limit c < duration_end = omega (arith, within.window_low, within.window_high) in
+    let version = sound (Version 9) (omega arith) (number 9) in
+    let part_target = sound (PartTarget c.part_target) (omega (arith, held)) (lasting c.part_target (omega (arith, held))) in
+    let target = sound (TargetDuration c.target) (omega (arith, within.target_high)) (number c.target) in
+    let leading = is_none (skip_of n) in
     let after =
         each-append IsSound (map DateRange (map range_line (listed xs))) _ (sound-ranges (listed xs) (listable c items r published).each)
-        (each-append IsSound (skip_lines skipped) _ skips
-        (each-append IsSound (flat_map segment_lines segments) _ finished
+        (each-append IsSound (skip_lines (skip_of n)) _ skips
+        (each-append IsSound (flat_map segment_lines (printed leading (drop n k.window))) _
+        (sound-segments (end_time xs) leading (drop n k.window) (each-drop (IsShort (end_time xs)) n k.window (short-window c xs)) (times_low c xs b))
         (each-append IsSound (open_lines (open_of (length k.window == 0) (unfinished k))) _
         (sound-open (end_time xs) (length k.window == 0) k.next_number k.maps k.open_time k.open_parts (short-open xs) (times_low c xs b))
         (each-append IsSound (map RenditionReport (reports_at c items r)) (last_line (hint_of k) ∷ [])
@@ -77,44 +81,31 @@ sound_page c items r skipped segments within published skips finished =
         (sound-last k, tt))))) in
     let first = sound (MediaSequence (sequence_of k k.window)) low (number (sequence_of k k.window)) in
     let breaks = sound (DiscontinuitySequence k.discontinuity) few (number k.discontinuity) in
-    let part_target = sound (PartTarget c.part_target) (omega (arith, held)) (lasting c.part_target (omega (arith, held))) in
-    let target = sound (TargetDuration c.target) (omega (arith, within.target_high)) (number c.target) in
-    (sound First tt refl, (sound (Version 9) (omega arith) (number 9), (target, (sound-control (3 * c.part_target) (skip_limit c) held skip, (part_target, (first, (breaks, after)))))))
+    (sound First tt refl, (version, (target, (sound-control (3 * c.part_target) (skip_limit c) held skip, (part_target, (first, (breaks, after)))))))
 
-page_readable : (c : Configuration) (items : List Item) (r : ℕ) (skipped : Option Skip) (segments : List Finished) → IsWithin c → ArePublished c [] items
-    → Each IsSound (skip_lines skipped) → Each IsSound (flat_map segment_lines segments) → Where (λ (s : Skip). 1 ≤ s.count) skipped
-    → have_maps (is_none skipped) segments ≡ true → (is_none skipped || not (is_empty segments)) ≡ true
-    → (is_none skipped && is_empty segments) ≡ (length (compact c (own r items)).window == 0)
-    → IsReadable (page_at c (reports_at c items r) (kept c (own r items)) skipped segments)
-page_readable c items r skipped segments within published skips finished some maps own_segment leads =
+page_readable : (c : Configuration) (items : List Item) (r n : ℕ) → IsWithin c → ArePublished c [] items → Each IsSound (skip_lines (skip_of n))
+    → Where (λ (s : Skip). 1 ≤ s.count) (skip_of n) → may_end (page_at n c (reports_at c items r) (kept c (own r items))) ≡ true
+    → leads (page_at n c (reports_at c items r) (kept c (own r items))) ≡ (length (compact c (own r items)).window == 0)
+    → IsReadable (page_at n c (reports_at c items r) (kept c (own r items)))
+page_readable c items r n within published skips some own_segment begins =
     let xs = own r items in
     let k = compact c xs in
-    let p = page_at c (reports_at c items r) (kept c xs) skipped segments in
-    let all = sound_page c items r skipped segments within published skips finished in
+    let p = page_at n c (reports_at c items r) (kept c xs) in
+    let all = sound_page c items r n within published skips in
     record {
       lines = each-with IsSound line.Within (λ l h. h.within) (lines_of p) all;
       version = refl;
       distinct = distinct-ranges (listed xs) (listable c items r published);
       skipped = some;
-      maps = maps;
-      open_block = subst (λ b. Where (IsReadableOpen b) (open_of (length k.window == 0) (unfinished k))) (sym leads)
+      maps = maps-stand (is_none (skip_of n)) (drop n k.window);
+      open_block = subst (λ b. Where (IsReadableOpen b) (open_of (length k.window == 0) (unfinished k))) (sym begins)
           (readable-open (length k.window == 0) k.next_number k.maps k.open_time k.open_parts);
       own_segment = own_segment;
       utf8 = is_utf8-from_IsUtf8 (spelling p) (utf8-lines (lines_of p) all);
     }
 
-segments_sound : (c : Configuration) (items : List Item) (r n : ℕ) (leads : Bool) → IsWithin c → ArePublished c [] items
-    → Each IsSound (flat_map segment_lines (printed leads (drop n (compact c (own r items)).window)))
-segments_sound c items r n leads within published =
-    let xs = own r items in
-    let k = compact c xs in
-    sound-segments (end_time xs) leads (drop n k.window) (each-drop (IsShort (end_time xs)) n k.window (short-window c xs)) (times_low c xs (bounded_own c items r within published))
-
-full_readable : (c : Configuration) (items : List Item) (r : ℕ) → IsWithin c → ArePublished c [] items
-    → IsReadable (playlist_of c (reports_at c items r) (kept c (own r items)))
-full_readable c items r within published =
-    let window = (compact c (own r items)).window in
-    page_readable c items r None (printed true window) within published tt (segments_sound c items r 0 true within published) tt (maps-stand true window) refl (empty-printed true window)
+full_readable : (c : Configuration) (items : List Item) (r : ℕ) → IsWithin c → ArePublished c [] items → IsReadable (page_at 0 c (reports_at c items r) (kept c (own r items)))
+full_readable c items r within published = page_readable c items r 0 within published tt tt refl (empty-printed true (compact c (own r items)).window)
 
 some_window : (n m : ℕ) → n < m → (m == 0) ≡ false
 some_window n m lt = grind (arith, nat_tests)
@@ -124,17 +115,12 @@ some_segment n rs lt =
     let e = length-drop n rs in
     empty-printed false (drop n rs) ∙ some_window 0 (length (drop n rs)) (omega (arith, e))
 
--- the same, where so many segments are skipped
-abbrev delta_at : ℕ → Configuration → List Report → Rendition → Playlist
-delta_at zero c reports k = playlist_of c reports k
-delta_at (suc n) c reports k = page_at c reports k (skip_of (suc n)) (printed false (drop (suc n) k.window.window))
-
-same_delta : (n : ℕ) (v : Seen) → delta_by n v ≡ delta_at n v.settings (reports_of v) (asked v)
+same_delta : (n : ℕ) (v : Seen) → delta_by n v ≡ page_at n v.settings (reports_of v) (asked v)
 same_delta zero v = refl
 same_delta (suc n) v = refl
 
 delta_readable : (c : Configuration) (items : List Item) (r n : ℕ) → IsWithin c → ArePublished c [] items → skip_count (compact c (own r items)) ≡ n
-    → IsReadable (delta_at n c (reports_at c items r) (kept c (own r items)))
+    → IsReadable (page_at n c (reports_at c items r) (kept c (own r items)))
 delta_readable c items r zero within published skips = full_readable c items r within published
 delta_readable c items r (suc n) within published skips =
     let xs = own r items in
@@ -143,9 +129,8 @@ delta_readable c items r (suc n) within published skips =
     let some : suc n < length window = omega (arith, left, skips) in
     let all = few-window c xs in
     let numbers = (bounded_own c items r within published).numbers in
-    page_readable c items r (skip_of (suc n)) (printed false (drop (suc n) window)) within published
-    (sound-skip (suc n) (omega (arith, some, all, numbers)), tt) (segments_sound c items r (suc n) false within published) (omega arith)
-    (maps-stand false (drop (suc n) window)) (ap not (some_segment (suc n) window some)) (sym (some_window (suc n) (length window) some))
+    page_readable c items r (suc n) within published (sound-skip (suc n) (omega (arith, some, all, numbers)), tt) (omega arith)
+    (ap not (some_segment (suc n) window some)) (sym (some_window (suc n) (length window) some))
 
 pub readable : ReadableLaw
 readable c items r kind within is_one published =
@@ -153,6 +138,6 @@ readable c items r kind within is_one published =
     let is = asked-is c items r is_one in (
       subst (λ k. IsReadable (playlist_of c (reports_at c items r) k)) (sym is) (full_readable c items r within published),
       subst IsReadable (sym (same_delta (skip_count (asked v).window) v))
-          (subst (λ k. IsReadable (delta_at (skip_count k.window) c (reports_at c items r) k)) (sym is)
+          (subst (λ k. IsReadable (page_at (skip_count k.window) c (reports_at c items r) k)) (sym is)
           (delta_readable c items r (skip_count (compact c (own r items))) within published refl)),
     )

@@ -117,17 +117,12 @@ unfolding digits_2
 plain_2 n = plain-append (decimal (n / 10 % 10)) (decimal (n % 10)) (plain-decimal _) (plain-decimal _)
 
 plain_3 : (n : ℕ) → ArePlain (digits_3 n)
-unfolding digits_3
-plain_3 n =
-    plain-append (decimal (n / 100 % 10)) (decimal (n / 10 % 10) ++ decimal (n % 10)) (plain-decimal _)
-    (plain-append (decimal (n / 10 % 10)) (decimal (n % 10)) (plain-decimal _) (plain-decimal _))
+unfolding digits_3 digits_2
+plain_3 n = plain-append (decimal (n / 100 % 10)) (digits_2 n) (plain-decimal _) (plain_2 n)
 
 plain_4 : (n : ℕ) → ArePlain (digits_4 n)
-unfolding digits_4
-plain_4 n =
-    plain-append (decimal (n / 1000 % 10)) (decimal (n / 100 % 10) ++ (decimal (n / 10 % 10) ++ decimal (n % 10))) (plain-decimal _)
-    (plain-append (decimal (n / 100 % 10)) (decimal (n / 10 % 10) ++ decimal (n % 10)) (plain-decimal _)
-    (plain-append (decimal (n / 10 % 10)) (decimal (n % 10)) (plain-decimal _) (plain-decimal _)))
+unfolding digits_4 digits_3
+plain_4 n = plain-append (decimal (n / 1000 % 10)) (digits_3 n) (plain-decimal _) (plain_3 n)
 
 plain-time_of : (date : CivilDate) (ms : ℕ) → ArePlain (time_of date ms)
 unfolding time_of
