@@ -69,16 +69,16 @@ sound_page c items r n within published skips =
     let target = sound (TargetDuration c.target) (omega (arith, within.target_high)) (number c.target) in
     let leading = is_none (skip_of n) in
     let after =
-        each-append IsSound (map DateRange (map range_line (listed xs))) _ (sound-ranges (listed xs) (listable c items r published).each)
-        (each-append IsSound (skip_lines (skip_of n)) _ skips
-        (each-append IsSound (flat_map segment_lines (printed leading (drop n k.window))) _
-        (sound-segments (end_time xs) leading (drop n k.window) (each-drop (IsShort (end_time xs)) n k.window (short-window c xs)) (times_low c xs b))
-        (each-append IsSound (open_lines (open_of (length k.window == 0) (unfinished k))) _
-        (sound-open (end_time xs) (length k.window == 0) k.next_number k.maps k.open_time k.open_parts (short-open xs) (times_low c xs b))
-        (each-append IsSound (map RenditionReport (reports_at c items r)) (last_line (hint_of k) ∷ [])
-        (each-map (λ (r : Report). IsSound (RenditionReport r)) IsSound RenditionReport (λ r h. h) (reports_at c items r)
-        (sound-reports c items r 0 c.renditions within.renditions_named (λ q. (bounded_own c items q within published).placed)))
-        (sound-last k, tt))))) in
+    each-append IsSound (map DateRange (map range_line (listed xs))) _ (sound-ranges (listed xs) (listable c items r published).each)
+    (each-append IsSound (skip_lines (skip_of n)) _ skips
+    (each-append IsSound (flat_map segment_lines (printed leading (drop n k.window))) _
+    (sound-segments (end_time xs) leading (drop n k.window) (each-drop (IsShort (end_time xs)) n k.window (short-window c xs)) (times_low c xs b))
+    (each-append IsSound (open_lines (open_of (length k.window == 0) (unfinished k))) _
+    (sound-open (end_time xs) (length k.window == 0) k.next_number k.maps k.open_time k.open_parts (short-open xs) (times_low c xs b))
+    (each-append IsSound (map RenditionReport (reports_at c items r)) (last_line (hint_of k) ∷ [])
+    (each-map (λ (r : Report). IsSound (RenditionReport r)) IsSound RenditionReport (λ r h. h) (reports_at c items r)
+    (sound-reports c items r 0 c.renditions within.renditions_named (λ q. (bounded_own c items q within published).placed)))
+    (sound-last k, tt))))) in
     let first = sound (MediaSequence (sequence_of k k.window)) low (number (sequence_of k k.window)) in
     let breaks = sound (DiscontinuitySequence k.discontinuity) few (number k.discontinuity) in
     (sound First tt refl, (version, (target, (sound-control (3 * c.part_target) (skip_limit c) held skip, (part_target, (first, (breaks, after)))))))

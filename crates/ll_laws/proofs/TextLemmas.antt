@@ -50,12 +50,9 @@ onto_plain (suc k) n more p =
     let all : ArePlain (digit_glyph false (n % 10) ∷ more) = and_from _ (list_all is_plain more) (digit_plain (n % 10) (omega arith)) p in
     onto_by (n / 10 == 0) _ _ all (onto_plain k (n / 10) (digit_glyph false (n % 10) ∷ more) all)
 
-digits-onto : (n : ℕ) → digits_onto 64 10 false n [] ≡ decimal n
-unfolding digits
-digits-onto n = refl
-
 pub plain-decimal : (n : ℕ) → ArePlain (decimal n)
-plain-decimal n = subst ArePlain (digits-onto n) (onto_plain 64 n [] refl)
+unfolding digits
+plain-decimal n = onto_plain 64 n [] refl
 
 -- URIs
 
