@@ -13,7 +13,7 @@ use Rattle.ll_window.specs.Segments.{duration, ended}
 use Rattle.ll_window.specs.Step.{with_part_by, with_break, with_item, ended_by}
 use Rattle.ll_window.proofs.KeptLemmas.{limits}
 use Rattle.ll_window.proofs.StepLemmas.{compact-snoc}
-use Rattle.ll_read.specs.Readable.{Where}
+use Rattle.ll_format.specs.Format.{Where}
 use Rattle.ll_laws.proofs.ItemLemmas.{AreInOrder}
 use Rattle.ll_laws.proofs.OwnSegmentProof.{unended}
 

@@ -1,13 +1,11 @@
--- The date ranges that are listed were accepted: no two have one ID, and each can be read from its text.
+-- The date ranges that are listed were accepted: no two have one ID, and the line of each may stand in a playlist's text.
 use Rattle.std.proofs.Common.{◌≡◌, ℕ, ◌==◌, ◌&&◌, ◌||◌, Bool, true, false, not, cond, List, [], ◌∷◌, ◌++◌, map, filter, append-nil, append_assoc, refl, ap, sym, subst, ◌∙◌, bytes_eq, Some, None, if◌then◌else◌}
 use Rattle.std.proofs.lemmas.Bool.{and_from, or_parts, or_from}
 use Rattle.std.proofs.lemmas.List.Folds.{list_any-append}
 use Rattle.std.proofs.lemmas.List.Sums.{fold-append}
 use Rattle.std.proofs.lemmas.Slice.Eq.{bytes_eq-Decides}
 use Rattle.std.specs.List.{list_any}
-use Rattle.std.specs.Str.{is_utf8}
 use Rattle.ll_attr.specs.Attributes as attribute
-use Rattle.ll_attr.specs.declared.attributes.Attribute.{Attribute}
 use Rattle.ll_item.specs.Items.{rendition_of}
 use Rattle.ll_item.specs.Settings.{Configuration}
 use Rattle.ll_item.specs.declared.item.Item.{Item}
@@ -20,11 +18,13 @@ use Rattle.ll_range.specs.Attributes.{is_id, are_allowed}
 use Rattle.ll_range.specs.declared.ranges.RangeFault.TheVariants.{IdTaken, BadAttribute}
 use Rattle.ll_page.specs.Full.{range_line}
 use Rattle.ll_read.specs.Ranges.{has_id}
-use Rattle.ll_read.specs.Readable.{Each, IsReadableRange, are_distinct}
-use Rattle.ll_laws.specs.Published.{AreAccepted, IsSpelled, HasTexts, ArePublished}
-use Rattle.ll_laws.proofs.EachLemmas.{each-append, each-filter, each-map}
+use Rattle.ll_line.specs.Line.{DateRange}
+use Rattle.ll_read.specs.Readable.{Each, are_distinct}
+use Rattle.ll_laws.specs.Published.{AreAccepted, HasTexts, ArePublished}
+use Rattle.ll_laws.proofs.EachLemmas.{each-append, each-filter}
 use Rattle.ll_laws.proofs.ItemLemmas.{own_one, same}
-use Rattle.ll_laws.proofs.RangeTexts.{read-with_id}
+use Rattle.ll_laws.proofs.LineLemmas.{IsSound}
+use Rattle.ll_laws.proofs.RangeLines.{sound-range}
 
 pub accepted : (c : Configuration) (before items : List Item) → ArePublished c before items → AreAccepted c before items
 accepted c before [] h = tt
@@ -52,13 +52,9 @@ told_own c r before (i ∷ items) h =
 abbrev pub listed : List Item → List Listed
 listed items = (told items).listed
 
-pub record IsListable (x : Listed) : Type 0 where
-  pub attributes : List Attribute
-  pub id : is_id x.id ≡ true
-  pub utf8 : is_utf8 x.id ≡ true
-  pub allowed : are_allowed attributes ≡ true
-  pub spells : x.attributes ≡ attribute.spelling attributes
-  pub spelled : IsSpelled attributes
+-- its line may stand in a playlist's text
+abbrev pub IsListable : Listed → Type 0
+IsListable x = IsSound (DateRange (range_line x))
 
 abbrev has : List ℕ → List Listed → Bool
 has id xs = list_any (λ (x : Listed). bytes_eq id x.id) xs
@@ -125,7 +121,7 @@ listable_step c before (item.Range r id attributes) none texts h =
     let free = added_by (is_listed id (announced c before) || taken) (is_id id) (are_allowed attributes) none in
     let fresh = or_parts (is_listed id (announced c before)) taken free.0 in
     let x : Listed = record { id = id; attributes = attribute.spelling attributes; added = end_time before } in
-    let good : IsListable x = record { attributes = attributes; id = free.1; utf8 = texts.0; allowed = free.2; spells = refl; spelled = texts.1 } in
+    let good : IsListable x = sound-range id attributes free.1 texts.0 free.2 texts.1.read texts.1.utf8 in
     record { each = each-append IsListable (listed before) (x ∷ []) h.each (good, tt); apart = apart_after (listed before) x h.apart fresh.0 }
 listable_step c before (item.Unrange r id) none texts h =
     let keep : Listed → Bool = λ (x : Listed). not (bytes_eq id x.id) in
@@ -143,17 +139,9 @@ listable c items r published = listable_after c [] (own r items) (told_own c r [
 
 -- and their lines
 
-one_readable : (x : Listed) → IsListable x → IsReadableRange (range_line x)
-one_readable x h =
-    subst (λ text. IsReadableRange (record { id = x.id; attributes = text })) (sym h.spells)
-    (record {
-      more = h.attributes;
-      list = read-with_id x.id _ h.attributes h.id h.spelled.read h.allowed;
-      spelled = refl;
-    })
-
-pub readable-ranges : (xs : List Listed) → AreListable xs → Each IsReadableRange (map range_line xs)
-readable-ranges xs h = each-map IsListable IsReadableRange range_line one_readable xs h.each
+pub sound-ranges : (xs : List Listed) → Each IsListable xs → Each IsSound (map DateRange (map range_line xs))
+sound-ranges [] h = tt
+sound-ranges (x ∷ xs) h = (h.0, sound-ranges xs h.1)
 
 has-lines : (id : List ℕ) (xs : List Listed) → has_id id (map range_line xs) ≡ has id xs
 has-lines id [] = refl

@@ -14,7 +14,7 @@ use Rattle.ll_attr.specs.declared.attributes.Attribute.{Attribute}
 use Rattle.ll_attr.specs.declared.attributes.AttrValue.{AttrValue}
 use Rattle.ll_attr.specs.declared.attributes.AttrValue.TheVariants.{Quoted}
 use Rattle.ll_attr.proofs.Spelled.{read_by, read_ok, then_ok}
-use Rattle.ll_page.specs.Spelling.{after_comma}
+use Rattle.ll_line.specs.Formats.{attributes_text}
 use Rattle.ll_range.specs.Attributes.{is_id, is_id_byte, is_allowed, are_allowed}
 use Rattle.ll_laws.proofs.TextLemmas.{all-so}
 
@@ -109,15 +109,18 @@ none_called (a ∷ more) h =
 
 -- the text of an ID and of an attribute list after it is read as both
 read_by_text : (id text : List ℕ) (list : List Attribute) → list_all is_quoted_byte id ≡ true → attributes_in text ≡ Ok list
-    → list_any (is_called (codes "ID")) list ≡ false → attributes_in (codes "ID=\"" ++ (id ++ (codes "\"" ++ after_comma text))) ≡ Ok (id_of id ∷ list)
+    → list_any (is_called (codes "ID")) list ≡ false → attributes_in (codes "ID=\"" ++ (id ++ (codes "\"" ++ attributes_text text))) ≡ Ok (id_of id ∷ list)
 read_by_text id [] list h read none = cc
 read_by_text id (b ∷ bs) list h read none =
     ap (attributes_of []) (id_part id (44 ∷ b ∷ bs) (parts_outside false (b ∷ bs)) h refl)
     ∙ ap (λ r. and_then r (λ (a : Attribute). attributes_of (a.name ∷ []) (parts_outside false (b ∷ bs)))) (id_read id h)
     ∙ ap (in_front (id_of id)) (read_after [] (parts_outside false (b ∷ bs)) (codes "ID") list read none)
 
+pub quotable-id : (id : List ℕ) → is_id id ≡ true → list_all is_quoted_byte id ≡ true
+quotable-id id is = all-so is_id_byte is_quoted_byte id_byte id (and_parts _ (list_all is_id_byte id) is).1
+
 pub read-with_id : (id text : List ℕ) (list : List Attribute) → is_id id ≡ true → attributes_in text ≡ Ok list → are_allowed list ≡ true
-    → attributes_in (codes "ID=\"" ++ (id ++ (codes "\"" ++ after_comma text))) ≡ Ok (id_of id ∷ list)
+    → attributes_in (codes "ID=\"" ++ (id ++ (codes "\"" ++ attributes_text text))) ≡ Ok (id_of id ∷ list)
 read-with_id id text list is read allowed =
-    read_by_text id text list (all-so is_id_byte is_quoted_byte id_byte id (and_parts _ (list_all is_id_byte id) is).1) read
+    read_by_text id text list (quotable-id id is) read
     (none_called list (and_parts (list_all is_allowed list) _ allowed).0)

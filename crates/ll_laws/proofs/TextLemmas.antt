@@ -1,21 +1,20 @@
 -- Numbers, times and the URIs of media consist of ASCII bytes that may stand in quotes.
-use Rattle.std.proofs.Common.{◌≡◌, ℕ, zero, suc, ◌-◌, ◌/◌, ◌%◌, ◌≤◌, ◌<◌, ◌==◌, ◌&&◌, Bool, true, false, not, cond, List, [], ◌∷◌, ◌++◌, length, refl, ap, subst, ◌∙◌, arith, nat_le, bytes_eq, codes, decimal, slice_index, take}
-use Rattle.std.proofs.lemmas.Bool.{and_parts, and_from, or_from}
+use Rattle.std.proofs.Common.{◌≡◌, ℕ, zero, suc, ◌/◌, ◌%◌, ◌≤◌, ◌<◌, ◌==◌, ◌&&◌, Bool, true, false, cond, List, [], ◌∷◌, ◌++◌, length, refl, ap, subst, ◌∙◌, arith, nat_le, codes, decimal}
+use Rattle.std.proofs.lemmas.Bool.{and_parts, and_from}
 use Rattle.std.proofs.lemmas.Bool.Decides.{nat_tests}
 use Rattle.std.proofs.lemmas.List.{length-append}
 use Rattle.std.proofs.lemmas.List.Folds.{list_all-append}
-use Rattle.std.proofs.lemmas.Slice.Eq.{bytes_eq-Decides}
 use Rattle.std.specs.Char.{is_ascii}
 use Rattle.std.specs.Fmt.{digits, digits_onto, digit_glyph}
-use Rattle.std.specs.List.{list_all, list_any}
-use Rattle.std.specs.Str.Lines.{strip_carriage_return}
+use Rattle.std.specs.List.{list_all}
 use Rattle.ll_attr.specs.Attributes.{is_quoted_byte}
 use Rattle.ll_item.specs.Names as names
 use Rattle.ll_time.specs.Calendar.{CivilDate, nth_date}
 use Rattle.ll_time.specs.Times.{digits_2, digits_3, digits_4, time_of, time_text}
-use Rattle.ll_page.specs.Uris.{segment_uri, part_uri, map_uri, report_uri}
-use Rattle.ll_read.specs.Lines.{is_uri, is_tag}
-use Rattle.ll_read.specs.Readable.{ends_no_line, is_line_feed}
+use Rattle.ll_line.specs.Uris.{segment_uri, part_uri, map_uri, report_uri}
+use Rattle.ll_format.specs.Words.{is_line_byte, is_one_line, is_uri, is_rest}
+use Rattle.ll_line.specs.Formats.{line}
+use Rattle.ll_line.specs.Line.{Uri}
 
 abbrev pub is_plain : ℕ → Bool
 is_plain b = is_ascii b && is_quoted_byte b
@@ -51,12 +50,9 @@ onto_plain (suc k) n more p =
     let all : ArePlain (digit_glyph false (n % 10) ∷ more) = and_from _ (list_all is_plain more) (digit_plain (n % 10) (omega arith)) p in
     onto_by (n / 10 == 0) _ _ all (onto_plain k (n / 10) (digit_glyph false (n % 10) ∷ more) all)
 
-digits-onto : (n : ℕ) → digits_onto 64 10 false n [] ≡ decimal n
-unfolding digits
-digits-onto n = refl
-
 pub plain-decimal : (n : ℕ) → ArePlain (decimal n)
-plain-decimal n = subst ArePlain (digits-onto n) (onto_plain 64 n [] refl)
+unfolding digits
+plain-decimal n = onto_plain 64 n [] refl
 
 -- URIs
 
@@ -85,7 +81,7 @@ plain-report name h =
 quoted : (b : ℕ) → is_plain b ≡ true → is_quoted_byte b ≡ true
 quoted b h = (and_parts (is_ascii b) (is_quoted_byte b) h).1
 
-some_test : (n : ℕ) → 1 ≤ n → nat_le 1 n ≡ true
+pub some_test : (n : ℕ) → 1 ≤ n → nat_le 1 n ≡ true
 some_test n some = grind (arith, nat_tests)
 
 uri_plain : (text : List ℕ) → 1 ≤ length text → ArePlain text → is_uri text ≡ true
@@ -95,7 +91,7 @@ uri_plain text some h =
 some_more : (b : ℕ) (bs : List ℕ) → 1 ≤ length (b ∷ bs)
 some_more b bs = omega arith
 
-pub uri-segment : (n : ℕ) → (is_uri (segment_uri n) && not (is_tag (segment_uri n))) ≡ true
+pub uri-segment : (n : ℕ) → line.Within (Uri (segment_uri n))
 unfolding segment_uri
 uri-segment n = ap (λ b. b && true) (uri_plain (segment_uri n) (some_more 115 (decimal n ++ codes ".m4s")) (plain-segment n))
 
@@ -118,17 +114,12 @@ unfolding digits_2
 plain_2 n = plain-append (decimal (n / 10 % 10)) (decimal (n % 10)) (plain-decimal _) (plain-decimal _)
 
 plain_3 : (n : ℕ) → ArePlain (digits_3 n)
-unfolding digits_3
-plain_3 n =
-    plain-append (decimal (n / 100 % 10)) (decimal (n / 10 % 10) ++ decimal (n % 10)) (plain-decimal _)
-    (plain-append (decimal (n / 10 % 10)) (decimal (n % 10)) (plain-decimal _) (plain-decimal _))
+unfolding digits_3 digits_2
+plain_3 n = plain-append (decimal (n / 100 % 10)) (digits_2 n) (plain-decimal _) (plain_2 n)
 
 plain_4 : (n : ℕ) → ArePlain (digits_4 n)
-unfolding digits_4
-plain_4 n =
-    plain-append (decimal (n / 1000 % 10)) (decimal (n / 100 % 10) ++ (decimal (n / 10 % 10) ++ decimal (n % 10))) (plain-decimal _)
-    (plain-append (decimal (n / 100 % 10)) (decimal (n / 10 % 10) ++ decimal (n % 10)) (plain-decimal _)
-    (plain-append (decimal (n / 10 % 10)) (decimal (n % 10)) (plain-decimal _) (plain-decimal _)))
+unfolding digits_4 digits_3
+plain_4 n = plain-append (decimal (n / 1000 % 10)) (digits_3 n) (plain-decimal _) (plain_3 n)
 
 plain-time_of : (date : CivilDate) (ms : ℕ) → ArePlain (time_of date ms)
 unfolding time_of
@@ -144,28 +135,10 @@ plain-time_of date ms =
 pub plain-time : (ms : ℕ) → ArePlain (time_text ms)
 plain-time ms = plain-time_of (nth_date (ms / 86400000)) (ms % 86400000)
 
--- no line ends in a plain text
+-- a plain text stands on one line
 
-no_end : (b : ℕ) → is_quoted_byte b ≡ true → (is_line_feed b ≡ false) × ((b == 13) ≡ false)
-no_end b h = (grind (arith, nat_tests), grind (arith, nat_tests))
-
-no_feed : (text : List ℕ) → ArePlain text → list_any is_line_feed text ≡ false
-no_feed [] h = refl
-no_feed (b ∷ bs) h =
-    let p = and_parts (is_plain b) (list_all is_plain bs) h in
-    or_from (is_line_feed b) (list_any is_line_feed bs) (no_end b (quoted b p.0)).0 (no_feed bs p.1)
-
-no_return : (text : List ℕ) (i : ℕ) → ArePlain text → (slice_index text i == 13) ≡ false
-no_return [] i h = refl
-no_return (b ∷ bs) zero h = (no_end b (quoted b (and_parts (is_plain b) (list_all is_plain bs) h).0)).1
-no_return (b ∷ bs) (suc i) h = no_return bs i (and_parts (is_plain b) (list_all is_plain bs) h).1
-
-plain_stripped : (text : List ℕ) → ArePlain text → strip_carriage_return text ≡ text
-plain_stripped text h = ap (λ b. cond b (take (length text - 1) text) text) (no_return text (length text - 1) h)
-
-ends_none : (text : List ℕ) → ArePlain text → ends_no_line text ≡ true
-ends_none text h =
-    ap (λ b. not b && bytes_eq (strip_carriage_return text) text) (no_feed text h) ∙ (bytes_eq-Decides (strip_carriage_return text) text).1 (plain_stripped text h)
+plain_line : (b : ℕ) → is_plain b ≡ true → is_line_byte b ≡ true
+plain_line b h = grind (arith, nat_tests)
 
 some_after : (xs : List ℕ) (b : ℕ) (bs : List ℕ) → 1 ≤ length (xs ++ b ∷ bs)
 some_after xs b bs = let e = length-append xs (b ∷ bs) in omega (arith, e)
@@ -177,7 +150,7 @@ some_time_of date ms = some_after (digits_4 date.year) 45 _
 some_time : (ms : ℕ) → 1 ≤ length (time_text ms)
 some_time ms = some_time_of (nth_date (ms / 86400000)) (ms % 86400000)
 
-pub readable-time : (ms : ℕ) → (nat_le 1 (length (time_text ms)) && ends_no_line (time_text ms)) ≡ true
+pub readable-time : (ms : ℕ) → is_rest (time_text ms) ≡ true
 readable-time ms =
-    and_from (nat_le 1 (length (time_text ms))) (ends_no_line (time_text ms)) (some_test (length (time_text ms)) (some_time ms))
-    (ends_none (time_text ms) (plain-time ms))
+    and_from (nat_le 1 (length (time_text ms))) (is_one_line (time_text ms)) (some_test (length (time_text ms)) (some_time ms))
+    (all-so is_plain is_line_byte plain_line (time_text ms) (plain-time ms))
