@@ -32,7 +32,6 @@ abbrev pub has_other : {A V : Type 0} → List ℕ → String A × V → Bool
 has_other id e = not (has_id id e.0)
 
 module _ {A V : Type 0} (id : List ℕ) where
-
   kept_by : (b : Bool) (x : String A × V) (o : Option V) (more xs : List (String A × V)) → cond b (Some x.1) o ≡ None → (o ≡ None → more ≡ xs) → cond (not b) (x ∷ more) more ≡ x ∷ xs
   kept_by true x o more xs e rest = absurd (cc)
   kept_by false x o more xs e rest = ap (λ ys. x ∷ ys) (rest e)
