@@ -23,27 +23,24 @@ use Rattle.ll_laws.proofs.LineLemmas.{IsSound, utf8-ascii}
 use Rattle.ll_laws.proofs.RangeTexts.{read-with_id, quotable-id}
 use Rattle.ll_laws.proofs.TextLemmas.{some_test}
 
-bare_value : (b : Bool) (text : List ℕ) (v : AttrValue) → is_bare text ≡ b → (if b then Some (Bare text) else None) ≡ Some v → is_one_line (value_spelling v) ≡ true
-bare_value true text v bare h =
-    let e : Bare text ≡ v = cc in
-    sym (ap (λ x. is_one_line (value_spelling x)) e) ∙ inside_from is_bare_byte text refl refl (and_parts _ (list_all is_bare_byte text) bare).1
-bare_value false text v bare h = cc
+bare_line : (text : List ℕ) → is_bare text ≡ true → is_one_line text ≡ true
+bare_line text h = inside_from is_bare_byte text refl refl (and_parts _ (list_all is_bare_byte text) h).1
 
-quoted_value : (b : Bool) (inner : List ℕ) (v : AttrValue) → list_all is_quoted_byte inner ≡ b → (if b then Some (Quoted inner) else None) ≡ Some v
-    → is_one_line (value_spelling v) ≡ true
-quoted_value true inner v all h =
-    let e : Quoted inner ≡ v = cc in
-    sym (ap (λ x. is_one_line (value_spelling x)) e) ∙ inside_both inner (codes "\"") (inside_from is_quoted_byte inner refl refl all) refl
-quoted_value false inner v all h = cc
+quoted_line : (text : List ℕ) → list_all is_quoted_byte text ≡ true → is_one_line (text ++ codes "\"") ≡ true
+quoted_line text h = inside_both text (codes "\"") (inside_from is_quoted_byte text refl refl h) refl
+
+value_if : (b : Bool) (x v : AttrValue) → (b ≡ true → is_one_line (value_spelling x) ≡ true) → (if b then Some x else None) ≡ Some v → is_one_line (value_spelling v) ≡ true
+value_if true x v one h = let e : x ≡ v = cc in sym (ap (λ y. is_one_line (value_spelling y)) e) ∙ one refl
+value_if false x v one h = cc
 
 one_value : (text : List ℕ) (parts : List (List ℕ)) (v : AttrValue) → value_by text parts ≡ Some v → is_one_line (value_spelling v) ≡ true
-one_value text [] v h = bare_value (is_bare text) text v refl h
-one_value text ((b ∷ bs) ∷ parts) v h = bare_value (is_bare text) text v refl h
-one_value text ([] ∷ []) v h = bare_value (is_bare text) text v refl h
-one_value text ([] ∷ inner ∷ []) v h = bare_value (is_bare text) text v refl h
-one_value text ([] ∷ inner ∷ (b ∷ bs) ∷ parts) v h = bare_value (is_bare text) text v refl h
-one_value text ([] ∷ inner ∷ [] ∷ part ∷ parts) v h = bare_value (is_bare text) text v refl h
-one_value text ([] ∷ inner ∷ [] ∷ []) v h = quoted_value (list_all is_quoted_byte inner) inner v refl h
+one_value text [] v h = value_if (is_bare text) (Bare text) v (bare_line text) h
+one_value text ((b ∷ bs) ∷ parts) v h = value_if (is_bare text) (Bare text) v (bare_line text) h
+one_value text ([] ∷ []) v h = value_if (is_bare text) (Bare text) v (bare_line text) h
+one_value text ([] ∷ inner ∷ []) v h = value_if (is_bare text) (Bare text) v (bare_line text) h
+one_value text ([] ∷ inner ∷ (b ∷ bs) ∷ parts) v h = value_if (is_bare text) (Bare text) v (bare_line text) h
+one_value text ([] ∷ inner ∷ [] ∷ part ∷ parts) v h = value_if (is_bare text) (Bare text) v (bare_line text) h
+one_value text ([] ∷ inner ∷ [] ∷ []) v h = value_if (list_all is_quoted_byte inner) (Quoted inner) v (quoted_line inner) h
 
 one_attribute : (names : List (List ℕ)) (part : List ℕ) (a : Attribute) → attribute_in names part ≡ Ok a → is_one_line (attribute_spelling a) ≡ true
 one_attribute names part a h =

@@ -1,5 +1,5 @@
 -- Numbers, times and the URIs of media consist of ASCII bytes that may stand in quotes.
-use Rattle.std.proofs.Common.{◌≡◌, ℕ, zero, suc, ◌/◌, ◌%◌, ◌≤◌, ◌<◌, ◌==◌, ◌&&◌, Bool, true, false, cond, List, [], ◌∷◌, ◌++◌, length, refl, ap, subst, ◌∙◌, arith, nat_le, codes, decimal}
+use Rattle.std.proofs.Common.{◌≡◌, ℕ, zero, suc, ◌/◌, ◌%◌, ◌≤◌, ◌<◌, ◌==◌, ◌&&◌, Bool, true, false, cond, List, [], ◌∷◌, ◌++◌, length, refl, ap, ◌∙◌, arith, nat_le, codes, decimal}
 use Rattle.std.proofs.lemmas.Bool.{and_parts, and_from}
 use Rattle.std.proofs.lemmas.Bool.Decides.{nat_tests}
 use Rattle.std.proofs.lemmas.List.{length-append}
@@ -12,7 +12,7 @@ use Rattle.ll_item.specs.Names as names
 use Rattle.ll_time.specs.Calendar.{CivilDate, nth_date}
 use Rattle.ll_time.specs.Times.{digits_2, digits_3, digits_4, time_of, time_text}
 use Rattle.ll_line.specs.Uris.{segment_uri, part_uri, map_uri, report_uri}
-use Rattle.ll_format.specs.Words.{is_line_byte, is_one_line, is_uri, is_rest}
+use Rattle.ll_format.specs.Words.{is_line_byte, is_one_line, is_quotable, is_uri, is_rest}
 use Rattle.ll_line.specs.Formats.{line}
 use Rattle.ll_line.specs.Line.{Uri}
 
@@ -84,28 +84,25 @@ quoted b h = (and_parts (is_ascii b) (is_quoted_byte b) h).1
 pub some_test : (n : ℕ) → 1 ≤ n → nat_le 1 n ≡ true
 some_test n some = grind (arith, nat_tests)
 
-uri_plain : (text : List ℕ) → 1 ≤ length text → ArePlain text → is_uri text ≡ true
-uri_plain text some h =
-    and_from (nat_le 1 (length text)) (list_all is_quoted_byte text) (some_test (length text) some) (all-so is_plain is_quoted_byte quoted text h)
-
-some_more : (b : ℕ) (bs : List ℕ) → 1 ≤ length (b ∷ bs)
-some_more b bs = omega arith
+uri_plain : (b : ℕ) (bs : List ℕ) → ArePlain (b ∷ bs) → is_uri (b ∷ bs) ≡ true
+uri_plain b bs h =
+    and_from (nat_le 1 (length (b ∷ bs))) (is_quotable (b ∷ bs)) (some_test (length (b ∷ bs)) (omega arith)) (all-so is_plain is_quoted_byte quoted (b ∷ bs) h)
 
 pub uri-segment : (n : ℕ) → line.Within (Uri (segment_uri n))
 unfolding segment_uri
-uri-segment n = ap (λ b. b && true) (uri_plain (segment_uri n) (some_more 115 (decimal n ++ codes ".m4s")) (plain-segment n))
+uri-segment n = ap (λ b. b && true) (uri_plain 115 (decimal n ++ codes ".m4s") (plain-segment n))
 
 pub uri-part : (n i : ℕ) → is_uri (part_uri n i) ≡ true
 unfolding part_uri
-uri-part n i = uri_plain (part_uri n i) (some_more 115 (decimal n ++ (codes "." ++ (decimal i ++ codes ".m4s")))) (plain-part n i)
+uri-part n i = uri_plain 115 (decimal n ++ (codes "." ++ (decimal i ++ codes ".m4s"))) (plain-part n i)
 
 pub uri-map : (n : ℕ) → is_uri (map_uri n) ≡ true
 unfolding map_uri
-uri-map n = uri_plain (map_uri n) (some_more 105 (codes "nit" ++ (decimal n ++ codes ".mp4"))) (plain-map n)
+uri-map n = uri_plain 105 (codes "nit" ++ (decimal n ++ codes ".mp4")) (plain-map n)
 
 pub uri-report : (name : List ℕ) → names.is_name name ≡ true → is_uri (report_uri name) ≡ true
 unfolding report_uri
-uri-report name h = uri_plain (report_uri name) (some_more 46 (codes "./" ++ (name ++ codes "/live.m3u8"))) (plain-report name h)
+uri-report name h = uri_plain 46 (codes "./" ++ (name ++ codes "/live.m3u8")) (plain-report name h)
 
 -- times
 
