@@ -33,7 +33,7 @@ done
 
 # change KIND: changes text, which may come out as it was. (Digits are changed more often than others: much else is refused.)
 bytes=(0 7 9 '"' ',' ':' $'\r' $'\n' $'\xff' x)
-kinds=(byte byte digit digit digit digit byte_out line_out line_twice line_exchanged cut)
+kinds=(byte byte digit digit digit digit digit digit byte_out line_out line_twice line_exchanged cut)
 change() {
     local at=$((RANDOM % ${#text})) lines line
     mapfile lines <<<"$text"

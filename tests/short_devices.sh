@@ -1,9 +1,10 @@
 #!/usr/bin/env bash
-# Runs each row of tests/rows and tests/apply, and the program's other uses, over devices that give at most 5 bytes a read and take
-# at most 7 a write. The last line, `N passed, M failed`, is that of tests/rows.sh, and counts besides that both were cut.
+# short_devices.sh PROGRAM: runs each row of tests/rows and tests/apply, and the program's other uses, over devices that give at most
+# 5 bytes a read and take at most 7 a write. The last line, `N passed, M failed`, is that of tests/rows.sh, and counts besides that
+# both were cut.
 set -u
 here=$(cd "$(dirname "${BASH_SOURCE[0]}")" && pwd) || exit 2
-program=$("$here/program.sh") || exit 2
+program=$(realpath -- "$1")
 room=$(mktemp -d) || exit 2
 trap 'rm -rf "$room"' EXIT
 
