@@ -1,11 +1,10 @@
 -- A text that is a playlist's.
-use Rattle.std.proofs.Common.{◌≡◌, ℕ, ◌&&◌, Bool, true, false, List, Result, Err, refl, ap, sym, ◌∙◌, codes, bytes_eq, if◌then◌else◌}
+use Rattle.std.proofs.Common.{◌≡◌, ℕ, ◌&&◌, Bool, true, false, List, Result, Ok, Err, refl, ap, sym, ◌∙◌, codes, bytes_eq, if◌then◌else◌}
 use Rattle.std.proofs.lemmas.Str.{IsUtf8-from_is_utf8, is_utf8-from_IsUtf8}
 use Rattle.std.specs.Str.{is_utf8, IsUtf8}
 use Rattle.ll_attr.specs.Words.{parts_at}
 use Rattle.ll_page.specs.Playlist.{Playlist}
-use Rattle.ll_read.specs.Reading.{playlist_in, first_line, read_from}
-use Rattle.ll_read.specs.Shape.{start}
+use Rattle.ll_read.specs.Reading.{first_line, is_playlist, playlist_in, read_from, start}
 use Rattle.ll_read.specs.declared.fault.ReadFault.{ReadFault}
 use Rattle.ll_read.specs.declared.fault.ReadFault.TheVariants.{NotPlaylist}
 
@@ -27,3 +26,11 @@ begun text bytes first e utf8 f h =
 pub not_text : (bytes : List ℕ) → (IsUtf8 bytes → ⊥) → playlist_in bytes ≡ Err NotPlaylist
 not_text bytes bad =
     not_by (is_utf8 bytes) (bytes_eq (first_line (parts_at 10 bytes)) (codes "#EXTM3U")) (read_from 1 start (parts_at 10 bytes)) (Err NotPlaylist) (λ h. bad (IsUtf8-from_is_utf8 bytes h))
+
+spelled_by : (x : Bool) (r : Result Playlist ReadFault) (p : Playlist) → (if x then r else Err NotPlaylist) ≡ Ok p → (x ≡ true) × (r ≡ Ok p)
+spelled_by true r p h = (refl, h)
+spelled_by false r p h = absurd (cc)
+
+-- a text that spells a playlist begins so
+pub spelled : (text : List ℕ) (p : Playlist) → playlist_in text ≡ Ok p → (is_playlist text ≡ true) × (read_from 1 start (parts_at 10 text) ≡ Ok p)
+spelled text p h = spelled_by (is_playlist text) (read_from 1 start (parts_at 10 text)) p h

@@ -1,10 +1,11 @@
--- What lines come to, one after another, without their numbers; and that reading their text comes to it.
-use Rattle.std.proofs.Common.{◌≡◌, ℕ, ◌+◌, true, false, not, List, [], ◌∷◌, ◌++◌, refl, ap, sym, ◌∙◌, append_assoc, Option, Some, None, Ok, bytes_eq}
+-- What lines come to, one after another, without their numbers: reading their text comes to it.
+use Rattle.std.proofs.Common.{◌≡◌, ℕ, ◌+◌, Bool, true, false, not, List, [], ◌∷◌, ◌++◌, refl, ap, sym, ◌∙◌, append_assoc, Option, Some, None, Ok, bytes_eq}
 use Rattle.std.proofs.lemmas.Bool.{and_parts, or_parts, not-true}
 use Rattle.std.proofs.lemmas.List.Elements.{All-from_recursion}
 use Rattle.std.proofs.lemmas.List.Splits.{slice_split_at}
 use Rattle.std.proofs.lemmas.Slice.Eq.{bytes_eq-Decides}
 use Rattle.std.specs.List.{AllByRecursion, list_any}
+use Rattle.std.specs.Option.{option_map}
 use Rattle.std.specs.Str.Lines.{strip_carriage_return}
 use Rattle.ll_attr.specs.Words.{parts_at}
 use Rattle.ll_line.specs.Formats as format
@@ -12,8 +13,11 @@ use Rattle.ll_line.specs.Line.{Line}
 use Rattle.ll_line.specs.Text.{text_of}
 use Rattle.ll_page.specs.Playlist.{Playlist}
 use Rattle.ll_read.specs.Readable.{Each}
-use Rattle.ll_read.specs.Reading.{read_from, next_line, ended}
-use Rattle.ll_read.specs.Shape.{Reading, AtEnd, at, next}
+use Rattle.ll_read.specs.Reading.{Reading, ended, next, next_line, read_from}
+use Rattle.ll_read.specs.Shape.{only_if}
+use Rattle.ll_read.specs.declared.shape.Shape.{Shape}
+use Rattle.ll_read.specs.declared.shape.Stage.{Stage}
+use Rattle.ll_read.specs.declared.shape.Stage.TheVariants.{AtEnd}
 use Rattle.ll_read.proofs.Onward.{goes_on}
 use Rattle.ll_read.proofs.WholeLines.{IsLine, is_line_feed, ends_no_line, with_end}
 
@@ -21,17 +25,23 @@ use Rattle.ll_read.proofs.WholeLines.{IsLine, is_line_feed, ends_no_line, with_e
 abbrev pub spelled : Line → List ℕ
 spelled l = format.line.print l
 
-abbrev step : Option Reading → Line → Option Reading
-step None line = None
-step (Some r) line = next r line
+abbrev pub whole_at : Stage → Playlist → Option Playlist
+whole_at AtEnd p = Some p
+whole_at stage p = None
 
-abbrev pub run : Option Reading → List Line → Option Reading
-run o [] = o
-run o (line ∷ more) = run (step o line) more
+abbrev pub come : Option Reading → List Line → Option Playlist
+come None lines = None
+come (Some r) [] = whole_at r.shape.stage r.draft.playlist
+come (Some r) (line ∷ more) = come (next r line) more
 
-none_run : (lines : List Line) → run None lines ≡ None
-none_run [] = refl
-none_run (line ∷ more) = none_run more
+-- a line that may stand somewhere only under a condition
+pub allowed : (b : Bool) (o : Option Shape) (f : Shape → Reading) (more : List Line) (p : Playlist) → come (option_map f (only_if b o)) more ≡ Some p
+    → (b ≡ true) × (come (option_map f o) more ≡ Some p)
+allowed true o f more p h = (refl, h)
+allowed false o f more p h = absurd (cc)
+
+pub allows : (b : Bool) (o : Option Shape) (f : Shape → Reading) (more : List Line) → b ≡ true → come (option_map f (only_if b o)) more ≡ come (option_map f o) more
+allows b o f more h = ap (λ x. come (option_map f (only_if x o)) more) h
 
 no_feed : (text : List ℕ) → list_any is_line_feed text ≡ false → AllByRecursion (λ b. is_line_feed b ≡ false) text
 no_feed [] h = tt
@@ -51,12 +61,16 @@ cut text more h =
     ap (parts_at 10) (append_assoc text (10 ∷ []) more)
     ∙ slice_split_at is_line_feed text 10 more (All-from_recursion (λ b. is_line_feed b ≡ false) text none) refl
 
+ends : (n : ℕ) (stage : Stage) (q p : Playlist) → whole_at stage q ≡ Some p → ended n stage q ≡ Ok p
+ends n AtEnd q p h = ap Ok (cc)
+ends n stage q p h = absurd (cc)
+
 -- reading from a line on, by what the line comes to
 from_line : (n : ℕ) (r : Reading) (line : Line) (more : List Line) (o : Option Reading) (p : Playlist) → IsLine line → next r line ≡ o
-    → run o more ≡ at AtEnd p
-    → ((q : Reading) → run (Some q) more ≡ at AtEnd p → read_from (n + 1) q (parts_at 10 (text_of more)) ≡ Ok p)
+    → come o more ≡ Some p
+    → ((q : Reading) → come (Some q) more ≡ Some p → read_from (n + 1) q (parts_at 10 (text_of more)) ≡ Ok p)
     → read_from n r (parts_at 10 (text_of (line ∷ more))) ≡ Ok p
-from_line n r line more None p is e h rest = absurd (cc (none_run more))
+from_line n r line more None p is e h rest = absurd (cc)
 from_line n r line more (Some q) p is e h rest =
     let text = spelled line in
     let whole = text_of (line ∷ more) in
@@ -65,10 +79,7 @@ from_line n r line more (Some q) p is e h rest =
     sym (goes_on n r q whole text text (text_of more) (read_from n r (parts_at 10 whole)) below (kept text is.whole) comes refl) ∙ rest q h
 
 -- lines that come to a whole playlist are read as it
-pub read : (lines : List Line) (n : ℕ) (r : Reading) (p : Playlist) → Each IsLine lines → run (Some r) lines ≡ at AtEnd p
+pub read : (lines : List Line) (n : ℕ) (r : Reading) (p : Playlist) → Each IsLine lines → come (Some r) lines ≡ Some p
     → read_from n r (parts_at 10 (text_of lines)) ≡ Ok p
-read [] n r p are h =
-    let end : Reading = record { place = AtEnd; playlist = p } in
-    let e : r ≡ end = cc in
-    ap (λ (x : Reading). ended n x.place x.playlist) e
+read [] n r p are h = ends n r.shape.stage r.draft.playlist p h
 read (line ∷ more) n r p are h = from_line n r line more (next r line) p are.0 refl h (λ q g. read more (n + 1) q p are.1 g)
