@@ -1,12 +1,6 @@
 -- What lines come to, one after another, without their numbers: reading their text comes to it.
-use Rattle.std.proofs.Common.{◌≡◌, ℕ, ◌+◌, Bool, true, false, not, List, [], ◌∷◌, ◌++◌, refl, ap, sym, ◌∙◌, append_assoc, Option, Some, None, Ok, bytes_eq}
-use Rattle.std.proofs.lemmas.Bool.{and_parts, or_parts, not-true}
-use Rattle.std.proofs.lemmas.List.Elements.{All-from_recursion}
-use Rattle.std.proofs.lemmas.List.Splits.{slice_split_at}
-use Rattle.std.proofs.lemmas.Slice.Eq.{bytes_eq-Decides}
-use Rattle.std.specs.List.{AllByRecursion, list_any}
+use Rattle.std.proofs.Common.{◌≡◌, ℕ, ◌+◌, Bool, true, false, List, [], ◌∷◌, ◌++◌, refl, ap, sym, ◌∙◌, Option, Some, None, Ok}
 use Rattle.std.specs.Option.{option_map}
-use Rattle.std.specs.Str.Lines.{strip_carriage_return}
 use Rattle.ll_attr.specs.Words.{parts_at}
 use Rattle.ll_line.specs.Formats as format
 use Rattle.ll_line.specs.Line.{Line}
@@ -18,8 +12,9 @@ use Rattle.ll_read.specs.Shape.{only_if}
 use Rattle.ll_read.specs.declared.shape.Shape.{Shape}
 use Rattle.ll_read.specs.declared.shape.Stage.{Stage}
 use Rattle.ll_read.specs.declared.shape.Stage.TheVariants.{AtEnd}
+use Rattle.ll_line.proofs.LineLaws.{line-laws}
 use Rattle.ll_read.proofs.Onward.{goes_on}
-use Rattle.ll_read.proofs.WholeLines.{IsLine, is_line_feed, ends_no_line, with_end}
+use Rattle.ll_read.proofs.WholeLines.{cut, kept, with_end}
 
 -- a line without its end
 abbrev pub spelled : Line → List ℕ
@@ -43,43 +38,26 @@ allowed false o f more p h = absurd (cc)
 pub allows : (b : Bool) (o : Option Shape) (f : Shape → Reading) (more : List Line) → b ≡ true → come (option_map f (only_if b o)) more ≡ come (option_map f o) more
 allows b o f more h = ap (λ x. come (option_map f (only_if x o)) more) h
 
-no_feed : (text : List ℕ) → list_any is_line_feed text ≡ false → AllByRecursion (λ b. is_line_feed b ≡ false) text
-no_feed [] h = tt
-no_feed (b ∷ bs) h = let p = or_parts (is_line_feed b) (list_any is_line_feed bs) h in (p.0, no_feed bs p.1)
-
-parts : (text : List ℕ) → ends_no_line text ≡ true → (not (list_any is_line_feed text) ≡ true) × (bytes_eq (strip_carriage_return text) text ≡ true)
-parts text h = and_parts (not (list_any is_line_feed text)) (bytes_eq (strip_carriage_return text) text) h
-
--- a text that ends no line has no CR at its end
-pub kept : (text : List ℕ) → ends_no_line text ≡ true → text ≡ strip_carriage_return text
-kept text h = sym ((bytes_eq-Decides (strip_carriage_return text) text).0 (parts text h).1)
-
--- and is cut off at the LF after it
-pub cut : (text more : List ℕ) → ends_no_line text ≡ true → parts_at 10 ((text ++ 10 ∷ []) ++ more) ≡ text ∷ parts_at 10 more
-cut text more h =
-    let none = no_feed text (not-true (list_any is_line_feed text) (parts text h).0) in
-    ap (parts_at 10) (append_assoc text (10 ∷ []) more)
-    ∙ slice_split_at is_line_feed text 10 more (All-from_recursion (λ b. is_line_feed b ≡ false) text none) refl
-
 ends : (n : ℕ) (stage : Stage) (q p : Playlist) → whole_at stage q ≡ Some p → ended n stage q ≡ Ok p
 ends n AtEnd q p h = ap Ok (cc)
 ends n stage q p h = absurd (cc)
 
 -- reading from a line on, by what the line comes to
-from_line : (n : ℕ) (r : Reading) (line : Line) (more : List Line) (o : Option Reading) (p : Playlist) → IsLine line → next r line ≡ o
+from_line : (n : ℕ) (r : Reading) (line : Line) (more : List Line) (o : Option Reading) (p : Playlist) → format.line.Within line → next r line ≡ o
     → come o more ≡ Some p
     → ((q : Reading) → come (Some q) more ≡ Some p → read_from (n + 1) q (parts_at 10 (text_of more)) ≡ Ok p)
     → read_from n r (parts_at 10 (text_of (line ∷ more))) ≡ Ok p
-from_line n r line more None p is e h rest = absurd (cc)
-from_line n r line more (Some q) p is e h rest =
+from_line n r line more None p within e h rest = absurd (cc)
+from_line n r line more (Some q) p within e h rest =
     let text = spelled line in
     let whole = text_of (line ∷ more) in
-    let below = ap (λ t. parts_at 10 (t ++ text_of more)) (with_end line) ∙ cut text (text_of more) is.whole in
-    let comes = ap (next_line r) is.read ∙ e in
-    sym (goes_on n r q whole text text (text_of more) (read_from n r (parts_at 10 whole)) below (kept text is.whole) comes refl) ∙ rest q h
+    let one_line = line-laws.inside line within in
+    let below = ap (λ t. parts_at 10 (t ++ text_of more)) (with_end line) ∙ cut text (text_of more) one_line in
+    let comes = ap (next_line r) (line-laws.again line within) ∙ e in
+    sym (goes_on n r q whole text text (text_of more) (read_from n r (parts_at 10 whole)) below (kept text one_line) comes refl) ∙ rest q h
 
 -- lines that come to a whole playlist are read as it
-pub read : (lines : List Line) (n : ℕ) (r : Reading) (p : Playlist) → Each IsLine lines → come (Some r) lines ≡ Some p
+pub read : (lines : List Line) (n : ℕ) (r : Reading) (p : Playlist) → Each format.line.Within lines → come (Some r) lines ≡ Some p
     → read_from n r (parts_at 10 (text_of lines)) ≡ Ok p
 read [] n r p are h = ends n r.shape.stage r.draft.playlist p h
 read (line ∷ more) n r p are h = from_line n r line more (next r line) p are.0 refl h (λ q g. read more (n + 1) q p are.1 g)

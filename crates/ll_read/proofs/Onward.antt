@@ -42,14 +42,9 @@ goes_on n r q rest line shown below whole e s h w =
     ap (λ o. and_then n o (λ x. read_from (n + 1) x (parts_at 10 below))) (sym h ∙ ap (λ l. next_line r (line_in l)) s)
     ∙ sym (read_more n r line (parts_at 10 below) (some_parts below)) ∙ ap (read_from n r) (sym e) ∙ w
 
-pub step_none : (r : Reading) (o : Option Line) (line : Line) (x : Bool) → Some line ≡ o → x ≡ is_new_line line r.draft.playlist
-    → None ≡ shape_next r.shape line x → next_line r o ≡ None
-step_none r o line x is_line new h =
-    ap (next_line r) (sym is_line) ∙ ap (option_map (λ s. at s (put line r.draft))) (ap (shape_next r.shape line) (sym new) ∙ sym h)
-
-pub step_some : (r : Reading) (o : Option Line) (line : Line) (x : Bool) (s : Shape) → Some line ≡ o → x ≡ is_new_line line r.draft.playlist
-    → Some s ≡ shape_next r.shape line x → next_line r o ≡ Some (at s (put line r.draft))
-step_some r o line x s is_line new h =
+pub line_next : (r : Reading) (o : Option Line) (line : Line) (x : Bool) (s : Option Shape) → Some line ≡ o → x ≡ is_new_line line r.draft.playlist
+    → s ≡ shape_next r.shape line x → next_line r o ≡ option_map (λ s. at s (put line r.draft)) s
+line_next r o line x s is_line new h =
     ap (next_line r) (sym is_line) ∙ ap (option_map (λ s. at s (put line r.draft))) (ap (shape_next r.shape line) (sym new) ∙ sym h)
 
 open_ranges : (o : Option Block) (p : Playlist) → (with_open o p).ranges ≡ p.ranges ++ []

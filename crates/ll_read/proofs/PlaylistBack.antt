@@ -3,6 +3,7 @@ use Rattle.std.proofs.Common.{◌≡◌, ℕ, true, List, ◌∷◌, ◌++◌, m
 use Rattle.std.proofs.lemmas.Str.{IsUtf8-from_is_utf8}
 use Rattle.std.specs.List.{flat_map}
 use Rattle.std.specs.Str.{is_utf8}
+use Rattle.ll_line.specs.Formats.{line}
 use Rattle.ll_line.specs.Line.{DateRange, First, Line}
 use Rattle.ll_attr.specs.Words.{parts_at}
 use Rattle.ll_line.specs.Text.{text_of}
@@ -11,14 +12,15 @@ use Rattle.ll_page.specs.Spelling.{lines_of, open_lines, segment_lines, skip_lin
 use Rattle.ll_read.specs.Draft.{plain}
 use Rattle.ll_read.specs.Readable.{Each, IsReadable, ReadsBackLaw, leads}
 use Rattle.ll_read.specs.Reading.{playlist_in, start}
+use Rattle.ll_line.proofs.LineLaws.{line-laws}
 use Rattle.ll_read.proofs.Begins.{begun}
 use Rattle.ll_read.proofs.Onward.{first_is}
-use Rattle.ll_read.proofs.Comes.{come, cut, kept, read, spelled}
+use Rattle.ll_read.proofs.Comes.{come, read, spelled}
 use Rattle.ll_read.proofs.ComesInside.{between, from, header, segments}
 use Rattle.ll_read.proofs.ComesRanges.{ranges, skip}
 use Rattle.ll_read.proofs.ComesToEnd.{end_lines, to_end}
 use Rattle.ll_read.proofs.SoFar.{headed}
-use Rattle.ll_read.proofs.WholeLines.{IsLine, each_line, with_end}
+use Rattle.ll_read.proofs.WholeLines.{cut, kept, with_end}
 
 -- the lines of a readable playlist come to it
 all_come : (p : Playlist) → IsReadable p → come (Some start) (lines_of p) ≡ Some p
@@ -39,13 +41,14 @@ all_come p can =
     ∙ to_end (leads p) p.open_block p.reports p.hint all can.open_block
 
 -- a text of such lines, of which the first is a playlist's, is read as what they come to
-by_lines : (text : List ℕ) (more : List Line) (p : Playlist) → text ≡ text_of (First ∷ more) → is_utf8 text ≡ true → Each IsLine (First ∷ more)
+by_lines : (text : List ℕ) (more : List Line) (p : Playlist) → text ≡ text_of (First ∷ more) → is_utf8 text ≡ true → Each line.Within (First ∷ more)
     → come (Some start) (First ∷ more) ≡ Some p → playlist_in text ≡ Ok p
-by_lines text more p spelt utf8 are comes =
+by_lines text more p spelt utf8 within comes =
     let whole = text_of (First ∷ more) in
     let first = spelled First in
-    let shown = kept first are.0.whole ∙ first_is whole first (text_of more) (ap (λ t. parts_at 10 (t ++ text_of more)) (with_end First) ∙ cut first (text_of more) are.0.whole) in
-    sym (begun whole text first (sym spelt) (IsUtf8-from_is_utf8 text utf8) shown refl) ∙ read (First ∷ more) 1 start p are comes
+    let one_line = line-laws.inside First within.0 in
+    let shown = kept first one_line ∙ first_is whole first (text_of more) (ap (λ t. parts_at 10 (t ++ text_of more)) (with_end First) ∙ cut first (text_of more) one_line) in
+    sym (begun whole text first (sym spelt) (IsUtf8-from_is_utf8 text utf8) shown refl) ∙ read (First ∷ more) 1 start p within comes
 
 pub reads-back : ReadsBackLaw
-reads-back p can = by_lines (spelling p) (drop 1 (lines_of p)) p refl can.utf8 (each_line (lines_of p) can.lines) (all_come p can)
+reads-back p can = by_lines (spelling p) (drop 1 (lines_of p)) p refl can.utf8 can.lines (all_come p can)
