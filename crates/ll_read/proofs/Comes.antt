@@ -54,7 +54,7 @@ from_line n r line more (Some q) p within e h rest =
     let one_line = line-laws.inside line within in
     let below = ap (λ t. parts_at 10 (t ++ text_of more)) (with_end line) ∙ cut text (text_of more) one_line in
     let comes = ap (next_line r) (line-laws.again line within) ∙ e in
-    sym (goes_on n r q whole text text (text_of more) (read_from n r (parts_at 10 whole)) below (kept text one_line) comes refl) ∙ rest q h
+    sym (goes_on n r (Some q) whole text text (text_of more) (read_from n r (parts_at 10 whole)) below (kept text one_line) comes refl) ∙ rest q h
 
 -- lines that come to a whole playlist are read as it
 pub read : (lines : List Line) (n : ℕ) (r : Reading) (p : Playlist) → Each format.line.Within lines → come (Some r) lines ≡ Some p

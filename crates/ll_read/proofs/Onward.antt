@@ -1,5 +1,5 @@
 -- One line after another, and what the lines left come to.
-use Rattle.std.proofs.Common.{◌≡◌, ℕ, ◌+◌, ◌<◌, ◌==◌, Bool, List, [], ◌∷◌, ◌++◌, length, refl, ap, sym, ◌∙◌, arith, Option, Some, None, Result, Err}
+use Rattle.std.proofs.Common.{◌≡◌, ℕ, ◌+◌, ◌<◌, ◌==◌, Bool, List, [], ◌∷◌, ◌++◌, length, refl, ap, sym, ◌∙◌, arith, Option, Some, None, Result}
 use Rattle.std.proofs.lemmas.List.{append-nil}
 use Rattle.std.proofs.lemmas.List.Splits.{length-slice_split}
 use Rattle.std.specs.Option.{option_map}
@@ -13,7 +13,6 @@ use Rattle.ll_read.specs.Ranges.{range_of, ranges_in}
 use Rattle.ll_read.specs.Reading.{Reading, and_then, at, first_line, is_new_line, next_line, read_from}
 use Rattle.ll_read.specs.Shape.{shape_next}
 use Rattle.ll_read.specs.declared.fault.ReadFault.{ReadFault}
-use Rattle.ll_read.specs.declared.fault.ReadFault.TheVariants.{BadLine}
 use Rattle.ll_read.specs.declared.shape.Shape.{Shape}
 
 read_more : (n : ℕ) (r : Reading) (line : List ℕ) (ps : List (List ℕ)) → 0 < length ps → read_from n r (line ∷ ps) ≡ and_then n (next_line r (line_in (strip_carriage_return line))) (λ q. read_from (n + 1) q ps)
@@ -30,15 +29,11 @@ by_parts line (p ∷ ps) some = refl
 pub first_is : (text line below : List ℕ) → parts_at 10 text ≡ line ∷ parts_at 10 below → strip_carriage_return line ≡ first_line (parts_at 10 text)
 first_is text line below e = by_parts line (parts_at 10 below) (some_parts below) ∙ ap first_line (sym e)
 
-pub bad_here : (n : ℕ) (r : Reading) (rest line shown below : List ℕ) (whole : Result Playlist ReadFault) → parts_at 10 rest ≡ line ∷ parts_at 10 below → shown ≡ strip_carriage_return line
-    → next_line r (line_in shown) ≡ None → read_from n r (parts_at 10 rest) ≡ whole → whole ≡ Err (BadLine n)
-bad_here n r rest line shown below whole e s h w =
-    sym (ap (λ o. and_then n o (λ q. read_from (n + 1) q (parts_at 10 below))) (sym h ∙ ap (λ l. next_line r (line_in l)) s)
-    ∙ sym (read_more n r line (parts_at 10 below) (some_parts below)) ∙ ap (read_from n r) (sym e) ∙ w)
-
-pub goes_on : (n : ℕ) (r q : Reading) (rest line shown below : List ℕ) (whole : Result Playlist ReadFault) → parts_at 10 rest ≡ line ∷ parts_at 10 below → shown ≡ strip_carriage_return line
-    → next_line r (line_in shown) ≡ Some q → read_from n r (parts_at 10 rest) ≡ whole → read_from (n + 1) q (parts_at 10 below) ≡ whole
-goes_on n r q rest line shown below whole e s h w =
+-- one line more, and what the lines left come to
+pub goes_on : (n : ℕ) (r : Reading) (o : Option Reading) (rest line shown below : List ℕ) (whole : Result Playlist ReadFault) → parts_at 10 rest ≡ line ∷ parts_at 10 below
+    → shown ≡ strip_carriage_return line → next_line r (line_in shown) ≡ o → read_from n r (parts_at 10 rest) ≡ whole
+    → and_then n o (λ q. read_from (n + 1) q (parts_at 10 below)) ≡ whole
+goes_on n r o rest line shown below whole e s h w =
     ap (λ o. and_then n o (λ x. read_from (n + 1) x (parts_at 10 below))) (sym h ∙ ap (λ l. next_line r (line_in l)) s)
     ∙ sym (read_more n r line (parts_at 10 below) (some_parts below)) ∙ ap (read_from n r) (sym e) ∙ w
 

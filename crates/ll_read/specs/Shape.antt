@@ -47,8 +47,8 @@ after_segments (Hint uri) s = Some (to AtEnd s)
 after_segments EndList s = Some (to AtEnd s)
 after_segments line s = None
 
--- after the header and perhaps date ranges, of which no two have one id: a skip line, the first segment of a full playlist, which has
--- a map, or none
+-- after the header and perhaps date ranges, of which no two have one id (section 4.4.5.1): a skip line, which skips something (section
+-- 4.4.5.2), the first segment of a full playlist, which has a map (section 4.4.4.5), or no segment
 abbrev pub in_ranges : Line → Bool → Shape → Option Shape
 in_ranges (DateRange range) is_new s = only_if is_new (Some s)
 in_ranges (Skipped skip) is_new s = only_if (nat_le 1 skip.count) (Some after_skip)
@@ -56,7 +56,7 @@ in_ranges Discontinuity is_new s = Some (to AfterDiscontinuity s)
 in_ranges (Map uri) is_new s = Some (to AfterMap s)
 in_ranges line is_new s = after_segments line s
 
--- after a skip line or a segment: a segment, which has a map only after a discontinuity, or none any more
+-- after a skip line or a segment: a segment, which has a map after a discontinuity (section 4.4.4.3) and only there, or none any more
 abbrev pub between_segments : Line → Shape → Option Shape
 between_segments Discontinuity s = Some (to AfterDiscontinuity s)
 between_segments (Time time) s = Some (to InSegment s)
