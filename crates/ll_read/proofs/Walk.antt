@@ -1,5 +1,5 @@
--- Lines that come to a playlist are its lines, and it is as it should be: line by line, by the stage that one stands at.
-use Rattle.std.proofs.Common.{◌≡◌, ℕ, ◌==◌, ◌||◌, ◌&&◌, Bool, true, false, not, List, [], ◌∷◌, ◌++◌, map, refl, ap, sym, subst, ◌∙◌, append_assoc, Some, None, is_none, nat_le, bytes_eq}
+-- Lines that come to a playlist are its lines and come to its outline, and it is as it should be: line by line, by the stage that one stands at.
+use Rattle.std.proofs.Common.{◌≡◌, ℕ, ◌==◌, ◌||◌, ◌&&◌, Bool, true, false, not, List, [], ◌∷◌, ◌++◌, length-append, map, refl, ap, sym, subst, ◌∙◌, append_assoc, Some, None, is_none, nat_le, bytes_eq}
 use Rattle.std.proofs.lemmas.Bool.{and_from, and_parts, and_right, leb-true, not-true, not_from_false, or_from, or_parts, or_right}
 use Rattle.std.proofs.lemmas.List.Folds.{list_any-append}
 use Rattle.std.specs.List.{flat_map}
@@ -8,20 +8,23 @@ use Rattle.ll_line.specs.Line.{DateRange, DateRangeLine, Discontinuity, Disconti
 use Rattle.ll_page.specs.Playlist.{Block, Finished, Playlist}
 use Rattle.ll_page.specs.Spelling.{block_lines, break_lines, head_lines, lines_of, map_lines, open_lines, segment_lines, skip_lines}
 use Rattle.ll_read.specs.Draft.{Draft, plain, put}
+use Rattle.ll_read.specs.Outline.{outline_of}
 use Rattle.ll_read.specs.Ranges.{has_id}
 use Rattle.ll_read.specs.Readable.{are_distinct, has_map, have_maps, may_end}
 use Rattle.ll_read.specs.Reading.{at, is_empty, is_new_line, next}
 use Rattle.ll_read.specs.Shape.{after_segments}
+use Rattle.ll_read.specs.declared.outline.Outline.{Outline}
 use Rattle.ll_read.specs.declared.shape.Shape.{Shape}
 use Rattle.ll_read.specs.declared.shape.Stage.{Stage}
 use Rattle.ll_read.specs.declared.shape.Stage.TheVariants.{AtStart, AfterFirst, AfterVersion, AfterTargetDuration, AfterControl, AfterPartTarget, AfterMediaSequence, InRanges, BetweenSegments, AfterDiscontinuity, AfterMap, InSegment, InParts, AfterDuration, InReports, AtEnd}
 use Rattle.ll_read.proofs.Comes.{allowed, come}
 use Rattle.ll_read.proofs.Lasts.{flat_map_last, in_three, map_last, some_last}
 use Rattle.ll_read.proofs.ComesRanges.{other_way}
+use Rattle.ll_read.proofs.Told.{outline_with}
 use Rattle.ll_read.proofs.SoFar.{Holds, IsSound, IsWhole, block_of, in_block, known, ranged, reading_at, segmented, so_far, to_reports, to_segments, uri_of}
 
 abbrev Comes : Stage → Draft → List Line → Playlist → Type 0
-Comes stage d lines p = (so_far stage d lines ≡ lines_of p) × IsWhole p
+Comes stage d lines p = (so_far stage d lines ≡ lines_of p) × IsWhole p × (outline_with (outline_of (known stage d).playlist) lines ≡ outline_of p)
 
 -- what the lines below come to
 abbrev Rest : List Line → Playlist → Type 0
@@ -29,8 +32,8 @@ Rest more p = (stage : Stage) (d : Draft) → Holds stage d → come (Some (read
 
 -- lines that are those of a later stage and more
 onward : (lines : List Line) (stage : Stage) (d : Draft) (more : List Line) (p : Playlist) → lines ≡ so_far stage d more → Comes stage d more p
-    → (lines ≡ lines_of p) × IsWhole p
-onward lines stage d more p e w = (e ∙ w.0, w.1)
+    → (lines ≡ lines_of p) × IsWhole p × (outline_with (outline_of (known stage d).playlist) more ≡ outline_of p)
+onward lines stage d more p e w = (e ∙ w.0, w.1, w.2)
 
 distinct_last : (rs : List DateRangeLine) (r : DateRangeLine) → are_distinct rs ≡ true → has_id r.id rs ≡ false → are_distinct (rs ++ r ∷ []) ≡ true
 distinct_last [] r h new = refl
@@ -129,9 +132,11 @@ finished d uri more p g rest h =
     let lines = ap (λ l. ranged d.playlist (skip_lines d.playlist.skipped ++ l))
     (ap (λ l. flat_map segment_lines ss ++ l) (sym (append_assoc (block_lines b) (Duration d.duration ∷ Uri uri ∷ []) more)) ∙ sym (flat_map_last segment_lines ss s more)) in
     let sound : IsSound e.playlist = (g.0.0, g.0.1, g.0.2, maps_last none ss s g.0.3 g.1) in
-    onward _ BetweenSegments e more p lines
-    (rest BetweenSegments e (sound, and_right none (is_empty (ss ++ s ∷ [])) (not-true (is_empty (ss ++ s ∷ [])) some))
-    (ap (λ b. come (Some (at (record { stage = BetweenSegments; may_end = b }) e)) more) (or_right none (not (is_empty (ss ++ s ∷ []))) some) ∙ h))
+    let may = or_right none (not (is_empty (ss ++ s ∷ []))) some in
+    let w = rest BetweenSegments e (sound, and_right none (is_empty (ss ++ s ∷ [])) (not-true (is_empty (ss ++ s ∷ [])) some))
+    (ap (λ b. come (Some (at (record { stage = BetweenSegments; may_end = b }) e)) more) may ∙ h) in
+    let one = ap (λ n. let o : Outline = record (outline_of e.playlist) { segments = n } in outline_with o more) (sym (length-append ss (s ∷ []))) in
+    (lines ∙ w.0, w.1, one ∙ w.2)
 
 step : (stage : Stage) (d : Draft) (line : Line) (more : List Line) (p : Playlist) → Holds stage d → Rest more p → come (next (reading_at stage d) line) more ≡ Some p
     → Comes stage d (line ∷ more) p
@@ -162,6 +167,6 @@ step AfterDuration d (Uri uri) more p g rest h = finished d uri more p g rest h
 step stage d line more p g rest h = absurd (cc)
 
 pub walk : (stage : Stage) (d : Draft) (lines : List Line) (p : Playlist) → Holds stage d → come (Some (reading_at stage d)) lines ≡ Some p → Comes stage d lines p
-walk AtEnd d [] p g h = let e : d.playlist ≡ p = cc in (ap lines_of e, subst IsWhole e g)
+walk AtEnd d [] p g h = let e : d.playlist ≡ p = cc in (ap lines_of e, subst IsWhole e g, ap outline_of e)
 walk stage d [] p g h = absurd (cc)
 walk stage d (line ∷ more) p g h = step stage d line more p g (λ t e. walk t e more p) h

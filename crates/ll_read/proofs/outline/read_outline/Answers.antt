@@ -5,7 +5,7 @@ use Rattle.ll_read.specs.Draft.{blank}
 use Rattle.ll_read.specs.Outline.{outline_of}
 use Rattle.ll_read.specs.Outlined.{outline_from}
 use Rattle.ll_read.proofs.Begins.{not_text}
-use Rattle.ll_read.proofs.Outlines.{outlined}
+use Rattle.ll_read.proofs.SpelledAgain.{outlined}
 use Rattle.ll_read.proofs.outline.read_outline.Goals as goal
 
 pub returns-in-Ok : goal.returns-in-Ok
