@@ -6,6 +6,8 @@ mod attr_tests;
 #[cfg(test)]
 mod attribute_tests;
 #[cfg(test)]
+mod directive_tests;
+#[cfg(test)]
 mod fault_tests;
 #[cfg(test)]
 mod item_tests;
