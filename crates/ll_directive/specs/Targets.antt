@@ -1,10 +1,10 @@
 -- What the target of a player's request wants (section 6.2.5 of draft-pantos-hls-rfc8216bis).
-use Rattle.std.specs.Prelude.{ℕ, List, [], ◌∷◌, Bool, ◌&&◌, ◌||◌, ◌==◌, not, Option, Some, None, Result, Ok, Err, if◌then◌else◌, ok_or, option_and_then, option_map, map, filter, bytes_eq, codes}
+use Rattle.std.specs.Prelude.{ℕ, List, [], ◌∷◌, Bool, ◌&&◌, ◌||◌, ◌==◌, not, Option, Some, None, Result, Ok, Err, if◌then◌else◌, ok_or, option_and_then, option_map, map, filter, length, nat_le, bytes_eq, codes}
 use Rattle.std.specs.Char.{is_ascii_graphic}
 use Rattle.std.specs.List.{list_all, before_first, after_first}
 use Rattle.std.specs.Option.{option_or}
 use Rattle.std.specs.Str.{str_eq_ignore_ascii_case}
-use Rattle.form_urlencoded.specs.Form.{parse, is_nonempty}
+use Rattle.form_urlencoded.specs.Form.{parse}
 use Rattle.ll_attr.specs.Numbers.{number_in}
 use Rattle.ll_attr.specs.Words.{parts_at, after}
 use Rattle.ll_item.specs.Names.{is_name}
@@ -52,7 +52,7 @@ after_scheme front = if is_scheme (before_first is_colon front) then after (code
 
 -- what stands after the slash that ends an authority of one or more bytes; nothing, where the authority is all there is
 abbrev pub after_authority : List ℕ → Option (List ℕ)
-after_authority text = if is_nonempty (before_first is_slash text) then Some (after_first is_slash text) else None
+after_authority text = if nat_le 1 (length (before_first is_slash text)) then Some (after_first is_slash text) else None
 
 -- the path without its first slash, of what stands before the first question mark of a target
 abbrev pub path_of : List ℕ → Option (List ℕ)
@@ -97,7 +97,7 @@ abbrev pub skip_of : Option Skip → Skip
 skip_of None = No
 skip_of (Some skip) = skip
 
--- what the values of the three directives ask for; none of a list's, where one of them is bad
+-- what the meanings of the three directives' values ask for; None stands for values of which one means nothing
 abbrev pub directives_of : Option (List ℕ) → Option (List ℕ) → Option (List Skip) → Result (Awaited × Skip) TargetFault
 directives_of msns parts skips = do
   msns ← ok_or msns BadMsn

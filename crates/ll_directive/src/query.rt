@@ -13,7 +13,7 @@ use form_urlencoded::raw_pairs;
 use ll_attr::parse_number;
 use percent_encoding::percent_decode;
 
-/// How many values a directive has.
+/// The values of a directive: none, one, or more, of which none is kept.
 #[derive(Clone, Copy)]
 enum Few<T> {
     Zero,
@@ -21,7 +21,7 @@ enum Few<T> {
     More,
 }
 
-/// The values of each directive; none, where one of them is bad.
+/// What is told of each directive: its values, or None where one of them means nothing.
 #[derive(Clone, Copy)]
 struct Directives {
     msn: Option<Few<u64>>,
@@ -116,7 +116,7 @@ impl<T: Copy> Few<T> {
     }
 }
 
-/// The values of a directive with one more, where none of them is bad.
+/// The values of a directive with one more, or None where one of them means nothing.
 fn with_value<T: Copy>(told: Option<Few<T>>, value: Option<T>) -> Option<Few<T>>
     ensures { result ≡ spec.with_value told value }
 {
