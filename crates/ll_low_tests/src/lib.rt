@@ -14,4 +14,6 @@ mod range_tests;
 #[cfg(test)]
 mod time_tests;
 #[cfg(test)]
+mod want_tests;
+#[cfg(test)]
 mod window_tests;
