@@ -18,13 +18,13 @@ place_of p = record { number = p.number; index = p.index }
 abbrev pub reaches : ℕ → ℕ → Place → Bool
 reaches msn part here = nat_lt msn here.number || (msn == here.number && nat_le part here.index)
 
--- Whether a playlist after these items of its rendition holds the wanted part or a later one. All parts that were ever published
--- count, also those that it no longer lists. So an index past the last part of a finished segment means the first part of the
+-- Whether the wanted part or a later one is among those of these items of a rendition. All parts that were ever published count,
+-- also those that playlists no longer list. So an index past the last part of a finished segment means the first part of the
 -- next segment.
 abbrev pub holds_part : Configuration → List Item → ℕ → ℕ → Bool
 holds_part c items msn part = list_any (λ p. reaches msn part (place_of p)) (numbered_parts c.first 0 (parts items))
 
--- whether it holds the wanted segment or a later one, finished; the end finishes the last one too
+-- whether the wanted segment or a later one is among the finished ones; the end finishes the last one too
 abbrev pub holds_segment : Configuration → List Item → ℕ → Bool
 holds_segment c items msn = list_any (λ row. nat_le msn row.segment.number) (all_rows c items)
 
@@ -51,7 +51,8 @@ abbrev pub far_by : Configuration → Option Place → ℕ → List Part → ℕ
 far_by c last number open_parts msn part = nat_lt (number_after_last c last + 1) msn || far_part c number open_parts msn part
 
 -- Whether what is wanted is so far ahead that its request may be refused: a segment more than two after the last one that has a
--- part, or a part of the open segment past its last part by more than the Advance Part Limit (section 6.2.5.2).
+-- part, or a part of the open segment past its last part by more than the Advance Part Limit (section 6.2.5.2). Before the first
+-- part it is a segment more than one after the first.
 abbrev pub far : Configuration → List Item → ℕ → Option ℕ → Bool
 far c items msn part = far_by c (last_place (numbered_parts c.first 0 (parts items))) (c.first + length (segments items)) (open_segment items) msn part
 

@@ -43,7 +43,7 @@ impl Window {
     /// Whether the segment of this media sequence number, or its part of this index, is so far ahead that a request for it may be
     /// refused: a segment more than two after the last one that has a part, or a part of the open segment whose index is past
     /// that of its last part by more than the Advance Part Limit, as many parts as make three seconds, or three where the part
-    /// target is a second or longer (section 6.2.5.2).
+    /// target is a second or longer (section 6.2.5.2). Before the first part it is a segment more than one after the first.
     pub fn far(&self, msn: u64, part: Option<u64>) -> bool
         ensures { (items : List Item) → self.now ≡ compact self.now.settings items → result ≡ spec.far self.now.settings items msn part }
     {
