@@ -2,6 +2,7 @@ pub mod MicrosAtCut
 pub mod Digits
 pub mod Fractions
 pub mod ReadsBack
+pub mod SameLemmas
 mod SetNames
 pub mod PartsAtCut
 pub mod PartsOutside

@@ -2,4 +2,5 @@ pub mod Attributes
 pub mod Durations
 pub mod Numbers
 pub mod Reading
+pub mod Same
 pub mod Words

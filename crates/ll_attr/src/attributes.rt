@@ -1,5 +1,8 @@
 //! Attribute lists.
 ghost use Rattle.std.specs.Prelude.{◌≡◌, ◌≢◌, ◌++◌, ◌∷◌, [], IfOk, MatchOption, Ok, None, Some, string_bytes};
+ghost use Rattle.std.proofs.Common.{rules};
+ghost use Rattle.std.specs.Bool.{Decides};
+ghost use Rattle.std.specs.Cmp.Rules.{comparing};
 ghost use Rattle.ll_attr.specs.Attributes.{attributes_in, attribute_spelling, spelling, value_named};
 
 use crate::text::Text;
@@ -8,7 +11,7 @@ use std::marker::Model;
 use thiserror::Error;
 
 /// The value of an attribute (section 4.2).
-#[derive(Debug, PartialEq, Drop)]
+#[derive(Debug, Drop)]
 pub enum AttrValue {
     /// What stands between quotation marks: any text without a quotation mark, CR or LF (quoted-string).
     Quoted(Text),
@@ -17,12 +20,40 @@ pub enum AttrValue {
 }
 
 /// A name and its value.
-#[derive(Debug, PartialEq, Drop)]
+#[derive(Debug, Drop)]
 pub struct Attribute {
     /// One or more characters A-Z, 0-9 and `-`, compared byte by byte.
     pub name: Text,
     /// What stands after the equals sign.
     pub value: AttrValue,
+}
+
+impl PartialEq for AttrValue {
+    ghost use Rattle.ll_attr.specs.Same.{same_value};
+
+    ghost eq = { same_value };
+
+    ghost laws = { Prim.search (comparing, rules) };
+
+    fn eq(&self, other: &AttrValue) -> bool {
+        match (self, other) {
+            (AttrValue::Quoted(text), AttrValue::Quoted(same)) => text == same,
+            (AttrValue::Bare(text), AttrValue::Bare(same)) => text == same,
+            _ => false,
+        }
+    }
+}
+
+impl PartialEq for Attribute {
+    ghost use Rattle.ll_attr.specs.Same.{same_attribute};
+
+    ghost eq = { same_attribute };
+
+    ghost laws = { Prim.search (comparing, rules) };
+
+    fn eq(&self, other: &Attribute) -> bool {
+        self.name == other.name && self.value == other.value
+    }
 }
 
 /// Why a text is no attribute list: its first fault from the left; within a pair its name, its standing twice, its value,
@@ -70,6 +101,24 @@ impl Model for AttrList {
     ghost view = { λ list. list.attributes.items };
 
     ghost invariant = { λ list. list.attributes.items ≢ [] → attributes_in (spelling list.attributes.items) ≡ Ok list.attributes.items };
+}
+
+impl PartialEq for AttrList {
+    ghost use Rattle.ll_attr.specs.Same.{same_attributes};
+    ghost use Rattle.std.specs.Cmp.Lexicographic.{lists_per};
+
+    ghost eq = { same_attributes };
+
+    ghost laws = { lists_per (Prim.search (comparing, rules)) };
+
+    /// Whether the lists are equal: the same attributes in the same order, byte by byte.
+    #[tactic(auto, using(crate::proofs::SameLemmas::list_decided))]
+    fn eq(&self, other: &AttrList) -> bool
+        ensures value { result ≡ same_attributes self.now other.now }
+        ensures equal { Decides result (self.now ≡ other.now) }
+    {
+        self.attributes() == other.attributes()
+    }
 }
 
 impl AttrList {

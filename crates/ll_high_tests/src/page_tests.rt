@@ -1,5 +1,5 @@
 use ll_item::{Item, Settings};
-use ll_page::{Rendition, SkipKind, View, delta, full};
+use ll_page::{Form, Page, Rendition, Shown, SkipKind, View, delta, full};
 use ll_range::Ranges;
 use ll_window::Window;
 use std::alloc::Global;
@@ -83,6 +83,9 @@ const TWO_ITEMS: &[&str] = &[
     "end hi",
 ];
 
+/// What comes later: it changes the playlist of either rendition.
+const LATER: &[&str] = &["part lo 1000000 f"];
+
 /// Segments of a second, of which delta updates skip those that have more than 6 s after them.
 const ONE: &str = "channel cam target=1 part=1000000 skip=6 window=9 renditions=hi first=0 start=0";
 
@@ -107,12 +110,23 @@ fn channel(alloc: Global, line: &str, items: &[&str]) -> Result<(Settings, Vec<R
         let ranges = Ranges::new(alloc, &settings);
         renditions.push(Rendition { window, ranges })?;
     }
+    publish(alloc, &settings, &mut renditions, items)?;
+    Ok((settings, renditions))
+}
+
+/// Adds these items to what is kept of their renditions.
+fn publish(
+    alloc: Global,
+    settings: &Settings,
+    renditions: &mut Vec<Rendition>,
+    items: &[&str],
+) -> Result<(), Fail> {
     for item in items {
-        let item = Item::read(alloc, &settings, item)?;
+        let item = Item::read(alloc, settings, item)?;
         let kept = renditions.get_mut(item.rendition()).ok_or("the rendition")?;
         push(kept, item)?;
     }
-    Ok((settings, renditions))
+    Ok(())
 }
 
 /// Adds an item.
@@ -141,6 +155,46 @@ fn playlists_of_views_are_written(rt: HostRuntime) -> Result<(), Fail> {
             Some(kind) => delta(rt.alloc(), &view, kind)?,
         };
         assert_eq!(rt; written.as_str(), text);
+    }
+    Ok(())
+}
+
+/// What a page tells: its text, its number, its rendition and its form.
+fn page_told(page: &Page) -> (&str, u64, usize, Form) {
+    (page.text(), page.number(), page.rendition(), page.form())
+}
+
+#[test]
+fn pages_stay_as_they_were_made(rt: HostRuntime) -> Result<(), Fail> {
+    let (full, update) = (Form::Full, Form::Delta(SkipKind::Yes));
+    for (line, items, later, rendition, form, text) in [
+        (TWO, TWO_ITEMS, LATER, 0, full, ENDED),
+        (TWO, TWO_ITEMS, LATER, 1, full, BROKEN),
+        (TWO, TWO_ITEMS, LATER, 1, update, BROKEN),
+        (ONE, ONE_ITEMS, [].as_slice(), 0, update, SKIPPED),
+    ] {
+        let (settings, mut renditions) = channel(rt.alloc(), line, items)?;
+        let shown = Shown::of(rt.alloc(), &settings, &renditions, 9)?;
+        let page = Page::make(rt.alloc(), &shown, rendition, form)?.ok_or("the rendition")?;
+        publish(rt.alloc(), &settings, &mut renditions, later)?;
+        let again = page.again()?;
+        let (one, other) = (page_told(&page), page_told(&again));
+        let view = told(&page.view());
+        assert_eq!(rt;
+            (one, other, view.0, view.1),
+            ((text, 9, rendition, form), one, rendition, 9)
+        );
+    }
+    Ok(())
+}
+
+#[test]
+fn pages_share_what_is_shown(rt: HostRuntime) -> Result<(), Fail> {
+    let (settings, renditions) = channel(rt.alloc(), TWO, TWO_ITEMS)?;
+    let shown = Shown::of(rt.alloc(), &settings, &renditions, 9)?;
+    for (rendition, wanted) in [(0, Some(ENDED)), (1, Some(BROKEN)), (2, None)] {
+        let page = Page::make(rt.alloc(), &shown.again()?, rendition, Form::Full)?;
+        assert_eq!(rt; page.as_ref().map(Page::text), wanted);
     }
     Ok(())
 }

@@ -12,4 +12,5 @@ mod words;
 
 pub use item::{Item, ItemFault};
 pub use limits::limits_law;
+pub use name::is_name;
 pub use settings::{Settings, SettingsFault};

@@ -6,7 +6,7 @@ ghost use Rattle.ll_item.specs.Names as spec;
 use ll_attr::{Text, cut};
 
 /// Whether a text is a name: 1 to 32 characters a-z, 0-9, `-` or `_`.
-pub(crate) fn is_name(text: &str) -> bool
+pub fn is_name(text: &str) -> bool
     ensures { result ≡ spec.is_name text.now }
 {
     !text.is_empty() && text.len() <= 32 && text.bytes().all(is_name_byte)

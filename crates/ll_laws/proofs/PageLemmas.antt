@@ -20,7 +20,7 @@ use Rattle.ll_page.specs.Spelling.{break_lines, map_lines, block_lines, segment_
 use Rattle.ll_line.specs.Uris.{segment_uri, part_uri, map_uri, report_uri}
 use Rattle.ll_page.specs.View.{renditions_from}
 use Rattle.ll_read.specs.Readable.{Each, has_map, have_maps, IsReadableOpen}
-use Rattle.ll_read.specs.Shape.{is_empty}
+use Rattle.ll_read.specs.Reading.{is_empty}
 use Rattle.ll_laws.proofs.BoundLemmas.{IsPlaced}
 use Rattle.ll_laws.proofs.EachLemmas.{each-append}
 use Rattle.ll_laws.proofs.LineLemmas.{IsSound, sound, plain, sound-map, sound-part, sound-duration, sound-report, sound-hint}

@@ -20,8 +20,8 @@ use Rattle.ll_page.specs.Full.{printed, open_of, sequence_of, hint_of, range_lin
 use Rattle.ll_page.specs.Playlist.{Playlist}
 use Rattle.ll_page.specs.Spelling.{skip_lines, segment_lines, open_lines, last_line, lines_of, spelling}
 use Rattle.ll_page.specs.View.{Seen, seen, asked, kept, renditions}
-use Rattle.ll_read.specs.Readable.{Each, IsReadable, IsReadableOpen}
-use Rattle.ll_read.specs.Shape.{is_empty, leads, may_end}
+use Rattle.ll_read.specs.Readable.{Each, IsReadable, IsReadableOpen, leads, may_end}
+use Rattle.ll_read.specs.Reading.{is_empty}
 use Rattle.ll_laws.specs.Published.{ArePublished}
 use Rattle.ll_laws.specs.Laws.{ReadableLaw}
 use Rattle.ll_laws.proofs.BoundLemmas.{IsBounded, bounded}

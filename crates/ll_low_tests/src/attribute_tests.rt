@@ -110,3 +110,21 @@ fn first_faults_are_told(rt: HostRuntime) {
         assert_eq!(rt; fault(rt, text), Some(first), "at {text}");
     }
 }
+
+#[test]
+fn equal_lists_are_told(rt: HostRuntime) -> Result<(), Fail> {
+    for (one, other, answer) in [
+        ("A=1", "A=1", true),
+        ("A=1,B=\"x\"", "A=1,B=\"x\"", true),
+        ("A=1", "A=2", false),
+        ("A=1", "B=1", false),
+        ("A=1", "A=\"1\"", false),
+        ("A=1", "A=1,B=2", false),
+        ("A=1,B=2", "B=2,A=1", false),
+    ] {
+        let one = AttrList::parse(rt.alloc(), one)?;
+        let other = AttrList::parse(rt.alloc(), other)?;
+        assert_eq!(rt; one == other, answer);
+    }
+    Ok(())
+}

@@ -1,5 +1,6 @@
 //! What each fault is called, which no contract says of those that `thiserror` spells.
 use ll_attr::AttrFault;
+use ll_directive::TargetFault;
 use ll_item::{ItemFault, SettingsFault};
 use ll_range::RangeFault;
 use ll_window::PushFault;
@@ -73,6 +74,24 @@ fn faults_of_parts_are_named(rt: HostRuntime) -> Result<(), Fail> {
     ] {
         let told = format!(in rt.alloc(); "{fault}")?;
         assert_eq!(rt; told.as_str(), name);
+    }
+    Ok(())
+}
+
+#[test]
+fn faults_of_targets_are_named(rt: HostRuntime) -> Result<(), Fail> {
+    for (fault, status) in [
+        (TargetFault::BadTarget, 400),
+        (TargetFault::NotFound, 404),
+        (TargetFault::BadMsn, 400),
+        (TargetFault::BadPart, 400),
+        (TargetFault::BadSkip, 400),
+        (TargetFault::Double, 400),
+        (TargetFault::PartAlone, 400),
+        (TargetFault::Memory, 503),
+    ] {
+        let text = format!(in rt.alloc(); "{fault}")?;
+        assert_eq!(rt; (fault.status(), fault.name()), (status, text.as_str()));
     }
     Ok(())
 }

@@ -6,6 +6,8 @@ mod attr_tests;
 #[cfg(test)]
 mod attribute_tests;
 #[cfg(test)]
+mod directive_tests;
+#[cfg(test)]
 mod fault_tests;
 #[cfg(test)]
 mod item_tests;
@@ -13,5 +15,7 @@ mod item_tests;
 mod range_tests;
 #[cfg(test)]
 mod time_tests;
+#[cfg(test)]
+mod want_tests;
 #[cfg(test)]
 mod window_tests;

@@ -324,3 +324,20 @@ fn segments_are_told_with_their_breaks_and_parts(rt: HostRuntime) -> Result<(), 
     }
     Ok(())
 }
+
+#[test]
+fn a_copy_is_equal_and_stays(rt: HostRuntime) -> Result<(), Fail> {
+    let parts = [(false, 1_000_000, true), (true, 1_000_000, false)];
+    let mut window = window_of(rt.alloc(), 7, 0, &parts)?;
+    let copy = window.copy()?;
+    let told = "7 false 0 0 1000000 1;8 true 1 1000000 1000000 0;";
+    for (before, after) in [
+        (told, told),
+        (told, "7 false 0 0 1000000 1;8 true 1 1000000 1000001 0;"),
+    ] {
+        let (now, copied) = (segments(rt.alloc(), &window)?, segments(rt.alloc(), &copy)?);
+        assert_eq!(rt; (copied.as_str(), now.as_str()), (before, after));
+        window.push(item((1, false)))?;
+    }
+    Ok(())
+}

@@ -1,5 +1,6 @@
 pub mod Delta
 pub mod Full
+pub mod Page
 pub mod Playlist
 pub mod Spelling
 pub mod View

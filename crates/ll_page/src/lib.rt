@@ -2,15 +2,21 @@
 //! draft-pantos-hls-rfc8216bis-13.
 #![tactic(auto)]
 
+mod form;
 mod laws;
+mod page;
 mod playlist;
 mod rendition;
+mod shown;
 mod skip_kind;
 mod view;
 
+pub use form::Form;
 pub use laws::worked_playlists;
 pub use ll_line::{Control, DateRange, DateTime, Line, PartLine, Report, Skip, Uri, push_line};
+pub use page::Page;
 pub use playlist::{delta, full};
 pub use rendition::Rendition;
+pub use shown::Shown;
 pub use skip_kind::SkipKind;
 pub use view::View;

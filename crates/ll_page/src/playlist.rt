@@ -3,10 +3,12 @@ ghost use Rattle.ll_item.specs.Settings.{last_micro};
 ghost use Rattle.ll_window.specs.Compact.{unfinished};
 ghost use Rattle.ll_page.specs.Full.{full_text, full_playlist, header_of, part_lines, map_of, block_of, finished_of, printed, open_of, report_by, reports_of, hint_of, sequence_of, range_line, range_lines};
 ghost use Rattle.ll_page.specs.Delta.{delta_text, delta_by, skip_of};
+ghost use Rattle.ll_page.specs.Page.{text_in};
 ghost use Rattle.ll_line.specs.Line as says;
 ghost use Rattle.ll_line.specs.Text.{line_text, text_of};
 ghost use Rattle.ll_page.specs.Spelling.{spelling, head_lines, header_lines, skip_lines, break_lines, map_lines, block_lines, segment_lines, open_lines, last_line};
 
+use crate::form::Form;
 use crate::skip_kind::SkipKind;
 use crate::view::View;
 use ll_attr::{Micros, Text};
@@ -24,7 +26,7 @@ use std::alloc::{AllocError, Global};
 pub fn full(alloc: Global, view: &View<'_>) -> Result<Text, AllocError>
     ensures { IfOk result (λ text. text ≡ full_text view.now) }
 {
-    playlist(alloc, view, 0)
+    Ok(Text::from_string(written(alloc, view, Form::Full)?))
 }
 
 /// The text of the delta update of a view (section 6.2.5.1): the lines of the full playlist, but that one line stands for
@@ -33,14 +35,24 @@ pub fn full(alloc: Global, view: &View<'_>) -> Result<Text, AllocError>
 pub fn delta(alloc: Global, view: &View<'_>, kind: SkipKind) -> Result<Text, AllocError>
     ensures { IfOk result (λ text. text ≡ delta_text kind view.now) }
 {
-    match kind {
-        SkipKind::Yes | SkipKind::V2 => playlist(alloc, view, view.window().skip_count()),
+    Ok(Text::from_string(written(alloc, view, Form::Delta(kind))?))
+}
+
+/// The text of the playlist of a view in this form.
+pub(crate) fn written(alloc: Global, view: &View<'_>, form: Form) -> Result<String, AllocError>
+    ensures { IfOk result (λ text. string_bytes text ≡ text_in form view.now) }
+{
+    match form {
+        Form::Full => playlist(alloc, view, 0),
+        Form::Delta(SkipKind::Yes | SkipKind::V2) => {
+            playlist(alloc, view, view.window().skip_count())
+        }
     }
 }
 
 /// The text of the playlist that skips so many segments.
-fn playlist(alloc: Global, view: &View<'_>, skipped: usize) -> Result<Text, AllocError>
-    ensures { IfOk result (λ text. text ≡ spelling (delta_by skipped view.now)) }
+fn playlist(alloc: Global, view: &View<'_>, skipped: usize) -> Result<String, AllocError>
+    ensures { IfOk result (λ text. string_bytes text ≡ spelling (delta_by skipped view.now)) }
 {
     let window = view.window();
     let mut text = String::new(alloc);
@@ -51,7 +63,7 @@ fn playlist(alloc: Global, view: &View<'_>, skipped: usize) -> Result<Text, Allo
     push_open(&mut text, window)?;
     push_reports(&mut text, view)?;
     push_last_line(&mut text, window)?;
-    Ok(Text::from_string(text))
+    Ok(text)
 }
 
 /// Adds the lines that stand before all date ranges and segments.

@@ -1,5 +1,5 @@
 -- The date ranges of the first lines of a text, by its first line and the others.
-use Rattle.std.proofs.Common.{◌≡◌, ℕ, suc, ◌+◌, ◌-◌, ◌<◌, ◌||◌, Bool, true, false, List, [], ◌∷◌, ◌++◌, length, take, drop, get_or, refl, ap, sym, ◌∙◌, arith, append_assoc, add-one, drop-cons, length-drop, bytes_eq}
+use Rattle.std.proofs.Common.{◌≡◌, ℕ, suc, ◌+◌, ◌-◌, ◌<◌, ◌||◌, Bool, List, [], ◌∷◌, ◌++◌, length, take, drop, get_or, ap, sym, ◌∙◌, arith, append_assoc, add-one, drop-cons, length-drop, bytes_eq}
 use Rattle.std.proofs.lemmas.List.{take_more, append-nil}
 use Rattle.std.proofs.lemmas.List.Folds.{list_any-append}
 use Rattle.std.specs.Str.Lines.{strip_carriage_return}
@@ -17,25 +17,13 @@ first_of id line left ps some =
     ap (λ n. has_id id (ranges_of (take n (line ∷ ps)))) e
     ∙ list_any-append (λ (range : DateRangeLine). bytes_eq id range.id) (of_line line) (ranges_of (take (left - 1) ps))
 
-or_true : (x y : Bool) → x ≡ true → true ≡ (x || y)
-or_true true y h = refl
-or_true false y h = cc
-
-or_false : (x y : Bool) → x ≡ false → y ≡ (x || y)
-or_false true y h = cc
-or_false false y h = refl
-
-pub found : (id line shown rest below : List ℕ) (left : ℕ) (b whole : Bool) → parts_at 10 rest ≡ line ∷ parts_at 10 below → 0 < left → shown ≡ strip_carriage_return line → b ≡ has_id id (ranges_in (line_in shown)) → b ≡ true
-    → has_id id (ranges_of (take left (parts_at 10 rest))) ≡ whole → true ≡ whole
-found id line shown rest below left b whole e some s h t w =
-    or_true (has_id id (of_line line)) (has_id id (ranges_of (take (left - 1) (parts_at 10 below)))) (ap (λ l. has_id id (ranges_in (line_in l))) (sym s) ∙ sym h ∙ t)
-    ∙ sym (first_of id line left (parts_at 10 below) some) ∙ ap (λ ps. has_id id (ranges_of (take left ps))) (sym e) ∙ w
-
-pub passed : (id line shown rest below : List ℕ) (left : ℕ) (b whole : Bool) → parts_at 10 rest ≡ line ∷ parts_at 10 below → 0 < left → shown ≡ strip_carriage_return line → b ≡ has_id id (ranges_in (line_in shown)) → b ≡ false
-    → has_id id (ranges_of (take left (parts_at 10 rest))) ≡ whole → has_id id (ranges_of (take (left - 1) (parts_at 10 below))) ≡ whole
-passed id line shown rest below left b whole e some s h t w =
-    or_false (has_id id (of_line line)) (has_id id (ranges_of (take (left - 1) (parts_at 10 below)))) (ap (λ l. has_id id (ranges_in (line_in l))) (sym s) ∙ sym h ∙ t)
-    ∙ sym (first_of id line left (parts_at 10 below) some) ∙ ap (λ ps. has_id id (ranges_of (take left ps))) (sym e) ∙ w
+-- the first line has the id, or those after it do
+pub turn : (id line shown rest below : List ℕ) (left : ℕ) (b x : Bool) → parts_at 10 rest ≡ line ∷ parts_at 10 below → 0 < left → shown ≡ strip_carriage_return line
+    → b ≡ has_id id (ranges_in (line_in shown)) → b ≡ x → has_id id (ranges_of (take left (parts_at 10 rest))) ≡ (x || has_id id (ranges_of (take (left - 1) (parts_at 10 below))))
+turn id line shown rest below left b x e some s h is =
+    let more = has_id id (ranges_of (take (left - 1) (parts_at 10 below))) in
+    ap (λ ps. has_id id (ranges_of (take left ps))) e ∙ first_of id line left (parts_at 10 below) some
+    ∙ ap (λ y. y || more) (ap (λ l. has_id id (ranges_in (line_in l))) (sym s) ∙ sym h ∙ is)
 
 ranges_append : (xs : List (List ℕ)) (line : List ℕ) → ranges_of (xs ++ line ∷ []) ≡ ranges_of xs ++ of_line line
 ranges_append [] line = append-nil (of_line line)

@@ -1,29 +1,28 @@
 -- A text that is a playlist's.
-use Rattle.std.proofs.Common.{◌≡◌, ℕ, ◌&&◌, Bool, true, false, List, Result, Err, refl, ap, sym, ◌∙◌, codes, bytes_eq, if◌then◌else◌}
+use Rattle.std.proofs.Common.{◌≡◌, ℕ, ◌&&◌, Bool, true, false, List, Result, Ok, Err, refl, ap, sym, ◌∙◌, codes, bytes_eq, if◌then◌else◌}
+use Rattle.std.proofs.lemmas.Bool.{and_from, false_from_ne_true}
 use Rattle.std.proofs.lemmas.Str.{IsUtf8-from_is_utf8, is_utf8-from_IsUtf8}
 use Rattle.std.specs.Str.{is_utf8, IsUtf8}
 use Rattle.ll_attr.specs.Words.{parts_at}
 use Rattle.ll_page.specs.Playlist.{Playlist}
-use Rattle.ll_read.specs.Reading.{playlist_in, first_line, read_from}
-use Rattle.ll_read.specs.Shape.{start}
+use Rattle.ll_read.specs.Reading.{first_line, is_playlist, playlist_in, read_from, start}
 use Rattle.ll_read.specs.declared.fault.ReadFault.{ReadFault}
 use Rattle.ll_read.specs.declared.fault.ReadFault.TheVariants.{NotPlaylist}
 
-begun_by : (x y : Bool) (a b : Result Playlist ReadFault) → x ≡ true → true ≡ y → (if x && y then a else b) ≡ a
-begun_by true true a b h k = refl
-begun_by true false a b h k = cc
-begun_by false y a b h k = cc
-
-not_by : (x y : Bool) (a b : Result Playlist ReadFault) → (x ≡ true → ⊥) → (if x && y then a else b) ≡ b
-not_by true y a b h = absurd (h refl)
-not_by false y a b h = refl
-
 pub begun : (text bytes first : List ℕ) → text ≡ bytes → IsUtf8 bytes → first ≡ first_line (parts_at 10 text) → true ≡ bytes_eq first (codes "#EXTM3U") → read_from 1 start (parts_at 10 text) ≡ playlist_in bytes
 begun text bytes first e utf8 f h =
-    sym (begun_by (is_utf8 text) (bytes_eq (first_line (parts_at 10 text)) (codes "#EXTM3U")) (read_from 1 start (parts_at 10 text)) (Err NotPlaylist) (ap is_utf8 e ∙ is_utf8-from_IsUtf8 bytes utf8)
-    (h ∙ ap (λ l. bytes_eq l (codes "#EXTM3U")) f))
-    ∙ ap playlist_in e
+    let is = and_from (is_utf8 text) (bytes_eq (first_line (parts_at 10 text)) (codes "#EXTM3U")) (ap is_utf8 e ∙ is_utf8-from_IsUtf8 bytes utf8) (sym (h ∙ ap (λ l. bytes_eq l (codes "#EXTM3U")) f)) in
+    sym (ap (λ b. if b then read_from 1 start (parts_at 10 text) else Err NotPlaylist) is) ∙ ap playlist_in e
 
 pub not_text : (bytes : List ℕ) → (IsUtf8 bytes → ⊥) → playlist_in bytes ≡ Err NotPlaylist
 not_text bytes bad =
-    not_by (is_utf8 bytes) (bytes_eq (first_line (parts_at 10 bytes)) (codes "#EXTM3U")) (read_from 1 start (parts_at 10 bytes)) (Err NotPlaylist) (λ h. bad (IsUtf8-from_is_utf8 bytes h))
+    let none = false_from_ne_true (is_utf8 bytes) (λ h. bad (IsUtf8-from_is_utf8 bytes h)) in
+    ap (λ b. if b && bytes_eq (first_line (parts_at 10 bytes)) (codes "#EXTM3U") then read_from 1 start (parts_at 10 bytes) else Err NotPlaylist) none
+
+spelled_by : (x : Bool) (r : Result Playlist ReadFault) (p : Playlist) → (if x then r else Err NotPlaylist) ≡ Ok p → (x ≡ true) × (r ≡ Ok p)
+spelled_by true r p h = (refl, h)
+spelled_by false r p h = absurd (cc)
+
+-- a text that spells a playlist begins so
+pub spelled : (text : List ℕ) (p : Playlist) → playlist_in text ≡ Ok p → (is_playlist text ≡ true) × (read_from 1 start (parts_at 10 text) ≡ Ok p)
+spelled text p h = spelled_by (is_playlist text) (read_from 1 start (parts_at 10 text)) p h

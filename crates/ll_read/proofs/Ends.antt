@@ -16,7 +16,7 @@ stripped line front e =
     let last : slice_index l (length l - 1) ≡ 13 = ap (slice_index l) n ∙ get_or-append_seam front 13 [] 0 in
     sym (ap strip_carriage_return e ∙ by_true (slice_index l (length l - 1) == 13) (take (length l - 1) l) l (ap (λ x. x == 13) last) refl ∙ ap (λ k. take k l) n ∙ take-append_seam front (13 ∷ []))
 
-ends_so : (b : ℕ) (bs : List ℕ) → slice_index (b ∷ bs) (length (b ∷ bs) - 1) ≡ 13 → b ∷ bs ≡ take (length (b ∷ bs) - 1) (b ∷ bs) ++ 13 ∷ []
+pub ends_so : (b : ℕ) (bs : List ℕ) → slice_index (b ∷ bs) (length (b ∷ bs) - 1) ≡ 13 → b ∷ bs ≡ take (length (b ∷ bs) - 1) (b ∷ bs) ++ 13 ∷ []
 ends_so b bs h =
     let l = b ∷ bs in
     let n = length l - 1 in

@@ -1,53 +1,54 @@
 -- What is written is read again: each line of it by itself, and the lines one after another.
-use Rattle.std.proofs.Common.{◌≡◌, ℕ, ◌&&◌, true, List, ◌∷◌, ◌++◌, map, refl, ap, sym, ◌∙◌, Option, Some, None, is_none, is_some, Ok, drop}
+use Rattle.std.proofs.Common.{◌≡◌, ℕ, true, List, ◌∷◌, ◌++◌, map, refl, ap, sym, ◌∙◌, Some, is_none, Ok, drop}
 use Rattle.std.proofs.lemmas.Str.{IsUtf8-from_is_utf8}
 use Rattle.std.specs.List.{flat_map}
 use Rattle.std.specs.Str.{is_utf8}
-use Rattle.ll_line.specs.Line.{DateRange, First, Line, Skip}
+use Rattle.ll_line.specs.Formats.{line}
+use Rattle.ll_line.specs.Line.{DateRange, First, Line}
 use Rattle.ll_attr.specs.Words.{parts_at}
 use Rattle.ll_line.specs.Text.{text_of}
 use Rattle.ll_page.specs.Playlist.{Playlist}
 use Rattle.ll_page.specs.Spelling.{lines_of, open_lines, segment_lines, skip_lines, spelling}
-use Rattle.ll_read.specs.Readable.{Each, IsReadable, ReadsBackLaw}
-use Rattle.ll_read.specs.Reading.{playlist_in}
-use Rattle.ll_read.specs.Shape.{AtEnd, at, start}
+use Rattle.ll_read.specs.Draft.{plain}
+use Rattle.ll_read.specs.Readable.{Each, IsReadable, ReadsBackLaw, leads}
+use Rattle.ll_read.specs.Reading.{playlist_in, start}
+use Rattle.ll_line.proofs.LineLaws.{line-laws}
 use Rattle.ll_read.proofs.Begins.{begun}
 use Rattle.ll_read.proofs.Onward.{first_is}
-use Rattle.ll_read.proofs.Runs.{run, kept, cut, read, spelled}
-use Rattle.ll_read.proofs.RunsInside.{header, segments}
-use Rattle.ll_read.proofs.RunsRanges.{ranges, skip}
-use Rattle.ll_read.proofs.RunsToEnd.{end_lines, to_end}
-use Rattle.ll_read.proofs.WholeLines.{IsLine, each_line, with_end}
-
-first_leads : (o : Option Skip) → (is_none o && true) ≡ is_none o
-first_leads None = refl
-first_leads (Some s) = refl
+use Rattle.ll_read.proofs.Comes.{come, read, spelled}
+use Rattle.ll_read.proofs.ComesInside.{between, from, header, segments}
+use Rattle.ll_read.proofs.ComesRanges.{ranges, skip}
+use Rattle.ll_read.proofs.ComesToEnd.{end_lines, to_end}
+use Rattle.ll_read.proofs.SoFar.{headed}
+use Rattle.ll_read.proofs.WholeLines.{cut, kept, with_end}
 
 -- the lines of a readable playlist come to it
-whole_run : (p : Playlist) → IsReadable p → run (Some start) (lines_of p) ≡ at AtEnd p
-whole_run p can =
-    let begin : Playlist = record (start.playlist) { header = p.header; sequence = p.sequence; discontinuity = p.discontinuity } in
+all_come : (p : Playlist) → IsReadable p → come (Some start) (lines_of p) ≡ Some p
+all_come p can =
+    let begin : Playlist = record (headed p.header p.sequence) { discontinuity = p.discontinuity } in
     let ranged : Playlist = record begin { ranges = p.ranges } in
     let skipping : Playlist = record ranged { skipped = p.skipped } in
-    let last_lines = end_lines p.reports p.hint in
-    let after_segments = open_lines p.open_block ++ last_lines in
+    let all : Playlist = record skipping { segments = p.segments } in
+    let full = is_none p.skipped in
+    let after_segments = open_lines p.open_block ++ end_lines p.reports p.hint in
     let after_skip = flat_map segment_lines p.segments ++ after_segments in
     let after_ranges = skip_lines p.skipped ++ after_skip in
-    let told = segments (is_none p.skipped) p.segments (is_some p.skipped) skipping after_segments (first_leads p.skipped) can.maps in
-    header p.header p.sequence p.discontinuity start.playlist (map DateRange p.ranges ++ after_ranges) can.version
+    header p (map DateRange p.ranges ++ after_ranges) can.version
     ∙ ranges p.ranges begin after_ranges can.distinct
     ∙ skip p.skipped ranged after_skip can.skipped
-    ∙ told.1
-    ∙ to_end p.open_block p.reports p.hint told.0 (record skipping { segments = p.segments }) can.own_segment can.open_block
+    ∙ segments full full p.segments skipping after_segments can.maps
+    ∙ ap (λ m. come (from (between (leads p)) m (plain all)) after_segments) can.own_segment
+    ∙ to_end (leads p) p.open_block p.reports p.hint all can.open_block
 
 -- a text of such lines, of which the first is a playlist's, is read as what they come to
-by_lines : (text : List ℕ) (more : List Line) (p : Playlist) → text ≡ text_of (First ∷ more) → is_utf8 text ≡ true → Each IsLine (First ∷ more)
-    → run (Some start) (First ∷ more) ≡ at AtEnd p → playlist_in text ≡ Ok p
-by_lines text more p spelt utf8 are comes =
+by_lines : (text : List ℕ) (more : List Line) (p : Playlist) → text ≡ text_of (First ∷ more) → is_utf8 text ≡ true → Each line.Within (First ∷ more)
+    → come (Some start) (First ∷ more) ≡ Some p → playlist_in text ≡ Ok p
+by_lines text more p spelt utf8 within comes =
     let whole = text_of (First ∷ more) in
     let first = spelled First in
-    let shown = kept first are.0.whole ∙ first_is whole first (text_of more) (ap (λ t. parts_at 10 (t ++ text_of more)) (with_end First) ∙ cut first (text_of more) are.0.whole) in
-    sym (begun whole text first (sym spelt) (IsUtf8-from_is_utf8 text utf8) shown refl) ∙ read (First ∷ more) 1 start p are comes
+    let one_line = line-laws.inside First within.0 in
+    let shown = kept first one_line ∙ first_is whole first (text_of more) (ap (λ t. parts_at 10 (t ++ text_of more)) (with_end First) ∙ cut first (text_of more) one_line) in
+    sym (begun whole text first (sym spelt) (IsUtf8-from_is_utf8 text utf8) shown refl) ∙ read (First ∷ more) 1 start p within comes
 
 pub reads-back : ReadsBackLaw
-reads-back p can = by_lines (spelling p) (drop 1 (lines_of p)) p refl can.utf8 (each_line (lines_of p) can.lines) (whole_run p can)
+reads-back p can = by_lines (spelling p) (drop 1 (lines_of p)) p refl can.utf8 can.lines (all_come p can)

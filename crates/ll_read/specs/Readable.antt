@@ -7,8 +7,7 @@ use Rattle.ll_line.specs.Line.{DateRangeLine, Skip}
 use Rattle.ll_page.specs.Playlist.{Block, Finished, Playlist}
 use Rattle.ll_page.specs.Spelling.{lines_of, spelling}
 use Rattle.ll_read.specs.Ranges.{has_id}
-use Rattle.ll_read.specs.Reading.{playlist_in, with_line_feeds}
-use Rattle.ll_read.specs.Shape.{is_empty, leads, may_end}
+use Rattle.ll_read.specs.Reading.{is_empty, playlist_in, with_line_feeds}
 
 abbrev pub Each : {A : Type 0} → (A → Type 0) → List A → Type 0
 Each P [] = Unit {0}
@@ -18,6 +17,14 @@ Each P (x ∷ xs) = P x × Each P xs
 abbrev pub are_distinct : List DateRangeLine → Bool
 are_distinct [] = true
 are_distinct (r ∷ more) = not (has_id r.id more) && are_distinct more
+
+-- whether the open segment is the first of a full playlist, which has a map
+abbrev pub leads : Playlist → Bool
+leads p = is_none p.skipped && is_empty p.segments
+
+-- whether the finished segments may be all: a delta update has one of its own
+abbrev pub may_end : Playlist → Bool
+may_end p = is_none p.skipped || not (is_empty p.segments)
 
 -- a MAP line stands where it must and nowhere else
 abbrev pub has_map : Bool → Option (List ℕ) → Bool
@@ -53,3 +60,7 @@ ReadsBackLaw = (p : Playlist) → IsReadable p → playlist_in (spelling p) ≡ 
 -- what was read is written again, but that each line ends in LF
 abbrev pub SpelledAgainLaw : Type 0
 SpelledAgainLaw = (text : List ℕ) (p : Playlist) → playlist_in text ≡ Ok p → spelling p ≡ with_line_feeds text
+
+-- what is read is within bounds
+abbrev pub ReadIsReadableLaw : Type 0
+ReadIsReadableLaw = (text : List ℕ) (p : Playlist) → playlist_in text ≡ Ok p → IsReadable p

@@ -1,33 +1,63 @@
 -- The playlist that a text spells, line by line. Lines end in LF or CR LF, the last one too.
-use Rattle.std.specs.Prelude.{ℕ, ◌+◌, List, [], ◌∷◌, ◌++◌, Bool, ◌&&◌, Option, Some, None, Result, Ok, Err, bytes_eq, codes, if◌then◌else◌}
+use Rattle.std.specs.Prelude.{ℕ, ◌+◌, List, [], ◌∷◌, ◌++◌, Bool, true, false, not, ◌&&◌, Option, Some, None, Result, Ok, Err, bytes_eq, codes, if◌then◌else◌}
+use Rattle.std.specs.Option.{option_map}
 use Rattle.std.specs.Str.{is_utf8}
 use Rattle.std.specs.Str.Lines.{strip_carriage_return}
 use Rattle.ll_attr.specs.Words.{parts_at}
-use Rattle.ll_line.specs.Line.{Line}
+use Rattle.ll_line.specs.Line.{DateRange, Line}
 use Rattle.ll_line.specs.Formats.{line_in}
 use Rattle.ll_page.specs.Playlist.{Playlist}
-use Rattle.ll_read.specs.Shape.{Reading, Place, AtEnd, start, next, is_empty}
+use Rattle.ll_read.specs.Draft.{Draft, blank, plain, put}
+use Rattle.ll_read.specs.Ranges.{has_id}
+use Rattle.ll_read.specs.Shape.{at_start, shape_next}
 use Rattle.ll_read.specs.declared.fault.ReadFault.{ReadFault}
 use Rattle.ll_read.specs.declared.fault.ReadFault.TheVariants.{NotPlaylist, BadLine}
+use Rattle.ll_read.specs.declared.shape.Shape.{Shape}
+use Rattle.ll_read.specs.declared.shape.Stage.{Stage}
+use Rattle.ll_read.specs.declared.shape.Stage.TheVariants.{AtEnd}
 
--- what stands at the end of the text, whose next line would have this number
-abbrev pub ended : ℕ → Place → Playlist → Result Playlist ReadFault
-ended number AtEnd p = Ok p
-ended number place p = Err (BadLine number)
+-- where one stands, and what the lines so far come to
+pub record Reading : Type 0 where
+  pub shape : Shape
+  pub draft : Draft
+
+abbrev pub at : Shape → Draft → Reading
+at shape draft = record { shape = shape; draft = draft }
+
+abbrev pub start : Reading
+start = at at_start (plain blank)
+
+-- whether a line has an id that no date range before has, where it has one
+abbrev pub is_new_line : Line → Playlist → Bool
+is_new_line (DateRange range) p = not (has_id range.id p.ranges)
+is_new_line line p = true
+
+-- one line more; none where it may not stand there
+abbrev pub next : Reading → Line → Option Reading
+next r line = option_map (λ shape. at shape (put line r.draft)) (shape_next r.shape line (is_new_line line r.draft.playlist))
 
 abbrev pub next_line : Reading → Option Line → Option Reading
 next_line r None = None
 next_line r (Some line) = next r line
 
+-- what stands at the end of the text, whose next line would have this number
+abbrev pub ended : ℕ → Stage → Playlist → Result Playlist ReadFault
+ended number AtEnd p = Ok p
+ended number stage p = Err (BadLine number)
+
 abbrev pub and_then : ℕ → Option Reading → (Reading → Result Playlist ReadFault) → Result Playlist ReadFault
 and_then number None more = Err (BadLine number)
 and_then number (Some r) more = more r
 
+abbrev pub is_empty : {A : Type 0} → List A → Bool
+is_empty [] = true
+is_empty (x ∷ xs) = false
+
 -- the playlist of these lines, of which the first has this number, or the number of the first that can't stand in its
 -- place; after the last LF nothing stands
 abbrev pub read_from : ℕ → Reading → List (List ℕ) → Result Playlist ReadFault
-read_from number r [] = ended number r.place r.playlist
-read_from number r (rest ∷ []) = if is_empty rest then ended number r.place r.playlist else Err (BadLine number)
+read_from number r [] = ended number r.shape.stage r.draft.playlist
+read_from number r (rest ∷ []) = if is_empty rest then ended number r.shape.stage r.draft.playlist else Err (BadLine number)
 read_from number r (line ∷ below ∷ more) =
     and_then number (next_line r (line_in (strip_carriage_return line))) (λ q. read_from (number + 1) q (below ∷ more))
 

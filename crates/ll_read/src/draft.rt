@@ -1,10 +1,10 @@
 //! What the lines so far come to.
 ghost use Rattle.std.specs.Prelude.{◌≡◌, ◌++◌, ◌∷◌, [], IfOk, map, false};
 ghost use Rattle.std.specs.Option.{option_map};
-ghost use Rattle.ll_read.specs.Draft.{draft_of, with_part, closed, takes_memory};
+ghost use Rattle.ll_read.specs.Draft.{blank, closed, plain, with_part};
 ghost use Rattle.ll_read.specs.Draft as spec;
+ghost use Rattle.ll_read.specs.Drafted.{takes_memory};
 ghost use Rattle.ll_line.specs.Line as line;
-ghost use Rattle.ll_read.specs.Shape.{start};
 ghost use Rattle.ll_format.specs.Words.{cut_at};
 ghost use Rattle.ll_line.specs.Meaning.{meant, date_time_text};
 ghost use Rattle.ll_line.specs.Uris.{uri_text};
@@ -42,7 +42,7 @@ impl Model for Draft {
 impl Draft {
     /// Before the first line. It takes no memory.
     pub(crate) fn new(alloc: Global) -> Draft
-        ensures { result ≡ draft_of start }
+        ensures { result ≡ plain blank }
     {
         let header = Header {
             version: 0,
@@ -72,13 +72,6 @@ impl Draft {
         }
     }
 
-    /// Whether a date range of this id stands before.
-    pub(crate) fn has_range(&self, id: &str) -> bool
-        ensures { result ≡ has_id id.now self.now.playlist.ranges }
-    {
-        self.playlist.has_range(id)
-    }
-
     /// Takes in a line, wherever it stands; or answers that no memory was found, and is of no use then. The id of a
     /// date range is new; one that isn't is answered so too.
     pub(crate) fn put(&mut self, alloc: Global, line: &Line<'_>) -> Result<(), AllocError>
@@ -86,7 +79,7 @@ impl Draft {
     {
         match line {
             Line::DateRange(range) => {
-                if self.has_range(range.id) {
+                if self.playlist.has_range(range.id) {
                     return Err(AllocError);
                 }
                 put_range(&mut self.playlist.ranges, alloc, range.id, range.attributes)
@@ -198,13 +191,6 @@ impl Draft {
         if let Some(block) = self.segment.take() {
             self.playlist.open_block = Some(block);
         }
-    }
-
-    /// The playlist.
-    pub(crate) fn finish(self) -> Playlist
-        ensures { result ≡ self.playlist }
-    {
-        self.playlist
     }
 }
 

@@ -11,7 +11,7 @@ mod shape;
 mod writing;
 
 pub use fault::ReadFault;
-pub use laws::{reads_back_law, spelled_again_law};
+pub use laws::{read_is_readable_law, reads_back_law, spelled_again_law};
 pub use ll_line::DateRange;
 pub use outline::{Outline, read_outline};
 pub use playlist::{Block, Finished, Header, PartLine, Playlist, Report, Skip};

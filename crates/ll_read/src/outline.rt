@@ -4,9 +4,10 @@ ghost use Rattle.ll_attr.specs.Words.{parts_at};
 ghost use Rattle.ll_page.specs.Playlist.{Playlist};
 ghost use Rattle.ll_line.specs.Meaning.{meant};
 ghost use Rattle.ll_read.specs.Outline.{outline_of};
-ghost use Rattle.ll_read.specs.Outline as spec;
-ghost use Rattle.ll_read.specs.Reading.{playlist_in, read_from};
-ghost use Rattle.ll_read.specs.Shape.{start};
+ghost use Rattle.ll_read.specs.Outlined.{outline_from};
+ghost use Rattle.ll_read.specs.Outlined as spec;
+ghost use Rattle.ll_read.specs.Draft.{blank};
+ghost use Rattle.ll_read.specs.Reading.{playlist_in};
 
 use crate::playlist::Playlist;
 use crate::reading::without_end;
@@ -51,7 +52,7 @@ pub fn read_outline(alloc: Global, bytes: &[u8]) -> Outline
 
 /// What lines come to.
 fn outline_of_lines(alloc: Global, text: &str) -> Outline
-    ensures { (p : Playlist) → read_from 1 start (parts_at 10 text.now) ≡ Ok p → result ≡ outline_of p }
+    ensures { result ≡ outline_from (outline_of blank) (parts_at 10 text.now) }
 {
     let mut outline = Outline::start();
     let mut rest = text;
@@ -67,7 +68,7 @@ fn outline_of_lines(alloc: Global, text: &str) -> Outline
 impl Outline {
     /// Before the first line.
     fn start() -> Outline
-        ensures { result ≡ outline_of start.playlist }
+        ensures { result ≡ outline_of blank }
     {
         Outline {
             sequence: 0,

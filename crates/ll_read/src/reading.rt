@@ -2,18 +2,17 @@
 ghost use Rattle.std.specs.Prelude.{◌≡◌, ◌≢◌, ◌∷◌, ◌++◌, [], IfOk, IfErr, IsOk, IsErrOf, Ok, Err, Some, None, MatchOption, take};
 ghost use Rattle.std.specs.Str.Lines.{strip_carriage_return};
 ghost use Rattle.ll_attr.specs.Words.{parts_at};
-ghost use Rattle.ll_read.specs.Draft.{drafted, IsAt};
+ghost use Rattle.ll_read.specs.Draft.{Draft, put};
+ghost use Rattle.ll_read.specs.Drafted.{drafted, IsAfter};
 ghost use Rattle.ll_line.specs.Formats.{line_in};
 ghost use Rattle.ll_line.specs.Meaning.{meant};
 ghost use Rattle.ll_read.specs.Ranges.{has_id, ranges_of, ranges_in};
-ghost use Rattle.ll_read.specs.Reading.{playlist_in, first_line, next_line, read_from};
-ghost use Rattle.ll_read.specs.Shape.{Reading, start, next};
-ghost use Rattle.ll_read.specs.Steps.{is_new_line, shape_of};
+ghost use Rattle.ll_read.specs.Reading.{at, first_line, is_new_line, next_line, playlist_in, read_from, start};
 
 use crate::draft::Draft;
 use crate::fault::ReadFault;
 use crate::playlist::Playlist;
-use crate::shape::Shape;
+use crate::shape::{Shape, Stage};
 use ll_attr::cut;
 use ll_line::Line;
 use std::alloc::{AllocError, Global};
@@ -83,16 +82,16 @@ fn read_lines(alloc: Global, text: &str) -> Result<Playlist, ReadFault>
 
 /// What the lines come to, if this stands after the last LF.
 fn ended(rest: &str, shape: Shape, draft: Option<Draft>, number: u64) -> Result<Playlist, ReadFault>
-    ensures value { (r : Reading) → shape ≡ shape_of r → drafted draft r → IfOk result (λ p. read_from number r (rest.now ∷ []) ≡ Ok p) }
-    ensures refused { (r : Reading) → shape ≡ shape_of r → IfErr result (λ fault. fault ≢ ReadFault.Memory → read_from number r (rest.now ∷ []) ≡ Err fault) }
-    ensures memory { (r : Reading) → shape ≡ shape_of r → IsErrOf result ReadFault.Memory → IsOk (read_from number r (rest.now ∷ [])) }
+    ensures value { (d : Draft) → drafted draft d → IfOk result (λ p. read_from number (at shape d) (rest.now ∷ []) ≡ Ok p) }
+    ensures refused { (d : Draft) → IfErr result (λ fault. fault ≢ ReadFault.Memory → read_from number (at shape d) (rest.now ∷ []) ≡ Err fault) }
+    ensures memory { (d : Draft) → IsErrOf result ReadFault.Memory → IsOk (read_from number (at shape d) (rest.now ∷ [])) }
 {
-    if !rest.is_empty() || !shape.is_at_end() {
-        return Err(ReadFault::BadLine { line: number });
-    }
-    match draft {
-        Some(draft) => Ok(draft.finish()),
-        None => Err(ReadFault::Memory),
+    match shape.stage {
+        Stage::AtEnd if rest.is_empty() => match draft {
+            Some(draft) => Ok(draft.playlist),
+            None => Err(ReadFault::Memory),
+        },
+        _ => Err(ReadFault::BadLine { line: number }),
     }
 }
 
@@ -105,9 +104,9 @@ fn step(
     count: usize,
     line: &str,
 ) -> Option<(Shape, Option<Draft>)>
-    ensures { (r : Reading) → IsAt shape draft (take count (parts_at 10 text.now)) r → MatchOption result (next_line r (line_in line.now) ≡ None)
-        (λ s. (q : Reading) × (next_line r (line_in line.now) ≡ Some q) × (s.0 ≡ shape_of q) × drafted s.1 q
-        × (q.playlist.ranges ≡ r.playlist.ranges ++ ranges_in (line_in line.now))) }
+    ensures { (d : Draft) → IsAfter (take count (parts_at 10 text.now)) draft d → MatchOption result (next_line (at shape d) (line_in line.now) ≡ None)
+        (λ s. (e : Draft) × (next_line (at shape d) (line_in line.now) ≡ Some (at s.0 e)) × drafted s.1 e
+        × (e.playlist.ranges ≡ d.playlist.ranges ++ ranges_in (line_in line.now))) }
 {
     let line = Line::read(alloc, line)?;
     let is_new = is_new(alloc, &draft, text, count, &line);
@@ -115,9 +114,9 @@ fn step(
     Some((shape, grown(draft, alloc, &line)))
 }
 
-/// The draft with a line more that may stand there, while memory is found.
+/// The draft with a line more, while memory is found.
 fn grown(draft: Option<Draft>, alloc: Global, line: &Line<'_>) -> Option<Draft>
-    ensures { (r q : Reading) → drafted draft r → next r (meant line.now) ≡ Some q → drafted result q }
+    ensures { (d : Draft) → drafted draft d → drafted result (put (meant line.now) d) }
 {
     let mut draft = draft?;
     match draft.put(alloc, line) {
@@ -128,10 +127,10 @@ fn grown(draft: Option<Draft>, alloc: Global, line: &Line<'_>) -> Option<Draft>
 
 /// Whether the id of a line is new after so many lines, where it has one. Without a draft the lines are gone through again.
 fn is_new(alloc: Global, draft: &Option<Draft>, text: &str, count: usize, line: &Line<'_>) -> bool
-    ensures { (r : Reading) → drafted draft.now r → r.playlist.ranges ≡ ranges_of (take count (parts_at 10 text.now)) → result ≡ is_new_line (meant line.now) r.playlist }
+    ensures { (d : Draft) → IsAfter (take count (parts_at 10 text.now)) draft.now d → result ≡ is_new_line (meant line.now) d.playlist }
 {
     match (line, draft) {
-        (Line::DateRange(range), Some(draft)) => !draft.has_range(range.id),
+        (Line::DateRange(range), Some(draft)) => !draft.playlist.has_range(range.id),
         (Line::DateRange(range), None) => !stands_before(alloc, text, count, range.id),
         _ => true,
     }

@@ -1,40 +1,48 @@
 //! Which line may stand where.
 ghost use Rattle.std.specs.Prelude.{◌≡◌};
 ghost use Rattle.ll_line.specs.Meaning.{meant};
-ghost use Rattle.ll_read.specs.Steps as spec;
+ghost use Rattle.ll_read.specs.Shape as spec;
 
 use ll_line::Line;
 
 /// After which line one stands.
 #[derive(Clone, Copy, Debug)]
 pub(crate) enum Stage {
+    /// After none.
     AtStart,
+    /// After the first line, and so on for each line of the header.
     AfterFirst,
     AfterVersion,
     AfterTargetDuration,
     AfterControl,
     AfterPartTarget,
     AfterMediaSequence,
+    /// After the header and perhaps date ranges.
     InRanges,
+    /// After the skip line, or the URI of a segment.
     BetweenSegments,
+    /// After a discontinuity, which a segment begins with.
     AfterDiscontinuity,
+    /// After a map.
     AfterMap,
+    /// After a segment's time.
     InSegment,
+    /// After a part.
+    InParts,
+    /// After a segment's duration.
     AfterDuration,
+    /// After a report of another rendition.
     InReports,
+    /// After the last line.
     AtEnd,
 }
 
 /// Where in a playlist one stands, with just what decides which line may follow.
 #[derive(Clone, Copy, Debug)]
 pub(crate) struct Shape {
-    stage: Stage,
-    /// Whether a skip line stands before.
-    skipped: bool,
-    /// Whether a whole segment stands before.
-    segments: bool,
-    /// Whether the segment that one stands in has a part.
-    parts: bool,
+    pub(crate) stage: Stage,
+    /// Whether the segments may end where no segment is open: after a skip line there has to be one.
+    pub(crate) may_end: bool,
 }
 
 impl Shape {
@@ -44,19 +52,7 @@ impl Shape {
     {
         Shape {
             stage: Stage::AtStart,
-            skipped: false,
-            segments: false,
-            parts: false,
-        }
-    }
-
-    /// Whether one stands after the last line.
-    pub(crate) fn is_at_end(self) -> bool
-        ensures { result ≡ spec.is_at_end self.stage }
-    {
-        match self.stage {
-            Stage::AtEnd => true,
-            _ => false,
+            may_end: true,
         }
     }
 
@@ -68,7 +64,7 @@ impl Shape {
         match self.stage {
             Stage::InRanges => self.in_ranges(line, is_new),
             Stage::BetweenSegments => self.between_segments(line),
-            Stage::InSegment => self.in_segment(line),
+            Stage::InParts => self.in_parts(line),
             Stage::InReports => self.after_segments(line),
             _ => self.in_order(line),
         }
@@ -96,58 +92,56 @@ impl Shape {
             }
             (Stage::AfterDiscontinuity, Line::Map(_)) => Some(self.to(Stage::AfterMap)),
             (Stage::AfterMap, Line::Time(_)) => Some(self.to(Stage::InSegment)),
-            (Stage::AfterDuration, Line::Uri(_)) => Some(self.after_segment()),
+            (Stage::InSegment, Line::Part(_)) => Some(self.to(Stage::InParts)),
+            (Stage::InSegment, Line::Duration(_)) => Some(self.to(Stage::AfterDuration)),
+            (Stage::AfterDuration, Line::Uri(_)) => Some(Shape {
+                stage: Stage::BetweenSegments,
+                may_end: true,
+            }),
             _ => None,
         }
     }
 
-    /// Among the date ranges, or after the header.
+    /// Among the date ranges, or after the header. The first segment of a full playlist has a map, and a delta update has a
+    /// segment of its own.
     fn in_ranges(self, line: &Line<'_>, is_new: bool) -> Option<Shape>
         ensures { result ≡ spec.in_ranges (meant line.now) is_new self }
     {
         match line {
             Line::DateRange(_) if is_new => Some(self),
             Line::DateRange(_) => None,
-            Line::Skipped(skip) if 1 <= skip.count => Some(self.after_skip()),
+            Line::Skipped(skip) if 1 <= skip.count => Some(Shape {
+                stage: Stage::BetweenSegments,
+                may_end: false,
+            }),
             Line::Skipped(_) => None,
-            _ => self.between_segments(line),
+            Line::Discontinuity => Some(self.to(Stage::AfterDiscontinuity)),
+            Line::Map(_) => Some(self.to(Stage::AfterMap)),
+            _ => self.after_segments(line),
         }
     }
 
-    /// Between two segments, or before the first. The first of a full playlist has a map.
+    /// After the skip line or a segment.
     fn between_segments(self, line: &Line<'_>) -> Option<Shape>
         ensures { result ≡ spec.between_segments (meant line.now) self }
     {
-        let leads = !self.skipped && !self.segments;
         match line {
             Line::Discontinuity => Some(self.to(Stage::AfterDiscontinuity)),
-            Line::Map(_) if leads => Some(self.to(Stage::AfterMap)),
-            Line::Map(_) => None,
-            Line::Time(_) if leads => None,
             Line::Time(_) => Some(self.to(Stage::InSegment)),
-            _ => self.after_segments_if(!self.skipped || self.segments, line),
+            _ if self.may_end => self.after_segments(line),
+            _ => None,
         }
     }
 
-    /// After a segment's time and perhaps parts. One that has parts may stay open.
-    fn in_segment(self, line: &Line<'_>) -> Option<Shape>
-        ensures { result ≡ spec.in_segment (meant line.now) self }
+    /// After a part of a segment, which may stay open.
+    fn in_parts(self, line: &Line<'_>) -> Option<Shape>
+        ensures { result ≡ spec.in_parts (meant line.now) self }
     {
         match line {
-            Line::Part(_) => Some(self.after_part()),
+            Line::Part(_) => Some(self),
             Line::Duration(_) => Some(self.to(Stage::AfterDuration)),
-            _ => self.after_segments_if((!self.skipped || self.segments) && self.parts, line),
-        }
-    }
-
-    /// After all segments, if they may end here: a delta update has one of its own.
-    fn after_segments_if(self, may_end: bool, line: &Line<'_>) -> Option<Shape>
-        ensures { result ≡ spec.after_segments_if may_end (meant line.now) self }
-    {
-        if may_end {
-            self.after_segments(line)
-        } else {
-            None
+            _ if self.may_end => self.after_segments(line),
+            _ => None,
         }
     }
 
@@ -162,46 +156,10 @@ impl Shape {
         }
     }
 
-    /// At this stage; after it no part is known.
+    /// At this stage.
     fn to(self, stage: Stage) -> Shape
-        ensures { result ≡ spec.at_stage stage self }
+        ensures { result ≡ spec.to stage self }
     {
-        Shape {
-            stage,
-            parts: false,
-            ..self
-        }
-    }
-
-    /// After a skip line.
-    fn after_skip(self) -> Shape
-        ensures { result ≡ spec.after_skip self }
-    {
-        Shape {
-            stage: Stage::BetweenSegments,
-            skipped: true,
-            ..self
-        }
-    }
-
-    /// After a part.
-    fn after_part(self) -> Shape
-        ensures { result ≡ spec.after_part self }
-    {
-        Shape {
-            parts: true,
-            ..self
-        }
-    }
-
-    /// After a segment's URI.
-    fn after_segment(self) -> Shape
-        ensures { result ≡ spec.after_segment self }
-    {
-        Shape {
-            stage: Stage::BetweenSegments,
-            segments: true,
-            ..self
-        }
+        Shape { stage, ..self }
     }
 }

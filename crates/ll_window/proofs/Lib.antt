@@ -5,4 +5,5 @@ pub mod SkipLemmas
 pub mod SplitLemmas
 pub mod StepLemmas
 pub mod SuffixLemmas
+pub mod WantLemmas
 pub mod WindowLemmas

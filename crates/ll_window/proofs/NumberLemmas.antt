@@ -13,7 +13,7 @@ same_place : (n m i j : ℕ) → n ≡ m → i ≡ j → (record { number = n; i
 same_place n m i j e f = ap (λ x. the_place x i) e ∙ ap (λ x. the_place m x) f
 
 -- segments of which the first begins at this index, and then the open one
-abbrev laid : ℕ → ℕ → List (List Part) → List Part → List NumberedPart
+abbrev pub laid : ℕ → ℕ → List (List Part) → List Part → List NumberedPart
 laid number index [] open_parts = placed number index open_parts
 laid number index (g ∷ gs) open_parts = placed number index g ++ laid (number + 1) 0 gs open_parts
 
@@ -28,7 +28,7 @@ laid-put true number index p gs rest = refl
 laid-put false number index p [] rest = refl
 laid-put false number index p (g ∷ gs) rest = refl
 
-by_places : (number index : ℕ) (ps : List Part) → numbered_parts number index ps ≡ laid number index (split ps).finished (split ps).unfinished
+pub by_places : (number index : ℕ) (ps : List Part) → numbered_parts number index ps ≡ laid number index (split ps).finished (split ps).unfinished
 by_places number index [] = refl
 by_places number index (p ∷ ps) =
     ap (λ more. numbered number index p ∷ cond p.finish more (numbered_parts number (index + 1) ps)) (by_places (number + 1) 0 ps)
@@ -46,7 +46,7 @@ laid-closed number index [] [] = refl
 laid-closed number index [] (p ∷ ps) = append-nil (placed number index (p ∷ ps))
 laid-closed number index (g ∷ gs) ps = ap (λ more. placed number index g ++ more) (laid-closed (number + 1) 0 gs ps)
 
-laid-by : (b : Bool) (number : ℕ) (s : Split) → laid number 0 (finished_by b s) (unfinished_by b s) ≡ laid number 0 s.finished s.unfinished
+pub laid-by : (b : Bool) (number : ℕ) (s : Split) → laid number 0 (finished_by b s) (unfinished_by b s) ≡ laid number 0 s.finished s.unfinished
 laid-by true number s = laid-closed number 0 s.finished s.unfinished
 laid-by false number s = refl
 

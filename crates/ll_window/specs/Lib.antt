@@ -6,6 +6,7 @@ pub mod Rows
 pub mod Segments
 pub mod Step
 pub mod Told
+pub mod Wants
 pub mod Window
 pub use Rattle.ll_item.specs.Items
 pub use Rattle.ll_item.specs.Settings

@@ -29,6 +29,17 @@ impl Model for Kept {
     ghost view = { λ k. record { segment = k.segment; parts = k.parts.items } };
 }
 
+impl Clone for Kept {
+    ghost is_clone = { λ k l. l ≡ k };
+
+    fn clone(&self) -> Result<Kept, AllocError> {
+        Ok(Kept {
+            segment: self.segment,
+            parts: self.parts.clone()?,
+        })
+    }
+}
+
 /// The finished segments of the window, how long they last together in microseconds, and how many broken ones have left.
 #[derive(Debug, Drop)]
 pub(crate) struct Finished {
@@ -46,6 +57,18 @@ impl Finished {
             lasting: 0,
             discontinuity: 0,
         }
+    }
+
+    /// Finished segments equal to these, or an error where no memory is found.
+    pub(crate) fn copy(&self) -> Result<Finished, AllocError>
+        ensures { IfOk result (λ f. (f.rows.items ≡ self.now.rows.items) × (f.lasting ≡ self.now.lasting)
+            × (f.discontinuity ≡ self.now.discontinuity)) }
+    {
+        Ok(Finished {
+            rows: self.rows.clone()?,
+            lasting: self.lasting,
+            discontinuity: self.discontinuity,
+        })
     }
 
     /// Adds the open segment, which has all these parts, and gives up the segments after which the others alone last so

@@ -8,9 +8,10 @@ mod part;
 mod place;
 mod progress;
 mod segment;
+mod wants;
 mod window;
 
-pub use laws::{numbers_law, ranges_law, window_law};
+pub use laws::{numbers_law, ranges_law, wants_law, window_law};
 pub use part::Part;
 pub use place::Place;
 pub use segment::Segment;

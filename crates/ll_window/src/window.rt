@@ -242,6 +242,26 @@ impl Window {
         self.progress.end_time
     }
 
+    /// A window equal to this one, or an error where no memory is found.
+    pub fn copy(&self) -> Result<Window, AllocError>
+        ensures { IfOk result (λ w. w ≡ self.now) }
+    {
+        Ok(Window {
+            alloc: self.alloc,
+            settings: self.settings.copy(self.alloc)?,
+            finished: self.finished.copy()?,
+            open_parts: self.open_parts.clone()?,
+            progress: self.progress,
+        })
+    }
+
+    /// The settings of its channel.
+    pub(crate) fn settings(&self) -> &Settings
+        ensures { result.now ≡ self.now.settings }
+    {
+        &self.settings
+    }
+
     /// Why an item may not follow.
     fn fault(&self, item: &Item) -> Option<PushFault>
         ensures { result ≡ refusal_after self.now item.now }

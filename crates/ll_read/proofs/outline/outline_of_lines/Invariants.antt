@@ -1,18 +1,17 @@
--- The outline is that of the lines so far, of any playlist that the text spells, and each segment has taken a byte.
-use Rattle.std.proofs.Common.{◌≡◌, ◌+◌, ◌≤◌, length, Ok}
+-- The outline so far, and what is left, come to what the text does, and each segment has taken a byte.
+use Rattle.std.proofs.Common.{◌≡◌, ◌+◌, ◌≤◌, length}
 use denote.Text.{Utf8}
 use denote.Shadow.{shadow}
 use Rattle.ll_attr.specs.Words.{parts_at}
-use Rattle.ll_page.specs.Playlist.{Playlist}
-use Rattle.ll_read.specs.Reading.{read_from}
-use Rattle.ll_read.specs.Shape.{start}
-use Rattle.ll_read.proofs.Outlines.{IsLeft}
+use Rattle.ll_read.specs.Draft.{blank}
+use Rattle.ll_read.specs.Outline.{outline_of}
+use Rattle.ll_read.specs.Outlined.{outline_from}
 use Rattle.ll_read.proofs.outline.outline_of_lines.Given as goal
 
 abbrev pub invariant-loop-line : goal.invariant-loop-line
 invariant-loop-line l =
     shadow (Utf8 l.rest) × (l.outline.segments + length l.rest ≤ length l.text)
-    × ((p : Playlist) → read_from 1 start (parts_at 10 l.text) ≡ Ok p → IsLeft l.outline l.rest p)
+    × (outline_from l.outline (parts_at 10 l.rest) ≡ outline_from (outline_of blank) (parts_at 10 l.text))
 
 abbrev pub decreases-loop-line : goal.decreases-loop-line
 decreases-loop-line l = length l.rest

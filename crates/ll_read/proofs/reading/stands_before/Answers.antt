@@ -1,16 +1,18 @@
 -- A line is the one, or those after it tell.
-use Rattle.std.proofs.Common.{arith, rules}
-use Rattle.ll_read.proofs.Before.{found, passed}
+use Rattle.std.proofs.Common.{arith, false, rules, sym, true, ◌∙◌}
+use Rattle.ll_read.proofs.Before.{turn}
 use Rattle.ll_read.proofs.reading.stands_before.Goals as goal
 
 pub returns-then-has_this_id : goal.returns-then-has_this_id
 returns-then-has_this_id c =
-    found c.args.id.now c.in-Some.line.now c.without_end-in-loop-left.result.now c.loop-left.rest.now c.in-Some.below.now c.loop-left.left c.has_this_id-in-loop-left.result _
-    c.in-Some.ensures.parts (omega arith) c.without_end-in-loop-left.ensures c.has_this_id-in-loop-left.ensures c.if-has_this_id.true c.loop-left.invariant.1
+    sym (turn c.args.id.now c.in-Some.line.now c.without_end-in-loop-left.result.now c.loop-left.rest.now c.in-Some.below.now c.loop-left.left c.has_this_id-in-loop-left.result true
+    c.in-Some.ensures.parts (omega arith) c.without_end-in-loop-left.ensures c.has_this_id-in-loop-left.ensures c.if-has_this_id.true)
+    ∙ c.loop-left.invariant.1
 
 pub loop-left-preserved : goal.loop-left-preserved
 loop-left-preserved c = (
   search rules,
-  passed c.args.id.now c.in-Some.line.now c.without_end-in-loop-left.result.now c.loop-left.rest.now c.in-Some.below.now c.loop-left.left c.has_this_id-in-loop-left.result _
-      c.in-Some.ensures.parts (omega arith) c.without_end-in-loop-left.ensures c.has_this_id-in-loop-left.ensures c.if-has_this_id.false c.loop-left.invariant.1,
+  sym (turn c.args.id.now c.in-Some.line.now c.without_end-in-loop-left.result.now c.loop-left.rest.now c.in-Some.below.now c.loop-left.left c.has_this_id-in-loop-left.result false
+      c.in-Some.ensures.parts (omega arith) c.without_end-in-loop-left.ensures c.has_this_id-in-loop-left.ensures c.if-has_this_id.false)
+      ∙ c.loop-left.invariant.1,
 )

@@ -1,15 +1,24 @@
 -- One line more, by the shape.
+use Rattle.std.proofs.Common.{None, Some}
 use Rattle.ll_line.specs.Formats.{line_in}
 use Rattle.ll_line.specs.Meaning.{meant}
-use Rattle.ll_read.proofs.Onward.{step_none, step_some}
+use Rattle.ll_read.specs.Draft.{put}
+use Rattle.ll_read.specs.Reading.{at}
+use Rattle.ll_read.proofs.Onward.{line_next, one_range}
 use Rattle.ll_read.proofs.reading.step.Goals as goal
 
 pub returns-in_err-shape : goal.returns-in_err-shape
-returns-in_err-shape c = λ r at.
-    let none = step_none r c.args.shape (line_in c.args.line.now) (meant c.in_ok-line.line) c.is_new-is_new.result at.0 c.in_ok-line.ensures (c.is_new-is_new.ensures r at.1 at.2) c.in_err-shape.ensures in
+returns-in_err-shape c = λ d after.
+    let none = line_next (at c.args.shape d) (line_in c.args.line.now) (meant c.in_ok-line.line) c.is_new-is_new.result None c.in_ok-line.ensures (c.is_new-is_new.ensures d after) c.in_err-shape.ensures in
     rw c.from_residual-in_err-shape.ensures none
 
 pub returns : goal.returns
-returns c = λ r at.
-    let p = step_some r c.args.shape c.in_ok-shape.shape (line_in c.args.line.now) (meant c.in_ok-line.line) c.is_new-is_new.result at.0 c.in_ok-line.ensures (c.is_new-is_new.ensures r at.1 at.2) c.in_ok-shape.ensures in
-    (p.0, p.1, p.2, c.grown.ensures r p.0 at.1 p.3, p.4)
+returns c = λ d after.
+    let line = meant c.in_ok-line.line in
+    let found = line_in c.args.line.now in
+    let is = c.in_ok-line.ensures in (
+      put line d,
+      line_next (at c.args.shape d) found line c.is_new-is_new.result (Some c.in_ok-shape.shape) is (c.is_new-is_new.ensures d after) c.in_ok-shape.ensures,
+      c.grown.ensures d after.0,
+      one_range found line d is,
+    )

@@ -1,0 +1,15 @@
+//! Who waits for what, and until when: the open requests of one channel, as a list in order of their tickets. Sections are those
+//! of draft-pantos-hls-rfc8216bis.
+#![tactic(auto)]
+
+mod book;
+mod holders;
+mod laws;
+mod pages;
+mod release;
+
+pub use book::{Book, ParkFault, Released};
+pub use holders::Holders;
+pub use laws::release_law;
+pub use pages::Pages;
+pub use release::Release;

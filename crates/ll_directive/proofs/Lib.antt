@@ -1,0 +1,4 @@
+pub mod Decoded
+pub mod Paths
+pub mod Short
+pub mod Tells

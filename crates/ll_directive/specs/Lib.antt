@@ -1,0 +1,3 @@
+pub mod Targets
+pub mod Told
+pub use Rattle.ll_item.specs.Names

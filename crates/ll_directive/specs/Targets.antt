@@ -1,0 +1,143 @@
+-- What the target of a player's request wants (section 6.2.5 of draft-pantos-hls-rfc8216bis).
+use Rattle.std.specs.Prelude.{ℕ, List, [], ◌∷◌, Bool, ◌&&◌, ◌||◌, ◌==◌, not, Option, Some, None, Result, Ok, Err, if◌then◌else◌, ok_or, option_and_then, option_map, map, filter, length, nat_le, bytes_eq, codes}
+use Rattle.std.specs.Char.{is_ascii_graphic}
+use Rattle.std.specs.List.{list_all, before_first, after_first}
+use Rattle.std.specs.Option.{option_or}
+use Rattle.std.specs.Str.{str_eq_ignore_ascii_case}
+use Rattle.form_urlencoded.specs.Form.{parse}
+use Rattle.ll_attr.specs.Numbers.{number_in}
+use Rattle.ll_attr.specs.Words.{parts_at, after}
+use Rattle.ll_item.specs.Names.{is_name}
+use Rattle.ll_directive.specs.declared.want.Awaited.{Awaited}
+use Rattle.ll_directive.specs.declared.want.Awaited.TheVariants.{Nothing, Segment, Part}
+use Rattle.ll_directive.specs.declared.want.Skip.{Skip}
+use Rattle.ll_directive.specs.declared.want.Skip.TheVariants.{No, Yes, V2}
+use Rattle.ll_directive.specs.declared.fault.TargetFault.{TargetFault}
+use Rattle.ll_directive.specs.declared.fault.TargetFault.TheVariants.{BadTarget, NotFound, BadMsn, BadPart, BadSkip, Double, PartAlone, Memory}
+
+pub record WantValue : Type 0 where
+  -- the names in the path
+  pub channel : List ℕ
+  pub rendition : List ℕ
+  pub awaited : Awaited
+  pub skip : Skip
+
+infixl 10 ◌>>=◌
+abbrev pub ◌>>=◌ : {A B : Type 0} → Result A TargetFault → (A → Result B TargetFault) → Result B TargetFault
+Err fault >>= f = Err fault
+Ok x >>= f = f x
+
+-- ---- the path
+
+-- 0x21 to 0x7E, but no `#`
+abbrev pub is_target_byte : ℕ → Bool
+is_target_byte b = is_ascii_graphic b && not (b == 35)
+
+abbrev pub is_question : ℕ → Bool
+is_question b = b == 63
+
+abbrev pub is_slash : ℕ → Bool
+is_slash b = b == 47
+
+abbrev pub is_colon : ℕ → Bool
+is_colon b = b == 58
+
+-- `http` or `https`, each letter in either case
+abbrev pub is_scheme : List ℕ → Bool
+is_scheme text = str_eq_ignore_ascii_case text (codes "http") || str_eq_ignore_ascii_case text (codes "https")
+
+-- what stands after `http://` or `https://`
+abbrev pub after_scheme : List ℕ → Option (List ℕ)
+after_scheme front = if is_scheme (before_first is_colon front) then after (codes "//") (after_first is_colon front) else None
+
+-- what stands after the slash that ends an authority of one or more bytes; nothing, where the authority is all there is
+abbrev pub after_authority : List ℕ → Option (List ℕ)
+after_authority text = if nat_le 1 (length (before_first is_slash text)) then Some (after_first is_slash text) else None
+
+-- the path without its first slash, of what stands before the first question mark of a target
+abbrev pub path_of : List ℕ → Option (List ℕ)
+path_of front = option_or (after (codes "/") front) (option_and_then after_authority (after_scheme front))
+
+-- the path without its first slash, where the target has the form of one
+abbrev pub path_in : List ℕ → Option (List ℕ)
+path_in target = if list_all is_target_byte target then path_of (before_first is_question target) else None
+
+-- the names of the channel and the rendition in `CHANNEL/RENDITION/live.m3u8`, the parts of a path between slashes
+abbrev pub names_in : List (List ℕ) → Option (List ℕ × List ℕ)
+names_in (channel ∷ rendition ∷ file ∷ []) =
+    if is_name channel && is_name rendition && bytes_eq file (codes "live.m3u8") then Some (channel, rendition) else None
+names_in other = None
+
+-- ---- the query
+
+-- the values that stand with this name
+abbrev pub values_of : List ℕ → List (List ℕ × List ℕ) → List (List ℕ)
+values_of name pairs = map (λ pair. pair.1) (filter (λ pair. bytes_eq pair.0 name) pairs)
+
+-- what each of these values means, where all of them mean something
+abbrev pub each : {A : Type 0} → (List ℕ → Option A) → List (List ℕ) → Option (List A)
+each read [] = Some []
+each read (value ∷ more) = option_and_then (λ x. option_map (λ xs. x ∷ xs) (each read more)) (read value)
+
+abbrev pub skip_in : List ℕ → Option Skip
+skip_in value = if bytes_eq value (codes "YES") then Some Yes else if bytes_eq value (codes "v2") then Some V2 else None
+
+abbrev pub at_most_one : {A : Type 0} → List A → Result (Option A) TargetFault
+at_most_one [] = Ok None
+at_most_one (x ∷ []) = Ok (Some x)
+at_most_one (x ∷ y ∷ more) = Err Double
+
+abbrev pub awaited_of : Option ℕ → Option ℕ → Result Awaited TargetFault
+awaited_of None None = Ok Nothing
+awaited_of None (Some part) = Err PartAlone
+awaited_of (Some msn) None = Ok (Segment msn)
+awaited_of (Some msn) (Some part) = Ok (Part msn part)
+
+abbrev pub skip_of : Option Skip → Skip
+skip_of None = No
+skip_of (Some skip) = skip
+
+-- what the meanings of the three directives' values ask for; None stands for values of which one means nothing
+abbrev pub directives_of : Option (List ℕ) → Option (List ℕ) → Option (List Skip) → Result (Awaited × Skip) TargetFault
+directives_of msns parts skips = do
+  msns ← ok_or msns BadMsn
+  parts ← ok_or parts BadPart
+  skips ← ok_or skips BadSkip
+  msn ← at_most_one msns
+  part ← at_most_one parts
+  skip ← at_most_one skips
+  awaited ← awaited_of msn part
+  Ok (awaited, skip_of skip)
+
+-- what a query of these pairs asks for
+abbrev pub directives_in : List (List ℕ × List ℕ) → Result (Awaited × Skip) TargetFault
+directives_in pairs =
+    directives_of (each (number_in 20) (values_of (codes "_HLS_msn") pairs))
+    (each (number_in 20) (values_of (codes "_HLS_part") pairs))
+    (each skip_in (values_of (codes "_HLS_skip") pairs))
+
+-- ---- the whole
+
+-- what a target wants, or its first fault
+abbrev pub want_in : List ℕ → Result WantValue TargetFault
+want_in target = do
+  path ← ok_or (path_in target) BadTarget
+  names ← ok_or (names_in (parts_at 47 path)) NotFound
+  directives ← directives_in (parse (after_first is_question target))
+  Ok (record { channel = names.0; rendition = names.1; awaited = directives.0; skip = directives.1 })
+
+-- the status of the answer
+abbrev pub status_of : TargetFault → ℕ
+status_of NotFound = 404
+status_of Memory = 503
+status_of other = 400
+
+abbrev pub fault_name : TargetFault → List ℕ
+fault_name BadTarget = codes "BadTarget"
+fault_name NotFound = codes "NotFound"
+fault_name BadMsn = codes "BadMsn"
+fault_name BadPart = codes "BadPart"
+fault_name BadSkip = codes "BadSkip"
+fault_name Double = codes "Double"
+fault_name PartAlone = codes "PartAlone"
+fault_name Memory = codes "Memory"

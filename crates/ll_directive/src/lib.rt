@@ -1,0 +1,13 @@
+//! What the target of a player's request wants: a playlist, and which part of the stream it waits for. Sections are those of
+//! draft-pantos-hls-rfc8216bis.
+#![tactic(auto)]
+
+mod fault;
+mod path;
+mod query;
+mod target;
+mod want;
+
+pub use fault::TargetFault;
+pub use target::read_target;
+pub use want::{Awaited, Skip, Want};

@@ -1,0 +1,179 @@
+//! The directives in a query. What they tell is found without memory.
+ghost use Rattle.std.specs.Prelude.{◌≡◌, ◌≢◌, ◌∷◌, ℕ, List, Option, Some, None, false, IfErr, MatchOption, option_map, fold};
+ghost use Rattle.form_urlencoded.specs.Form.{parse, decode};
+ghost use Rattle.ll_attr.specs.Numbers.{number_in};
+ghost use Rattle.ll_directive.specs.Targets.{awaited_of, directives_in, skip_in};
+ghost use Rattle.ll_directive.specs.Told as spec;
+ghost use Rattle.ll_directive.specs.declared.query.Few.TheVariants.{Zero};
+
+use crate::fault::TargetFault;
+use crate::want::{Awaited, Skip};
+use arrayvec::ArrayString;
+use form_urlencoded::raw_pairs;
+use ll_attr::parse_number;
+use percent_encoding::percent_decode;
+
+/// The values of a directive: none, one, or more, of which none is kept.
+#[derive(Clone, Copy)]
+enum Few<T> {
+    Zero,
+    One(T),
+    More,
+}
+
+/// What is told of each directive: its values, or None where one of them means nothing.
+#[derive(Clone, Copy)]
+struct Directives {
+    msn: Option<Few<u64>>,
+    part: Option<Few<u64>>,
+    skip: Option<Few<Skip>>,
+}
+
+/// What a query asks for.
+#[tactic(auto, using(crate::proofs::Tells::settled_told))]
+pub(crate) fn read_query(query: &[u8]) -> Result<(Awaited, Skip), TargetFault>
+    ensures value { result ≡ directives_in (parse query.now) }
+    ensures not_memory { IfErr result (λ fault. fault ≢ TargetFault.Memory) }
+{
+    told(query).settled()
+}
+
+/// What the pairs of a query tell.
+fn told(query: &[u8]) -> Directives
+    ensures { result ≡ spec.told_after (record { msn = Some Zero; part = Some Zero; skip = Some Zero }) (parse query.now) }
+{
+    let mut directives = Directives {
+        msn: Some(Few::Zero),
+        part: Some(Few::Zero),
+        skip: Some(Few::Zero),
+    };
+    for (name, value) in raw_pairs(query) {
+        directives = directives.with(name, value);
+    }
+    directives
+}
+
+impl Directives {
+    /// What is told with this name and this value, both as they are encoded.
+    fn with(self, name: &[u8], value: &[u8]) -> Directives
+        ensures { (more : List (List ℕ × List ℕ)) → spec.told_after result more ≡ spec.told_after self ((decode name.now, decode value.now) ∷ more) }
+    {
+        let Some(name) = decoded(name) else {
+            return self;
+        };
+        match name.as_str() {
+            "_HLS_msn" => Directives {
+                msn: with_value(self.msn, number(value)),
+                ..self
+            },
+            "_HLS_part" => Directives {
+                part: with_value(self.part, number(value)),
+                ..self
+            },
+            "_HLS_skip" => Directives {
+                skip: with_value(self.skip, skip(value)),
+                ..self
+            },
+            _ => self,
+        }
+    }
+
+    /// What is asked for, or the first fault.
+    fn settled(self) -> Result<(Awaited, Skip), TargetFault>
+        ensures value { result ≡ spec.settled self }
+        ensures not_memory { IfErr result (λ fault. fault ≢ TargetFault.Memory) }
+    {
+        let msn = self.msn.ok_or(TargetFault::BadMsn)?;
+        let part = self.part.ok_or(TargetFault::BadPart)?;
+        let skip = self.skip.ok_or(TargetFault::BadSkip)?;
+        let msn = msn.at_most_one()?;
+        let part = part.at_most_one()?;
+        let skip = skip.at_most_one()?;
+        Ok((awaited(msn, part)?, skip.unwrap_or(Skip::No)))
+    }
+}
+
+impl<T: Copy> Few<T> {
+    /// With one more value.
+    fn with(self, value: T) -> Few<T>
+        ensures { result ≡ spec.with_one self value }
+    {
+        match self {
+            Few::Zero => Few::One(value),
+            Few::One(_) | Few::More => Few::More,
+        }
+    }
+
+    /// The value, where there is one, or the fault that there are more.
+    fn at_most_one(self) -> Result<Option<T>, TargetFault>
+        ensures { result ≡ spec.at_most_one_of self }
+    {
+        match self {
+            Few::Zero => Ok(None),
+            Few::One(value) => Ok(Some(value)),
+            Few::More => Err(TargetFault::Double),
+        }
+    }
+}
+
+/// The values of a directive with one more, or None where one of them means nothing.
+fn with_value<T: Copy>(told: Option<Few<T>>, value: Option<T>) -> Option<Few<T>>
+    ensures { result ≡ spec.with_value told value }
+{
+    let few = told?;
+    Some(few.with(value?))
+}
+
+/// What a request waits for that has such a `_HLS_msn` and such a `_HLS_part`.
+fn awaited(msn: Option<u64>, part: Option<u64>) -> Result<Awaited, TargetFault>
+    ensures { result ≡ awaited_of msn part }
+{
+    match (msn, part) {
+        (None, None) => Ok(Awaited::Nothing),
+        (None, Some(_)) => Err(TargetFault::PartAlone),
+        (Some(msn), None) => Ok(Awaited::Segment(msn)),
+        (Some(msn), Some(part)) => Ok(Awaited::Part(msn, part)),
+    }
+}
+
+/// The number that a value spells.
+#[tactic(auto, using(crate::proofs::Short::no_number))]
+fn number(value: &[u8]) -> Option<u64>
+    ensures { result ≡ number_in 20 (decode value.now) }
+{
+    parse_number(decoded(value)?.as_str(), 20)
+}
+
+/// What a value of `_HLS_skip` means.
+#[tactic(auto, using(crate::proofs::Short::no_skip))]
+fn skip(value: &[u8]) -> Option<Skip>
+    ensures { result ≡ skip_in (decode value.now) }
+{
+    match decoded(value)?.as_str() {
+        "YES" => Some(Skip::Yes),
+        "v2" => Some(Skip::V2),
+        _ => None,
+    }
+}
+
+/// What a name or a value decodes to, where that is short and has no space. A `+` is a space, or one that was escaped: no name and
+/// no value that means something has either.
+fn decoded(raw: &[u8]) -> Option<ArrayString<20>>
+    ensures { MatchOption result (spec.is_short (decode raw.now) ≡ false) (λ text. text.bytes ≡ decode raw.now) }
+{
+    let mut text = ArrayString::new();
+    for byte in percent_decode(raw) {
+        if text.is_full() || !is_plain(byte) {
+            return None;
+        }
+        text.push(char::from(byte));
+    }
+    Some(text)
+}
+
+/// Whether a byte is 0x21 to 0x7E, but no `+`.
+fn is_plain(b: u8) -> bool
+    ensures { result ≡ spec.is_plain b }
+{
+    b.is_ascii_graphic() && b != b'+'
+}

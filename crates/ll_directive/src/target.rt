@@ -1,0 +1,59 @@
+//! A target, read.
+ghost use Rattle.std.specs.Prelude.{◌≡◌, ◌≢◌, IfOk, IfErr, IsOk, IsErrOf, Ok, Err, None, Some, MatchOption};
+ghost use Rattle.std.specs.List.{after_first, list_all};
+ghost use Rattle.ll_directive.specs.Targets.{want_in};
+ghost use Rattle.ll_directive.specs.Targets as spec;
+
+use crate::fault::TargetFault;
+use crate::path::{names_in, path_of, split};
+use crate::query::read_query;
+use crate::want::Want;
+use ll_attr::Text;
+use percent_encoding::ascii_str;
+use std::alloc::Global;
+
+/// What the target of a request wants (section 6.2.5): `/CHANNEL/RENDITION/live.m3u8`, or that after `http://` or `https://` and an
+/// authority, with a query or none. Or the target's first fault, in the order of [`TargetFault`]; memory that isn't found comes
+/// after all other faults.
+pub fn read_target(alloc: Global, target: &[u8]) -> Result<Want, TargetFault>
+    ensures value { IfOk result (λ want. want_in target.now ≡ Ok want) }
+    ensures refused { IfErr result (λ fault. fault ≢ TargetFault.Memory → want_in target.now ≡ Err fault) }
+    ensures memory { IsErrOf result TargetFault.Memory → IsOk (want_in target.now) }
+{
+    let Some((path, query)) = parts_of(target) else {
+        return Err(TargetFault::BadTarget);
+    };
+    let Some((channel, rendition)) = names_in(path) else {
+        return Err(TargetFault::NotFound);
+    };
+    let (awaited, skip) = read_query(query.as_bytes())?;
+    let channel = Text::from_str(alloc, channel)?;
+    let rendition = Text::from_str(alloc, rendition)?;
+    Ok(Want::of(channel, rendition, awaited, skip))
+}
+
+/// The path without its first slash and the query, where the target has the form of one.
+fn parts_of(target: &[u8]) -> Option<(&str, &str)>
+    ensures path { MatchOption result (spec.path_in target.now ≡ None) (λ parts. spec.path_in target.now ≡ Some parts.0.now) }
+    ensures query { MatchOption result (spec.path_in target.now ≡ None) (λ parts. parts.1.now ≡ after_first spec.is_question target.now) }
+{
+    if !is_target_text(target) {
+        return None;
+    }
+    let (front, query) = split(ascii_str(target), '?');
+    Some((path_of(front)?, query))
+}
+
+/// Whether these bytes may stand in a target.
+fn is_target_text(bytes: &[u8]) -> bool
+    ensures { result ≡ list_all spec.is_target_byte bytes.now }
+{
+    bytes.iter().all(|b| is_target_byte(*b))
+}
+
+/// Whether a byte is 0x21 to 0x7E, but no `#`.
+fn is_target_byte(b: u8) -> bool
+    ensures { result ≡ spec.is_target_byte b }
+{
+    b.is_ascii_graphic() && b != b'#'
+}

@@ -1,0 +1,4 @@
+pub mod LawProofs
+pub mod ListLemmas
+pub mod StateLemmas
+pub mod StepLemmas

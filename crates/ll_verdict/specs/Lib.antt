@@ -1,0 +1,5 @@
+pub mod Accepted
+pub mod Events
+pub mod Laws
+pub mod State
+pub mod Verdict

@@ -1,0 +1,153 @@
+-- What each request of a channel gets, over the list of all events (Blocking Playlist Reload, section 6.2.5.2).
+use Rattle.std.specs.Prelude.{ℕ, ◌+◌, ◌*◌, ◌==◌, ◌&&◌, ◌||◌, List, [], ◌∷◌, ◌++◌, Bool, true, false, Option, Some, None, is_none, nat_le, nat_lt, length, fold, filter, find, if◌then◌else◌, option_and_then, option_map}
+use Rattle.ll_item.specs.Items.{rendition_named}
+use Rattle.ll_item.specs.Settings.{Configuration}
+use Rattle.ll_item.specs.declared.item.Item.{Item}
+use Rattle.ll_page.specs.View.{seen}
+use Rattle.ll_window.specs.Segments.{ended, own}
+use Rattle.ll_verdict.specs.Events.{Event, Publish, Ask, Collect, Close, Clock, Step, until, steps, items, time, asks}
+use Rattle.ll_directive.specs.Targets.{WantValue}
+use Rattle.ll_directive.specs.declared.want.Awaited.{Awaited}
+use Rattle.ll_directive.specs.declared.want.Awaited.TheVariants.{Nothing, Segment, Part}
+use Rattle.ll_directive.specs.declared.want.Skip.{Skip}
+use Rattle.ll_directive.specs.declared.want.Skip.TheVariants.{No, Yes, V2}
+use Rattle.ll_page.specs.Page.{Paged}
+use Rattle.ll_page.specs.declared.form.Form.{Form}
+use Rattle.ll_page.specs.declared.form.Form.TheVariants.{Full, Delta}
+use Rattle.ll_page.specs.declared.skip_kind.SkipKind.TheVariants as kind
+use Rattle.ll_window.specs.Wants.{holds_segment, holds_part}
+use Rattle.ll_window.specs.Wants as wants
+use Rattle.ll_verdict.specs.declared.wanted.Wanted.{Wanted}
+use Rattle.ll_verdict.specs.declared.reply.Reply.{Reply}
+use Rattle.ll_verdict.specs.declared.reply.Reply.TheVariants.{TooFar, NotFound, Busy}
+use Rattle.ll_verdict.specs.declared.reply.Reply.TheVariants as now
+use Rattle.ll_verdict.specs.declared.reply.Settled.{Settled}
+use Rattle.ll_verdict.specs.declared.reply.Settled.TheVariants.{Text, Timeout}
+
+-- the playlist that is asked for
+abbrev pub form_of : Skip → Form
+form_of No = Full
+form_of Yes = Delta kind.Yes
+form_of V2 = Delta kind.V2
+
+abbrev pub wanted_at : WantValue → ℕ → Wanted
+wanted_at want rendition = record { rendition = rendition; awaited = want.awaited; form = form_of want.skip }
+
+-- what a request asks of a rendition of the channel; none where the channel has no rendition of that name
+abbrev pub wanted_of : Configuration → WantValue → Option Wanted
+wanted_of c want = option_map (wanted_at want) (rendition_named c want.rendition)
+
+-- the playlist or delta update after these items of the channel
+abbrev pub page_of : Configuration → List Item → Wanted → Paged
+page_of c items a = record { seen = seen c items a.rendition; form = a.form }
+
+-- whether these items of a rendition hold what is awaited
+abbrev pub holds : Configuration → List Item → Awaited → Bool
+holds c own Nothing = true
+holds c own (Segment msn) = holds_segment c own msn
+holds c own (Part msn part) = holds_part c own msn part
+
+-- whether that lies too far ahead to be waited for
+abbrev pub far : Configuration → List Item → Awaited → Bool
+far c own Nothing = false
+far c own (Segment msn) = wants.far c own msn None
+far c own (Part msn part) = wants.far c own msn (Some part)
+
+-- Whether a request has its text after these items of the channel: what it awaits is there, or its rendition has ended.
+unfoldable pub is_there : Configuration → List Item → Wanted → Bool
+is_there c items a = holds c (own a.rendition items) a.awaited || ended (own a.rendition items)
+
+-- the most requests of a channel that wait at one time
+abbrev pub waiting_limit : ℕ
+waiting_limit = 65536
+
+-- the reply to a request that need not wait, where so many wait already
+abbrev pub reply_now : Configuration → ℕ → List Item → Wanted → Option Reply
+reply_now c waiting items a =
+    if is_there c items a then Some (now.Text (page_of c items a))
+    else if far c (own a.rendition items) a.awaited then Some TooFar
+    else if nat_le waiting_limit waiting then Some Busy
+    else None
+
+abbrev pub reply_by : Configuration → ℕ → List Item → Option Wanted → Option Reply
+reply_by c waiting items None = Some NotFound
+reply_by c waiting items (Some a) = reply_now c waiting items a
+
+-- a request that had to wait, and all events before it
+pub record Request : Type 0 where
+  -- the number of the request, from 1
+  pub ticket : ℕ
+  pub wanted : Wanted
+  pub before : List Event
+
+-- the time at which it is given up, three target durations after it was made: milliseconds
+abbrev pub deadline : Configuration → Request → ℕ
+deadline c r = time r.before + 3000 * c.target
+
+-- this event comes after the request itself
+abbrev pub comes_after : Request → Step → Bool
+comes_after r s = nat_lt (length r.before) (length s.before)
+
+-- with this event its text is there, or its time has come
+abbrev pub settles : Configuration → Request → Step → Bool
+settles c r s = comes_after r s && (is_there c (items c (until s)) r.wanted || nat_le (deadline c r) (time (until s)))
+
+abbrev pub is_close : ℕ → Event → Bool
+is_close ticket (Publish item) = false
+is_close ticket (Ask want) = false
+is_close ticket (Collect other) = false
+is_close ticket (Close other) = ticket == other
+is_close ticket (Clock ms) = false
+
+-- this event gives it up
+abbrev pub closes : Request → Step → Bool
+closes r s = comes_after r s && is_close r.ticket s.event
+
+-- the first event that decides it
+abbrev pub decided : Configuration → List Event → Request → Option Step
+decided c events r = find (λ s. settles c r s || closes r s) (steps events)
+
+-- the same as any other reply
+abbrev pub reply_of : Settled → Reply
+reply_of (Text page) = now.Text page
+reply_of Timeout = now.Timeout
+
+-- what it gets once it is settled, after these items: its text, or that its time is over
+abbrev pub reply_with : Configuration → List Item → Wanted → Settled
+reply_with c items a = if is_there c items a then Text (page_of c items a) else Timeout
+
+-- what it gets from the event that decides it: nothing where it was given up, else the reply of that very state
+abbrev pub reply_at : Configuration → Request → Step → Option Settled
+reply_at c r s = if closes r s then None else Some (reply_with c (items c (until s)) r.wanted)
+
+-- what it gets; none while it is undecided, and none where it was given up
+abbrev pub reply : Configuration → List Event → Request → Option Settled
+reply c events r = option_and_then (reply_at c r) (decided c events r)
+
+-- how many of these requests wait after these events
+abbrev pub waiting : Configuration → List Event → List Request → ℕ
+waiting c events rs = length (filter (λ r. is_none (decided c events r)) rs)
+
+-- The reply to a request at once, or none where it has to wait; these requests had to wait before. The first case that applies: its
+-- rendition is unknown; it awaits nothing that isn't there, or its rendition has ended; what it awaits is too far ahead; too many wait.
+abbrev pub at_once : Configuration → List Request → List Event → WantValue → Option Reply
+at_once c earlier events want = reply_by c (waiting c events earlier) (items c events) (wanted_of c want)
+
+abbrev pub held_by : Option Reply → ℕ → List Event → Option Wanted → List Request
+held_by None ticket before (Some a) = (record { ticket = ticket; wanted = a; before = before }) ∷ []
+held_by None ticket before None = []
+held_by (Some answer) ticket before wanted = []
+
+abbrev pub hold_by : Configuration → List Request → List Event → Event → List Request
+hold_by c rs before (Publish item) = rs
+hold_by c rs before (Ask want) = rs ++ held_by (at_once c rs before want) (asks before + 1) before (wanted_of c want)
+hold_by c rs before (Collect ticket) = rs
+hold_by c rs before (Close ticket) = rs
+hold_by c rs before (Clock ms) = rs
+
+abbrev pub hold : Configuration → List Request → Step → List Request
+hold c rs s = hold_by c rs s.before s.event
+
+-- the requests that had to wait, in order of asking
+abbrev pub held : Configuration → List Event → List Request
+held c events = fold (hold c) [] (steps events)

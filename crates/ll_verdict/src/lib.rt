@@ -1,0 +1,15 @@
+//! What each request of a channel gets, as a definition over the list of all events of the channel, and the plain step that says
+//! the same one event at a time. Sections are those of draft-pantos-hls-rfc8216bis.
+#![tactic(auto)]
+
+mod entry;
+mod fault;
+mod laws;
+mod reply;
+mod wanted;
+
+pub use entry::{Entry, Slot};
+pub use fault::PublishFault;
+pub use laws::{first_state_law, one_verdict_law, open_tickets_law, state_law};
+pub use reply::{Reply, Settled};
+pub use wanted::Wanted;

@@ -1,0 +1,39 @@
+use ll_page::Page;
+
+/// What a request that had to wait gets, unless it is given up before.
+#[derive(Drop)]
+pub enum Settled {
+    /// What it awaited is there, or its rendition has ended: the playlist of that very state.
+    Text(Page),
+    /// Three target durations have passed.
+    Timeout,
+}
+
+/// What a request gets.
+#[derive(Drop)]
+pub enum Reply {
+    /// A playlist or delta update.
+    Text(Page),
+    /// The channel has no rendition of that name.
+    NotFound,
+    /// What it awaits is too far ahead (section 6.2.5.2).
+    TooFar,
+    /// As many requests of the channel wait as may wait.
+    Busy,
+    /// What it awaits wasn't there within three target durations.
+    Timeout,
+}
+
+impl From<Settled> for Reply {
+    ghost use Rattle.std.specs.Prelude.{◌≡◌};
+    ghost use Rattle.ll_verdict.specs.Verdict.{reply_of};
+
+    ghost from_gives = { λ settled reply. reply ≡ reply_of settled };
+
+    fn from(settled: Settled) -> Reply {
+        match settled {
+            Settled::Text(page) => Reply::Text(page),
+            Settled::Timeout => Reply::Timeout,
+        }
+    }
+}
