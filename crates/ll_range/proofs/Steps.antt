@@ -82,21 +82,26 @@ time_passed c t (item.End r) e = passed_by c t t.end_time (omega arith)
 time_passed c t (item.Range r id attributes) e = absurd (cc)
 time_passed c t (item.Unrange r id) e = absurd (cc)
 
+pub free-range : (c : Configuration) (items : List Item) (id : List ℕ) (attributes : List Attribute) (old : Announced) (now : ℕ)
+    → old ≡ announced c items → now ≡ end_time items → add_refusal now id attributes old ≡ None → add_refusal (end_time items) id attributes (announced c items) ≡ None
+free-range c items id attributes old now e t free =
+    subst (λ n. add_refusal n id attributes (announced c items) ≡ None) t (subst (λ a. add_refusal now id attributes a ≡ None) e free)
+
+pub free-unrange : (c : Configuration) (items : List Item) (id : List ℕ) (old : Announced) → old ≡ announced c items → remove_refusal id old ≡ None
+    → remove_refusal id (announced c items) ≡ None
+free-unrange c items id old e free = subst (λ a. remove_refusal id a ≡ None) e free
+
 pub accepted-range : (c : Configuration) (items : List Item) (r : ℕ) (id : List ℕ) (attributes : List Attribute) (old new : Announced) (now : ℕ)
-    → old ≡ announced c items → now ≡ end_time items → add_refusal now id attributes old ≡ None → new ≡ with_range now id attributes old
-    → (add_refusal (end_time items) id attributes (announced c items) ≡ None) × (new ≡ announced c (items ++ item.Range r id attributes ∷ []))
-accepted-range c items r id attributes old new now e t free more = (
-  subst (λ n. add_refusal n id attributes (announced c items) ≡ None) t (subst (λ a. add_refusal now id attributes a ≡ None) e free),
-  more ∙ ap (with_range now id attributes) e ∙ ap (λ x. with_range x id attributes (announced c items)) t ∙ one_more c items (item.Range r id attributes),
-)
+    → old ≡ announced c items → now ≡ end_time items → new ≡ with_range now id attributes old
+    → new ≡ announced c (items ++ item.Range r id attributes ∷ [])
+accepted-range c items r id attributes old new now e t more =
+    more ∙ ap (with_range now id attributes) e ∙ ap (λ x. with_range x id attributes (announced c items)) t ∙ one_more c items (item.Range r id attributes)
 
 pub accepted-unrange : (c : Configuration) (items : List Item) (r : ℕ) (id : List ℕ) (old new : Announced) (now : ℕ)
-    → old ≡ announced c items → now ≡ end_time items → remove_refusal id old ≡ None → new ≡ without_range now id old
-    → (remove_refusal id (announced c items) ≡ None) × (new ≡ announced c (items ++ item.Unrange r id ∷ []))
-accepted-unrange c items r id old new now e t free less = (
-  subst (λ a. remove_refusal id a ≡ None) e free,
-  less ∙ ap (without_range now id) e ∙ ap (λ x. without_range x id (announced c items)) t ∙ range_removed c (told items) r id ∙ one_more c items (item.Unrange r id),
-)
+    → old ≡ announced c items → now ≡ end_time items → new ≡ without_range now id old
+    → new ≡ announced c (items ++ item.Unrange r id ∷ [])
+accepted-unrange c items r id old new now e t less =
+    less ∙ ap (without_range now id) e ∙ ap (λ x. without_range x id (announced c items)) t ∙ range_removed c (told items) r id ∙ one_more c items (item.Unrange r id)
 
 pub passed : (c : Configuration) (items : List Item) (i : Item) (old new : Announced) (now : ℕ)
     → old ≡ announced c items → is_about_ranges i ≡ false → now ≡ end_time (items ++ i ∷ []) → new ≡ at_time now old → new ≡ announced c (items ++ i ∷ [])

@@ -72,7 +72,7 @@ impl Ranges {
         ensures unchanged { OnErr result (self.new ≡ self.old) }
     {
         self.test_add(end, id.as_str(), &attributes)?;
-        match self.push(end, id.as_str(), &attributes) {
+        match self.list(end, id.as_str(), &attributes) {
             Ok(()) => Ok(()),
             Err(AllocError) => Err(RangeFault::Memory),
         }
@@ -92,10 +92,34 @@ impl Ranges {
         ensures unchanged { OnErr result (self.new ≡ self.old) }
     {
         self.test_remove(id)?;
-        match self.take_away(end, id) {
+        match self.unlist(end, id) {
             Ok(()) => Ok(()),
             Err(AllocError) => Err(RangeFault::Memory),
         }
+    }
+
+    /// Adds a date range that `test_add` lets go, where all parts of the rendition last so long until now (microseconds). It
+    /// fails only where no memory is found, and changes nothing then.
+    pub fn list(&mut self, end: u64, id: &str, attributes: &AttrList) -> Result<(), AllocError>
+        requires { add_refusal end id.now attributes.now self.old ≡ None }
+        ensures accepted { (c : Configuration) (items : List Item) (rendition : ℕ) → self.old ≡ announced c items → end ≡ end_time items
+            → OnOk result (self.new ≡ announced c (items ++ item.Range rendition id.now attributes.now ∷ [])) }
+        ensures unchanged { OnErr result (self.new ≡ self.old) }
+    {
+        self.push(end, id, attributes)?;
+        Ok(())
+    }
+
+    /// Takes a date range away that `test_remove` finds, where all parts of the rendition last so long until now
+    /// (microseconds). It fails only where no memory is found for what is kept of the removal, and changes nothing then.
+    pub fn unlist(&mut self, end: u64, id: &str) -> Result<(), AllocError>
+        requires { remove_refusal id.now self.old ≡ None }
+        ensures accepted { (c : Configuration) (items : List Item) (rendition : ℕ) → self.old ≡ announced c items → end ≡ end_time items
+            → OnOk result (self.new ≡ announced c (items ++ item.Unrange rendition id.now ∷ [])) }
+        ensures unchanged { OnErr result (self.new ≡ self.old) }
+    {
+        self.take_away(end, id)?;
+        Ok(())
     }
 
     /// Forgets the removals that are no longer recent, where all parts of the rendition last so long until now

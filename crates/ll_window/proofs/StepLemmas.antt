@@ -12,8 +12,8 @@ use Rattle.ll_window.specs.Numbers.{numbered_parts, last_place}
 use Rattle.ll_window.specs.Compact.{Compact, compact}
 use Rattle.ll_window.specs.Rows.{Row, row, rows, one_if, is_broken, lasting, broken_in}
 use Rattle.ll_window.specs.Segments.{Split, split, finished_by, unfinished_by, ended, duration}
-use Rattle.ll_window.specs.Step.{with_item, with_open, with_part_by, after_segment, with_end, next_place, refusal_going_on, refusal_after}
-use Rattle.ll_window.specs.Refusal.{refusal, refusal_before_end, refusal_by}
+use Rattle.ll_window.specs.Step.{with_item, with_open, with_part_by, after_segment, with_end, next_place}
+use Rattle.ll_window.specs.Refusal.{refusal, refusal_before_end, refusal_by, refusal_going_on, refusal_after}
 use Rattle.ll_window.specs.Told.{Told, start, step, told}
 use Rattle.ll_window.specs.Window.{window_limit, near_limit, gone, window, listed}
 use Rattle.ll_window.proofs.NumberLemmas.{last-snoc}
@@ -179,10 +179,8 @@ not_ended true o e = absurd (grind (arith, e))
 not_ended false o e = refl
 
 -- what is kept of these items goes on to what is kept of them and one more
-pub goes-on : (old new : Compact) (items : List Item) (i : Item) → None ≡ refusal_after old i → new ≡ with_item old i → old ≡ compact old.settings items
-    → (refusal old.settings items i ≡ None) × (new ≡ compact old.settings (items ++ i ∷ []))
-goes-on old new items i allowed step reached = (
-  refusal_told old items i None allowed reached,
-  step ∙ ap (λ k. with_item k i) reached
-      ∙ sym (compact-snoc old.settings items i (sym (ap (λ k. k.ended) reached) ∙ not_ended old.ended (refusal_going_on old i) allowed)),
-)
+pub goes-on : (old new : Compact) (items : List Item) (i : Item) → refusal_after old i ≡ None → new ≡ with_item old i → old ≡ compact old.settings items
+    → new ≡ compact old.settings (items ++ i ∷ [])
+goes-on old new items i allowed step reached =
+    step ∙ ap (λ k. with_item k i) reached
+    ∙ sym (compact-snoc old.settings items i (sym (ap (λ k. k.ended) reached) ∙ not_ended old.ended (refusal_going_on old i) (sym allowed)))

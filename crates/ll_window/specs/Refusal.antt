@@ -6,6 +6,7 @@ use Rattle.ll_item.specs.declared.item.Item.TheVariants as item
 use Rattle.ll_window.specs.declared.part.Part.{Part}
 use Rattle.ll_window.specs.declared.window.PushFault.{PushFault}
 use Rattle.ll_window.specs.declared.window.PushFault.TheVariants.{Ended, BadDuration, TooLong, OpenSegment, CountEnd, TimeEnd}
+use Rattle.ll_window.specs.Compact.{Compact}
 use Rattle.ll_window.specs.Segments.{segments, open_segment, duration, end_time, ended}
 
 -- microseconds as the nearest whole seconds, half upwards
@@ -43,3 +44,15 @@ refusal_by false other = other
 -- the first rule that refuses an item after these items of its rendition, or none
 abbrev pub refusal : Configuration → List Item → Item → Option PushFault
 refusal c before item = refusal_by (ended before) (refusal_before_end c before item)
+
+-- why an item may not follow where this is kept of the items before it and the rendition has not ended
+abbrev pub refusal_going_on : Compact → Item → Option PushFault
+refusal_going_on k (item.Part rendition micros independent finish) = part_refusal k.settings k.next_number (duration k.open_parts) k.end_time micros
+refusal_going_on k (item.Break rendition) = break_refusal k.open_parts
+refusal_going_on k (item.End rendition) = None
+refusal_going_on k (item.Range rendition id attributes) = None
+refusal_going_on k (item.Unrange rendition id) = None
+
+-- the same as `refusal`, told by what is kept of the items before it
+abbrev pub refusal_after : Compact → Item → Option PushFault
+refusal_after k item = refusal_by k.ended (refusal_going_on k item)

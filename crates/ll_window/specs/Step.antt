@@ -67,15 +67,3 @@ with_item k (item.Break rendition) = with_break k
 with_item k (item.End rendition) = with_end k
 with_item k (item.Range rendition id attributes) = k
 with_item k (item.Unrange rendition id) = k
-
--- why an item may not follow, where the rendition has not ended
-abbrev pub refusal_going_on : Compact → Item → Option PushFault
-refusal_going_on k (item.Part rendition micros independent finish) = part_refusal k.settings k.next_number (duration k.open_parts) k.end_time micros
-refusal_going_on k (item.Break rendition) = break_refusal k.open_parts
-refusal_going_on k (item.End rendition) = None
-refusal_going_on k (item.Range rendition id attributes) = None
-refusal_going_on k (item.Unrange rendition id) = None
-
--- why an item may not follow
-abbrev pub refusal_after : Compact → Item → Option PushFault
-refusal_after k item = refusal_by k.ended (refusal_going_on k item)

@@ -4,9 +4,9 @@ ghost use Rattle.ll_item.specs.declared.item.Item.{Item};
 ghost use Rattle.ll_item.specs.Settings.{last_micro};
 ghost use Rattle.ll_window.specs.Compact.{compact, unfinished};
 ghost use Rattle.ll_window.specs.Compact as kept;
-ghost use Rattle.ll_window.specs.Refusal.{refusal, part_refusal};
+ghost use Rattle.ll_window.specs.Refusal.{refusal, refusal_after, part_refusal};
 ghost use Rattle.ll_window.specs.Segments.{duration};
-ghost use Rattle.ll_window.specs.Step.{with_item, with_part, with_part_by, with_end, refusal_after};
+ghost use Rattle.ll_window.specs.Step.{with_item, with_part, with_part_by, with_end};
 ghost use Rattle.ll_window.specs.Step as step;
 ghost use Rattle.ll_window.specs.Window.{near_limit, segment_at, parts_at};
 
@@ -130,7 +130,7 @@ impl Window {
         if let Some(fault) = self.fault(&item) {
             return Err(fault);
         }
-        match self.add(item) {
+        match self.accept(item) {
             Ok(()) => Ok(()),
             Err(AllocError) => Err(PushFault::Memory),
         }
@@ -138,8 +138,9 @@ impl Window {
 
     /// What `push` would answer but for memory; nothing changes.
     pub fn test(&self, item: &Item) -> Result<(), PushFault>
-        ensures { (items : List Item) → self.now ≡ compact self.now.settings items
+        ensures first { (items : List Item) → self.now ≡ compact self.now.settings items
             → MatchResult result (λ _. refusal self.now.settings items item.now ≡ None) (λ f. refusal self.now.settings items item.now ≡ Some f) }
+        ensures by_window { MatchResult result (λ _. refusal_after self.now item.now ≡ None) (λ f. refusal_after self.now item.now ≡ Some f) }
     {
         match self.fault(item) {
             Some(fault) => Err(fault),
@@ -295,6 +296,16 @@ impl Window {
         } else {
             None
         }
+    }
+
+    /// Adds an item that `test` lets go. It fails only where no memory is found, and changes nothing then.
+    pub fn accept(&mut self, item: Item) -> Result<(), AllocError>
+        requires { refusal_after self.old item ≡ None }
+        ensures accepted { (items : List Item) → self.old ≡ compact self.old.settings items → OnOk result (self.new ≡ compact self.old.settings (items ++ item ∷ [])) }
+        ensures unchanged { OnErr result (self.new ≡ self.old) }
+    {
+        self.add(item)?;
+        Ok(())
     }
 
     /// Adds an item that may follow.

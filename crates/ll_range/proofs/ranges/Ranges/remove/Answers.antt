@@ -1,7 +1,9 @@
--- What was tested and what was taken away are the step of the list.
-use Rattle.ll_range.proofs.Steps.{accepted-unrange}
+-- What was tested is why the items let it follow; what was taken away is the step of the list.
+use Rattle.ll_range.proofs.Steps.{free-unrange}
 use Rattle.ll_range.proofs.ranges.Ranges.remove.Goals as goal
 
 pub returns-in-Ok-clause-accepted : goal.returns-in-Ok-clause-accepted
-returns-in-Ok-clause-accepted c = λ conf items rendition e t.
-    accepted-unrange conf items rendition c.args.id.now c.args.self.now c.take_away.new.self c.args.end e t c.in_ok-test_remove.ensures c.in-Ok.ensures.ok
+returns-in-Ok-clause-accepted c = λ conf items rendition e t. (
+  free-unrange conf items c.args.id.now c.args.self.now e c.in_ok-test_remove.ensures,
+  c.in-Ok.ensures.accepted conf items rendition e t,
+)

@@ -1,0 +1,7 @@
+-- What was added is the step of the list.
+use Rattle.ll_range.proofs.Steps.{accepted-range}
+use Rattle.ll_range.proofs.ranges.Ranges.list.Goals as goal
+
+pub returns-in-Ok-clause-accepted : goal.returns-in-Ok-clause-accepted
+returns-in-Ok-clause-accepted c = λ conf items rendition e t.
+    accepted-range conf items rendition c.args.id.now c.args.attributes.now c.args.self.now c.push.new.self c.args.end e t c.in-Ok.ensures.ok

@@ -1,0 +1,7 @@
+-- What was taken away is the step of the list.
+use Rattle.ll_range.proofs.Steps.{accepted-unrange}
+use Rattle.ll_range.proofs.ranges.Ranges.unlist.Goals as goal
+
+pub returns-in-Ok-clause-accepted : goal.returns-in-Ok-clause-accepted
+returns-in-Ok-clause-accepted c = λ conf items rendition e t.
+    accepted-unrange conf items rendition c.args.id.now c.args.self.now c.take_away.new.self c.args.end e t c.in-Ok.ensures.ok
