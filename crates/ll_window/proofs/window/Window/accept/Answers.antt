@@ -2,5 +2,5 @@
 use Rattle.ll_window.proofs.StepLemmas.{goes-on}
 use Rattle.ll_window.proofs.window.Window.accept.Goals as goal
 
-pub returns-in-Ok-clause-accepted : goal.returns-in-Ok-clause-accepted
-returns-in-Ok-clause-accepted c items reached = goes-on c.args.self.now c.add.new.self items c.args.item c.requires c.in-Ok.ensures.ok reached
+pub returns-clause-accepted : goal.returns-clause-accepted
+returns-clause-accepted c items reached = goes-on c.args.self.now c.add.new.self items c.args.item c.requires c.in_ok-add.ensures.ok reached

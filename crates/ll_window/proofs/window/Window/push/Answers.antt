@@ -10,3 +10,6 @@ returns-in-Some-clause-refused c items reached not_memory =
 pub returns-in-Ok-clause-accepted : goal.returns-in-Ok-clause-accepted
 returns-in-Ok-clause-accepted c items reached =
     (refusal_told c.args.self.now items c.args.item None c.in_default.ensures reached, c.in-Ok.ensures.accepted items reached)
+
+pub returns-in-Err-clause-memory : goal.returns-in-Err-clause-memory
+returns-in-Err-clause-memory c items reached memory = refusal_told c.args.self.now items c.args.item None c.in_default.ensures reached
