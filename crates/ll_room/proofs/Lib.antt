@@ -1,0 +1,10 @@
+pub mod AcceptLemmas
+pub mod AskLemmas
+pub mod FreedLemmas
+pub mod IdleLemmas
+pub mod KeptLemmas
+pub mod PublishLemmas
+pub mod RoomLemmas
+pub mod SettleLemmas
+pub mod ShelfLemmas
+pub mod StandLemmas
