@@ -15,7 +15,7 @@ pub struct Rendition {
 
 impl Rendition {
     /// What is equal to this, or an error where no memory is found.
-    pub(crate) fn copy(&self) -> Result<Rendition, AllocError>
+    pub fn copy(&self) -> Result<Rendition, AllocError>
         ensures { IfOk result (λ r. r ≡ self.now) }
     {
         Ok(Rendition {

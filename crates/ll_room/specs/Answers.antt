@@ -1,0 +1,54 @@
+-- What the calls of a room answer.
+use Rattle.std.specs.Prelude.{ℕ, ◌+◌, ◌==◌, ◌&&◌, List, [], ◌∷◌, Bool, true, false, Option, Some, None, if◌then◌else◌}
+use Rattle.std.specs.List.{list_any}
+use Rattle.ll_directive.specs.Targets.{WantValue}
+use Rattle.ll_book.specs.Waiting.{has_ticket, reply_at}
+use Rattle.ll_verdict.specs.Verdict.{reply_of}
+use Rattle.ll_verdict.specs.declared.reply.Reply.{Reply}
+use Rattle.ll_verdict.specs.declared.reply.Settled.{Settled}
+use Rattle.ll_room.specs.Home.{Home}
+use Rattle.ll_room.specs.Mark.{Mark}
+use Rattle.ll_room.specs.Ticket.{Ticket}
+use Rattle.ll_room.specs.declared.asked.Asked.{Asked}
+use Rattle.ll_room.specs.declared.asked.Asked.TheVariants.{Now, Held}
+use Rattle.ll_room.specs.declared.asked.Collected.{Collected}
+use Rattle.ll_room.specs.declared.asked.Collected.TheVariants.{Got, Still, Stranger}
+use Rattle.ll_room.specs.declared.asked.Closed.{Closed}
+use Rattle.ll_room.specs.declared.asked.Closed.TheVariants as given_up
+use Rattle.ll_room.specs.declared.stamped.Stamp.TheVariants as stamp
+
+-- a request is answered at once, or held under the next number
+abbrev pub asked : Home → WantValue → Option Reply → Asked
+asked h want (Some reply) = Now (record { room = h.channel; stamp = stamp.Ask (h.asks + 1) want; value = reply })
+asked h want None = Held (record { channel = h.channel; ticket = h.asks + 1 })
+
+-- the ticket of a request that is held
+abbrev pub new_tickets : Asked → List ℕ
+new_tickets (Now reply) = []
+new_tickets (Held parked) = parked.ticket ∷ []
+
+abbrev pub collected_by : Ticket → Option Settled → Bool → Collected
+collected_by p (Some settled) here = Got (record { room = p.channel; stamp = stamp.Collect p.ticket; value = reply_of settled })
+collected_by p None true = Still p
+collected_by p None false = Stranger p
+
+-- whether a request is open under this ticket
+abbrev pub is_open : Home → ℕ → Bool
+is_open h ticket = list_any (has_ticket ticket) h.slots
+
+-- what comes of a held request whose reply is asked for
+abbrev pub collected : Home → Ticket → Collected
+collected h p = if p.channel == h.channel then collected_by p (reply_at p.ticket h.slots) (is_open h p.ticket) else Stranger p
+
+abbrev pub is_got : Collected → Bool
+is_got (Got reply) = true
+is_got (Still p) = false
+is_got (Stranger p) = false
+
+-- what comes of a held request that is given up
+abbrev pub closed : Home → Ticket → Closed
+closed h p = if p.channel == h.channel && is_open h p.ticket then given_up.Done else given_up.Stranger p
+
+abbrev pub is_done : Closed → Bool
+is_done given_up.Done = true
+is_done (given_up.Stranger p) = false

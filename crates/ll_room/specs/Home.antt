@@ -1,0 +1,56 @@
+-- What is kept of a channel in place of its events.
+use Rattle.std.specs.Prelude.{◌≡◌, ℕ, List, Option, filter, find, is_some, length, map, not, ◌==◌}
+use Rattle.ll_item.specs.Settings.{Configuration}
+use Rattle.ll_page.specs.View.{renditions}
+use Rattle.ll_page.specs.declared.rendition.Rendition.{Rendition}
+use Rattle.ll_book.specs.Waiting.{ticket_in}
+use Rattle.ll_verdict.specs.Events.{Event}
+use Rattle.ll_verdict.specs.State.{State, state_of}
+use Rattle.ll_verdict.specs.declared.entry.Slot.{Slot}
+
+pub record Home : Type 0 where
+  -- the number of the room
+  pub channel : ℕ
+  pub settings : Configuration
+  -- what is kept of each rendition, in the order of the settings
+  pub renditions : List Rendition
+  -- how many items were accepted
+  pub count : ℕ
+  -- milliseconds
+  pub time : ℕ
+  -- how many requests there were
+  pub asks : ℕ
+  -- the open requests, in order of asking
+  pub slots : List Slot
+  -- how many events there were
+  pub events : ℕ
+
+-- the room of this number for this state
+abbrev pub home : ℕ → Configuration → State → Home
+home channel c s = record {
+  channel = channel;
+  settings = c;
+  renditions = renditions c s.items;
+  count = length s.items;
+  time = s.time;
+  asks = s.asks;
+  slots = s.slots;
+  events = s.events;
+}
+
+-- a room stands for these events of its channel
+abbrev pub Stands : Home → List Event → Type 0
+Stands h events = h ≡ home h.channel h.settings (state_of h.settings events)
+
+-- a room keeps its number and its settings
+pub record IsSame (old new : Home) : Type 0 where
+  pub channel : new.channel ≡ old.channel
+  pub settings : new.settings ≡ old.settings
+
+-- the tickets of the open requests, in order of asking
+abbrev pub tickets : Home → List ℕ
+tickets h = map ticket_in h.slots
+
+-- without this ticket
+abbrev pub less : ℕ → List ℕ → List ℕ
+less ticket list = filter (λ n. not (n == ticket)) list

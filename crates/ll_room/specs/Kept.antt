@@ -1,0 +1,45 @@
+-- For private contracts: what a room keeps true of itself.
+use Rattle.std.specs.Prelude.{◌≡◌, ◌≤◌, ℕ, ◌+◌, ◌*◌, ◌^◌, ◌++◌, [], ◌∷◌, Option, Some, None, length}
+use Rattle.ll_page.specs.Page.{Moment, Paged, seen_of}
+use Rattle.ll_book.specs.Waiting.{AreBelow}
+use Rattle.ll_verdict.specs.declared.wanted.Wanted.{Wanted}
+use Rattle.ll_room.specs.Home.{Home}
+
+-- the channel at this moment
+abbrev pub moment : Home → Moment
+moment h = record { settings = h.settings; renditions = h.renditions; count = h.count }
+
+-- a shared copy, where one was made, is the channel as it is now
+abbrev pub IsCurrent : Home → Option Moment → Type 0
+IsCurrent h None = Unit
+IsCurrent h (Some shown) = shown ≡ moment h
+
+pub record IsKept (h : Home) (shown : Option Moment) : Type 0 where
+  pub current : IsCurrent h shown
+  pub each : length h.renditions ≡ length h.settings.renditions
+  pub accepted : h.count ≤ h.events
+  pub asked : h.asks ≤ h.events
+  pub early : h.time ≤ 2 ^ 60
+  pub below : AreBelow (h.asks + 1) h.slots
+  pub few : length h.slots ≤ h.asks
+  -- each open request can still be collected or closed
+  pub counted : h.events + length h.slots ≤ 2 ^ 61
+
+-- the playlist or delta update as it is now
+abbrev pub page_now : Home → Wanted → Paged
+page_now h a = record { seen = seen_of (moment h) a.rendition; form = a.form }
+
+-- one more request, which is answered at once
+abbrev pub with_answer : Home → Home
+with_answer h = record h { asks = h.asks + 1; events = h.events + 1 }
+
+-- one more request, which waits
+abbrev pub with_held : Home → Wanted → Home
+with_held h a = record h {
+  asks = h.asks + 1;
+  slots = h.slots ++ (record {
+    entry = record { ticket = h.asks + 1; wanted = a; seen = h.count; deadline = h.time + 3000 * h.settings.target };
+    settled = None;
+  }) ∷ [];
+  events = h.events + 1;
+}

@@ -1,0 +1,169 @@
+//! Requests: a reply at once, or a request that is held (Blocking Playlist Reload, section 6.2.5.2).
+ghost use Rattle.std.specs.Prelude.{◌≡◌, ◌+◌, ◌<◌, ◌≤◌, ◌++◌, ◌∷◌, [], List, IfOk, IsErrOf, OnOk, OnErr, Some, length, ◌||◌};
+ghost use Rattle.ll_item.specs.Settings.{Configuration};
+ghost use Rattle.ll_item.specs.declared.item.Item.{Item};
+ghost use Rattle.ll_page.specs.View as view;
+ghost use Rattle.ll_window.specs.Compact.{compact};
+ghost use Rattle.ll_window.specs.Segments.{ended};
+ghost use Rattle.ll_verdict.specs.Events.{Event, Ask};
+ghost use Rattle.ll_verdict.specs.State.{waiting_in};
+ghost use Rattle.ll_verdict.specs.Verdict.{at_once, held, waiting_limit, wanted_of};
+ghost use Rattle.ll_verdict.specs.Verdict as verdict;
+ghost use Rattle.ll_room.specs.Answers.{asked, new_tickets};
+ghost use Rattle.ll_room.specs.Full.{event_end};
+ghost use Rattle.ll_room.specs.Home.{IsSame, Stands, less, tickets};
+ghost use Rattle.ll_room.specs.Kept.{page_now, with_answer, with_held};
+
+use crate::asked::Asked;
+use crate::fault::AskFault;
+use crate::parked::Parked;
+use crate::room::{EVENT_END, Room};
+use crate::stamped::{Stamp, Stamped};
+use ll_book::ParkFault;
+use ll_directive::{Awaited, Skip, Want};
+use ll_page::{Form, Page, SkipKind};
+use ll_verdict::{Entry, Reply, Wanted};
+use ll_window::Window;
+use std::alloc::AllocError;
+
+/// How long a request waits, for each second of the target duration: three target durations, in milliseconds.
+const WAIT: u64 = 3_000;
+
+impl Room {
+    /// Makes a request. Its reply comes at once, or it is held: the first of these that applies.
+    ///
+    /// 1. The channel has no rendition of that name: NotFound.
+    /// 2. It awaits nothing, or what it awaits is there, or its rendition has ended: the playlist or delta update as it is now.
+    /// 3. What it awaits is too far ahead: TooFar.
+    /// 4. As many requests of the channel wait as may wait: Busy.
+    /// 5. It is held.
+    pub fn ask(&mut self, want: Want) -> Result<Asked, AskFault>
+        ensures answer { (events : List Event) → Stands self.old events
+            → IfOk result (λ a. a ≡ asked self.old want (at_once self.old.settings (held self.old.settings events) events want)) }
+        ensures asked { (events : List Event) → Stands self.old events → OnOk result (Stands self.new (events ++ Ask want ∷ [])) }
+        ensures within { OnOk result (self.old.events < event_end) }
+        ensures full { IsErrOf result AskFault.RecordFull → event_end ≤ self.old.events }
+        ensures memory { IsErrOf result AskFault.Memory → self.old.events < event_end }
+        ensures opened { IfOk result (λ a. tickets self.new ≡ tickets self.old ++ new_tickets a) }
+        ensures newest { less (self.old.asks + 1) (tickets self.old ++ (self.old.asks + 1) ∷ []) ≡ tickets self.old }
+        ensures same { IsSame self.old self.new }
+        ensures unchanged { OnErr result (self.new ≡ self.old) }
+    {
+        if self.events >= EVENT_END {
+            return Err(AskFault::RecordFull);
+        }
+        let Some(wanted) = self.wanted(&want) else {
+            return Ok(self.answer(want, Reply::NotFound));
+        };
+        let window = &self.renditions[wanted.rendition].window;
+        if is_there(window, wanted.awaited) {
+            let page = self.page(&wanted)?;
+            return Ok(self.answer(want, Reply::Text(page)));
+        }
+        if is_far(window, wanted.awaited) {
+            return Ok(self.answer(want, Reply::TooFar));
+        }
+        match self.hold(wanted) {
+            Ok(parked) => Ok(Asked::Held(parked)),
+            Err(ParkFault::Busy) => Ok(self.answer(want, Reply::Busy)),
+            Err(ParkFault::Memory) => Err(AskFault::Memory),
+        }
+    }
+
+    /// What a request asks of a rendition, where the channel has one of that name.
+    fn wanted(&self, want: &Want) -> Option<Wanted>
+        ensures { result ≡ wanted_of self.now.settings want.now }
+    {
+        let rendition = self.settings.rendition(want.rendition())?;
+        Some(Wanted {
+            rendition,
+            awaited: want.awaited(),
+            form: form_of(want.skip()),
+        })
+    }
+
+    /// The playlist or delta update as it is now.
+    fn page(&mut self, wanted: &Wanted) -> Result<Page, AllocError>
+        requires { wanted.now.rendition < length self.old.renditions }
+        ensures page { IfOk result (λ p. p ≡ page_now self.old wanted.now) }
+        ensures unchanged { self.new ≡ self.old }
+    {
+        let shown = self.shown()?;
+        let page = Page::make(self.alloc, &shown, wanted.rendition, wanted.form)?;
+        Ok(page.unwrap())
+    }
+
+    /// Counts a request that is answered at once.
+    fn answer(&mut self, want: Want, reply: Reply) -> Asked
+        requires { self.old.events < event_end }
+        ensures answer { result ≡ asked self.old want (Some reply) }
+        ensures counted { self.new ≡ with_answer self.old }
+    {
+        self.asks += 1;
+        self.events += 1;
+        Asked::Now(Stamped::new(self.channel, Stamp::Ask(self.asks, want), reply))
+    }
+
+    /// Holds a request, and counts it.
+    fn hold(&mut self, wanted: Wanted) -> Result<Parked, ParkFault>
+        requires { self.old.events < event_end }
+        ensures parked { IfOk result (λ p. p ≡ record { channel = self.old.channel; ticket = self.old.asks + 1 }) }
+        ensures held { OnOk result ((waiting_in self.old.slots < waiting_limit) × (self.new ≡ with_held self.old wanted)) }
+        ensures busy { IsErrOf result ParkFault.Busy → waiting_limit ≤ waiting_in self.old.slots }
+        ensures unchanged { OnErr result (self.new ≡ self.old) }
+    {
+        let ticket = self.asks + 1;
+        self.book.park(Entry {
+            ticket,
+            wanted,
+            seen: self.count,
+            deadline: self.time + WAIT * self.settings.target(),
+        })?;
+        self.asks = ticket;
+        self.events += 1;
+        Ok(Parked::new(self.channel, ticket))
+    }
+}
+
+/// The playlist that is asked for.
+fn form_of(skip: Skip) -> Form
+    ensures { result ≡ verdict.form_of skip }
+{
+    match skip {
+        Skip::No => Form::Full,
+        Skip::Yes => Form::Delta(SkipKind::Yes),
+        Skip::V2 => Form::Delta(SkipKind::V2),
+    }
+}
+
+/// Whether what is awaited of a rendition is there, or it has ended.
+fn is_there(window: &Window, awaited: Awaited) -> bool
+    ensures { (items : List Item) → window.now ≡ compact window.now.settings items
+        → result ≡ (verdict.holds window.now.settings items awaited || ended items) }
+{
+    holds(window, awaited) || window.ended()
+}
+
+/// Whether what is awaited of a rendition is there.
+fn holds(window: &Window, awaited: Awaited) -> bool
+    ensures { (items : List Item) → window.now ≡ compact window.now.settings items
+        → result ≡ verdict.holds window.now.settings items awaited }
+{
+    match awaited {
+        Awaited::Nothing => true,
+        Awaited::Segment(msn) => window.holds_segment(msn),
+        Awaited::Part(msn, part) => window.holds_part(msn, part),
+    }
+}
+
+/// Whether what is awaited of a rendition is too far ahead to be waited for.
+fn is_far(window: &Window, awaited: Awaited) -> bool
+    ensures { (items : List Item) → window.now ≡ compact window.now.settings items
+        → result ≡ verdict.far window.now.settings items awaited }
+{
+    match awaited {
+        Awaited::Nothing => false,
+        Awaited::Segment(msn) => window.far(msn, None),
+        Awaited::Part(msn, part) => window.far(msn, Some(part)),
+    }
+}

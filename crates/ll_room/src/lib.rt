@@ -1,0 +1,20 @@
+//! The room of one channel: it decides one event at a time. Whatever list of events led to a room, each further event gets what the
+//! definitions over the list of all events say. Sections are those of draft-pantos-hls-rfc8216bis.
+#![tactic(auto)]
+
+mod ask;
+mod asked;
+mod fault;
+mod parked;
+mod publish;
+mod release;
+mod rendition;
+mod room;
+mod settle;
+mod stamped;
+
+pub use asked::{Asked, Closed, Collected};
+pub use fault::{AskFault, ClockFault};
+pub use parked::Parked;
+pub use room::Room;
+pub use stamped::{Stamp, Stamped};

@@ -1,0 +1,159 @@
+//! A publisher's items: a test that tells the first rule that refuses one, and a step that memory alone can refuse.
+ghost use Rattle.std.specs.Prelude.{◌≡◌, ◌≢◌, ◌+◌, ◌<◌, ◌++◌, ◌∷◌, [], List, IfOk, IfErr, IsErrOf, OnOk, OnErr, MatchResult, None, Some, length, slice_get, false};
+ghost use Rattle.ll_item.specs.Items.{rendition_of};
+ghost use Rattle.ll_item.specs.declared.item.Item.{Item};
+ghost use Rattle.ll_verdict.specs.Events.{Event, Publish};
+ghost use Rattle.ll_room.specs.Freed.{GoOn, with_item};
+ghost use Rattle.ll_room.specs.Freed as spec;
+ghost use Rattle.ll_room.specs.Full.{refusal_after, refusal_at, refusal_by};
+ghost use Rattle.ll_room.specs.Home.{IsSame, Stands, tickets};
+ghost use Rattle.ll_room.specs.declared.stamped.Stamp.TheVariants as stamp;
+
+use crate::release::{first_release, holders, release, second_release, takes_any};
+use crate::rendition::{accept, test};
+use crate::room::{EVENT_END, Room};
+use crate::stamped::{Stamp, Stamped};
+use ll_book::{Pages, Release};
+use ll_item::Item;
+use ll_page::{Rendition, Shown};
+use ll_verdict::PublishFault;
+use std::alloc::{AllocError, Global};
+
+impl Room {
+    /// Accepts an item and answers how many were accepted with it, or answers the first rule that refuses it. The requests for which
+    /// it brings what they await are settled with it: all texts are written and all memory is found before anything changes, and each
+    /// form of the playlist is written once.
+    pub fn publish(&mut self, item: Item) -> Result<Stamped<u64>, PublishFault>
+        ensures accepted { (events : List Event) → Stands self.old events → OnOk result
+            ((refusal_after self.old.settings events item ≡ None) × Stands self.new (events ++ Publish item ∷ [])) }
+        ensures count { IfOk result (λ n. n ≡ record { room = self.old.channel; stamp = stamp.Publish item; value = self.old.count + 1 }) }
+        ensures refused { (events : List Event) → Stands self.old events
+            → IfErr result (λ f. f ≢ PublishFault.Memory → refusal_after self.old.settings events item ≡ Some f) }
+        ensures memory { (events : List Event) → Stands self.old events → IsErrOf result PublishFault.Memory → refusal_after self.old.settings events item ≡ None }
+        ensures still_open { tickets self.new ≡ tickets self.old }
+        ensures same { IsSame self.old self.new }
+        ensures unchanged { OnErr result (self.new ≡ self.old) }
+    {
+        self.test(&item)?;
+        match self.accept(item) {
+            Ok(accepted) => Ok(accepted),
+            Err(AllocError) => Err(PublishFault::Memory),
+        }
+    }
+
+    /// The first rule that refuses an item, if one does.
+    fn test(&self, item: &Item) -> Result<(), PublishFault>
+        ensures { MatchResult result (λ u. refusal_by self.now item.now ≡ None) (λ f. refusal_by self.now item.now ≡ Some f) }
+    {
+        match self.renditions.get(item.rendition()) {
+            Some(kept) => test(kept, item)?,
+            None => return Err(PublishFault::NoRendition),
+        }
+        if self.events >= EVENT_END {
+            return Err(PublishFault::RecordFull);
+        }
+        Ok(())
+    }
+
+    /// Accepts an item that nothing refuses. It fails only where no memory is found.
+    fn accept(&mut self, item: Item) -> Result<Stamped<u64>, AllocError>
+        requires { refusal_by self.old item ≡ None }
+        ensures accepted { (events : List Event) → Stands self.old events → OnOk result (Stands self.new (events ++ Publish item ∷ [])) }
+        ensures count { IfOk result (λ n. n ≡ record { room = self.old.channel; stamp = stamp.Publish item; value = self.old.count + 1 }) }
+        ensures still_open { tickets self.new ≡ tickets self.old }
+        ensures same { IsSame self.old self.new }
+        ensures unchanged { OnErr result (self.new ≡ self.old) }
+    {
+        let stamp = Stamp::Publish(item.copy()?);
+        let (first, second) = self.releases(&item);
+        if takes_any(&self.book, first) || takes_any(&self.book, second) {
+            self.accept_and_release(item, first, second)?;
+        } else {
+            self.accept_silently(item)?;
+        }
+        Ok(Stamped::new(self.channel, stamp, self.count))
+    }
+
+    /// The releases that an item brings.
+    fn releases(&self, item: &Item) -> (Option<Release>, Option<Release>)
+        ensures { result ≡ spec.releases self.now item.now }
+    {
+        match self.renditions.get(item.rendition()) {
+            Some(kept) => (
+                first_release(&kept.window, item),
+                second_release(&kept.window, item),
+            ),
+            None => (None, None),
+        }
+    }
+
+    /// Accepts an item that releases no request: nothing is copied.
+    fn accept_silently(&mut self, item: Item) -> Result<(), AllocError>
+        requires allowed { refusal_by self.old item ≡ None }
+        requires first { spec.takes_any (spec.releases self.old item).0 self.old.slots ≡ false }
+        requires second { spec.takes_any (spec.releases self.old item).1 self.old.slots ≡ false }
+        ensures goes_on { OnOk result (GoOn self.old.renditions self.new.renditions item) }
+        ensures accepted { OnOk result (self.new ≡ with_item self.old self.new.renditions item) }
+        ensures unchanged { OnErr result (self.new ≡ self.old) }
+    {
+        accept_at(&mut self.renditions, item)?;
+        self.shown = None;
+        self.count += 1;
+        self.events += 1;
+        Ok(())
+    }
+
+    /// Accepts an item and makes these releases. What will be kept is made first, as a copy, and so are the texts and their holders; what
+    /// comes after that takes no memory.
+    fn accept_and_release(
+        &mut self,
+        item: Item,
+        first: Option<Release>,
+        second: Option<Release>,
+    ) -> Result<(), AllocError>
+        requires allowed { refusal_by self.old item ≡ None }
+        requires releases { (first, second) ≡ spec.releases self.old item }
+        ensures goes_on { OnOk result (GoOn self.old.renditions self.new.renditions item) }
+        ensures accepted { OnOk result (self.new ≡ with_item self.old self.new.renditions item) }
+        ensures unchanged { OnErr result (self.new ≡ self.old) }
+    {
+        let rendition = item.rendition();
+        let mut renditions = copied(self.alloc, &self.renditions)?;
+        accept_at(&mut renditions, item)?;
+        let shown = Shown::of(self.alloc, &self.settings, &renditions, self.count + 1)?;
+        let mut pages = Pages::new(shown.again()?, rendition).unwrap();
+        let first_holders = holders(&self.book, self.alloc, first, &mut pages)?;
+        let second_holders = holders(&self.book, self.alloc, second, &mut pages)?;
+        self.renditions = renditions;
+        self.shown = Some(shown);
+        self.count += 1;
+        self.events += 1;
+        release(&mut self.book, first, first_holders);
+        release(&mut self.book, second, second_holders);
+        Ok(())
+    }
+}
+
+/// Adds an item to what is kept of its rendition.
+fn accept_at(renditions: &mut Vec<Rendition>, item: Item) -> Result<(), AllocError>
+    requires { refusal_at (slice_get renditions.old.items (rendition_of item)) item ≡ None }
+    ensures goes_on { OnOk result (GoOn renditions.old.items renditions.new.items item) }
+    ensures many { length renditions.new.items ≡ length renditions.old.items }
+    ensures unchanged { OnErr result (renditions.new.items ≡ renditions.old.items) }
+{
+    match renditions.get_mut(item.rendition()) {
+        Some(kept) => accept(kept, item),
+        None => Ok(()),
+    }
+}
+
+/// What is kept of each rendition, once more.
+fn copied(alloc: Global, renditions: &[Rendition]) -> Result<Vec<Rendition>, AllocError>
+    ensures { IfOk result (λ copies. copies.items ≡ renditions.now) }
+{
+    let mut copies = Vec::with_capacity(alloc, renditions.len())?;
+    for rendition in renditions {
+        copies.push(rendition.copy()?)?;
+    }
+    Ok(copies)
+}

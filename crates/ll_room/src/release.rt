@@ -1,0 +1,80 @@
+//! Which requests an item releases, and their release.
+ghost use Rattle.std.specs.Prelude.{◌≡◌, IfOk, OnOk, map, option_map};
+ghost use Rattle.std.specs.List.{list_any};
+ghost use Rattle.ll_book.specs.Release.{AreThose, holders_of, released, takes};
+ghost use Rattle.ll_room.specs.Freed as spec;
+
+use ll_book::{Book, Holders, Pages, Release};
+use ll_item::Item;
+use ll_window::Window;
+use std::alloc::{AllocError, Global};
+
+/// A part releases those that await it or an earlier one, the end all of its rendition.
+pub(crate) fn first_release(window: &Window, item: &Item) -> Option<Release>
+    ensures { result ≡ spec.first_release window.now item.now }
+{
+    match *item {
+        Item::Part { rendition, .. } => Some(Release::Part(
+            rendition,
+            window.next_number(),
+            window.open_parts().len() as u64,
+        )),
+        Item::End { rendition } => Some(Release::All(rendition)),
+        _ => None,
+    }
+}
+
+/// A finishing part also releases those that await its segment or an earlier one.
+pub(crate) fn second_release(window: &Window, item: &Item) -> Option<Release>
+    ensures { result ≡ spec.second_release window.now item.now }
+{
+    match *item {
+        Item::Part {
+            rendition,
+            finish: true,
+            ..
+        } => Some(Release::Segment(rendition, window.next_number())),
+        _ => None,
+    }
+}
+
+/// The holders of a release, where there is one. It fails only where no memory is found.
+pub(crate) fn holders(
+    book: &Book,
+    alloc: Global,
+    which: Option<Release>,
+    pages: &mut Pages,
+) -> Result<Option<Holders>, AllocError>
+    ensures holders { IfOk result (λ found. spec.HasHolders pages.old which book.now found) }
+    ensures pages { pages.new ≡ pages.old }
+{
+    match which {
+        Some(which) => Ok(Some(book.holders(alloc, which, pages)?)),
+        None => Ok(None),
+    }
+}
+
+/// Releases the requests that a release takes, where there is one; the holders were made for just these.
+pub(crate) fn release(book: &mut Book, which: Option<Release>, holders: Option<Holders>)
+    requires those { spec.HasThose which holders book.old }
+    ensures { book.new ≡ spec.released_with which holders book.old }
+{
+    let (Some(which), Some(holders)) = (which, holders) else {
+        return;
+    };
+    match which {
+        Release::Part(rendition, msn, part) => book.release_part(rendition, msn, part, holders),
+        Release::Segment(rendition, msn) => book.release_segment(rendition, msn, holders),
+        Release::All(rendition) => book.release_all(rendition, holders),
+    };
+}
+
+/// Whether a release, where there is one, takes any request.
+pub(crate) fn takes_any(book: &Book, which: Option<Release>) -> bool
+    ensures { result ≡ spec.takes_any which book.now }
+{
+    match which {
+        Some(which) => book.takes_any(which),
+        None => false,
+    }
+}

@@ -1,0 +1,148 @@
+//! What a room keeps of its channel, and what it tells of it.
+ghost use Rattle.std.specs.Prelude.{◌≡◌, ◌++◌, [], IfOk};
+ghost use Rattle.ll_page.specs.View as view;
+ghost use Rattle.ll_book.specs.Waiting as waiting;
+ghost use Rattle.ll_verdict.specs.State.{state_of};
+ghost use Rattle.ll_room.specs.Home.{home};
+ghost use Rattle.ll_room.specs.Kept.{moment};
+
+use ll_book::Book;
+use ll_item::Settings;
+use ll_page::{Rendition, Shown};
+use ll_range::Ranges;
+use ll_window::Window;
+use std::alloc::{AllocError, Global};
+use std::marker::Model;
+
+/// How many events a channel takes.
+pub(crate) const EVENT_END: u64 = 1 << 60;
+
+/// What is kept of one channel in place of its events: of each rendition what playlists still show, the channel's time, and the
+/// requests that wait or whose replies wait.
+#[derive(Drop)]
+pub struct Room {
+    pub(crate) alloc: Global,
+    pub(crate) channel: u64,
+    pub(crate) settings: Settings,
+    pub(crate) renditions: Vec<Rendition>,
+    /// A copy of the settings and renditions as they are now, once one was made.
+    pub(crate) shown: Option<Shown>,
+    pub(crate) count: u64,
+    pub(crate) time: u64,
+    pub(crate) asks: u64,
+    pub(crate) book: Book,
+    pub(crate) events: u64,
+}
+
+impl Model for Room {
+    ghost use Rattle.ll_room.specs.Home.{Home};
+    ghost use Rattle.ll_room.specs.Kept.{IsKept};
+
+    ghost Value = { Home };
+
+    ghost view = { λ r. record {
+      channel = r.channel;
+      settings = r.settings;
+      renditions = r.renditions.items;
+      count = r.count;
+      time = r.time;
+      asks = r.asks;
+      slots = r.book;
+      events = r.events;
+    } };
+
+    ghost invariant = { λ r. IsKept (record {
+      channel = r.channel;
+      settings = r.settings;
+      renditions = r.renditions.items;
+      count = r.count;
+      time = r.time;
+      asks = r.asks;
+      slots = r.book;
+      events = r.events;
+    }) r.shown };
+}
+
+impl Room {
+    /// The room of this number for a channel of these settings, to which nothing has happened. It fails only where no memory is found.
+    pub fn new(alloc: Global, channel: u64, settings: Settings) -> Result<Room, AllocError>
+        ensures { IfOk result (λ r. r ≡ home channel settings (state_of settings [])) }
+    {
+        let renditions = no_items(alloc, &settings)?;
+        Ok(Room {
+            alloc,
+            channel,
+            settings,
+            renditions,
+            shown: None,
+            count: 0,
+            time: 0,
+            asks: 0,
+            book: Book::new(alloc),
+            events: 0,
+        })
+    }
+
+    /// The number of the room.
+    pub fn channel(&self) -> u64
+        ensures { result ≡ self.now.channel }
+    {
+        self.channel
+    }
+
+    /// The settings of its channel.
+    pub fn settings(&self) -> &Settings
+        ensures { result.now ≡ self.now.settings }
+    {
+        &self.settings
+    }
+
+    /// How many items the channel has accepted.
+    pub fn count(&self) -> u64
+        ensures { result ≡ self.now.count }
+    {
+        self.count
+    }
+
+    /// How many requests there were.
+    pub fn asks(&self) -> u64
+        ensures { result ≡ self.now.asks }
+    {
+        self.asks
+    }
+
+    /// The least ticket whose reply is there.
+    pub fn next_ready(&self) -> Option<u64>
+        ensures { result ≡ waiting.first_ready self.now.slots }
+    {
+        self.book.first_ready()
+    }
+
+    /// The channel as it is now, as one copy that any number of pages share. It fails only where no memory is found.
+    pub(crate) fn shown(&mut self) -> Result<Shown, AllocError>
+        ensures shown { IfOk result (λ s. s ≡ moment self.old) }
+        ensures unchanged { self.new ≡ self.old }
+    {
+        if let Some(shown) = &self.shown {
+            return shown.again();
+        }
+        let shown = Shown::of(self.alloc, &self.settings, &self.renditions, self.count)?;
+        self.shown = Some(shown.again()?);
+        Ok(shown)
+    }
+}
+
+/// What is kept of the renditions of a channel with no items, in the order of the settings.
+fn no_items(alloc: Global, settings: &Settings) -> Result<Vec<Rendition>, AllocError>
+    ensures { IfOk result (λ kept. kept.items ≡ view.renditions settings.now []) }
+{
+    let names = settings.renditions();
+    let mut renditions = Vec::with_capacity(alloc, names.len())?;
+    for name in names {
+        renditions.push(Rendition {
+            window: Window::new(alloc, settings)?,
+            ranges: Ranges::new(alloc, settings),
+        })?;
+    }
+    Ok(renditions)
+}

@@ -1,0 +1,85 @@
+//! What becomes of held requests: their replies are handed out, they are given up, or their time is over.
+ghost use Rattle.std.specs.Prelude.{◌≡◌, ◌≢◌, ◌≤◌, ◌<◌, ◌^◌, ◌++◌, ◌∷◌, [], List, true, false, IsErrOf, OnOk, OnErr, Some, None};
+ghost use Rattle.ll_verdict.specs.Events.{Event, Collect, Close, Clock};
+ghost use Rattle.ll_room.specs.Answers as answers;
+ghost use Rattle.ll_room.specs.Full.{event_end};
+ghost use Rattle.ll_room.specs.Home.{IsSame, Stands, less, tickets};
+
+use crate::asked::{Closed, Collected};
+use crate::fault::ClockFault;
+use crate::parked::Parked;
+use crate::room::{EVENT_END, Room};
+use crate::stamped::{Stamp, Stamped};
+use ll_verdict::Reply;
+
+/// The largest reading of a clock, in milliseconds.
+const LAST_TIME: u64 = 1 << 60;
+
+impl Room {
+    /// Hands out the reply to a held request, once it is there; the request is then no longer open. It takes no memory.
+    pub fn collect(&mut self, parked: Parked) -> Collected
+        ensures answer { result ≡ answers.collected self.old parked }
+        ensures handed { answers.is_got result ≡ true → (events : List Event) → Stands self.old events → Stands self.new (events ++ Collect parked.ticket ∷ []) }
+        ensures fewer { answers.is_got result ≡ true → tickets self.new ≡ less parked.ticket (tickets self.old) }
+        ensures same { IsSame self.old self.new }
+        ensures nothing { answers.is_got result ≡ false → self.new ≡ self.old }
+    {
+        let ticket = parked.ticket();
+        if parked.channel() != self.channel {
+            return Collected::Stranger(parked);
+        }
+        if let Some(settled) = self.book.take(ticket) {
+            parked.spend();
+            self.events += 1;
+            return Collected::Got(Stamped::new(
+                self.channel,
+                Stamp::Collect(ticket),
+                Reply::from(settled),
+            ));
+        }
+        match self.book.find(ticket) {
+            Some(_) => Collected::Still(parked),
+            None => Collected::Stranger(parked),
+        }
+    }
+
+    /// Gives a held request up, whether its reply is there or not: it gets none. It takes no memory.
+    pub fn close(&mut self, parked: Parked) -> Closed
+        ensures answer { result ≡ answers.closed self.old parked }
+        ensures given_up { answers.is_done result ≡ true → (events : List Event) → Stands self.old events → Stands self.new (events ++ Close parked.ticket ∷ []) }
+        ensures fewer { answers.is_done result ≡ true → tickets self.new ≡ less parked.ticket (tickets self.old) }
+        ensures same { IsSame self.old self.new }
+        ensures nothing { answers.is_done result ≡ false → self.new ≡ self.old }
+    {
+        if parked.channel() != self.channel || self.book.find(parked.ticket()).is_none() {
+            return Closed::Stranger(parked);
+        }
+        self.book.drop_ticket(parked.ticket());
+        self.events += 1;
+        parked.spend();
+        Closed::Done
+    }
+
+    /// A reading of the clock, in milliseconds. The channel's time is the largest so far: an earlier reading leaves it as it is.
+    /// Requests that have waited for three target durations then time out. It takes no memory.
+    pub fn clock(&mut self, ms: u64) -> Result<(), ClockFault>
+        ensures passed { (events : List Event) → Stands self.old events → OnOk result (Stands self.new (events ++ Clock ms ∷ [])) }
+        ensures within { OnOk result ((ms ≤ 2 ^ 60) × (self.old.events < event_end)) }
+        ensures range { IsErrOf result ClockFault.ClockRange → 2 ^ 60 < ms }
+        ensures full { IsErrOf result ClockFault.RecordFull → (ms ≤ 2 ^ 60) × (event_end ≤ self.old.events) }
+        ensures still_open { tickets self.new ≡ tickets self.old }
+        ensures same { IsSame self.old self.new }
+        ensures unchanged { OnErr result (self.new ≡ self.old) }
+    {
+        if ms > LAST_TIME {
+            return Err(ClockFault::ClockRange);
+        }
+        if self.events >= EVENT_END {
+            return Err(ClockFault::RecordFull);
+        }
+        self.time = self.time.max(ms);
+        self.book.expire(self.time);
+        self.events += 1;
+        Ok(())
+    }
+}
