@@ -1,1 +1,2 @@
--- lemmas
+pub mod PublishLemmas
+pub mod RoomLemmas

@@ -10,12 +10,12 @@ abbrev pub moment : Home → Moment
 moment h = record { settings = h.settings; renditions = h.renditions; count = h.count }
 
 -- a shared copy, where one was made, is the channel as it is now
-abbrev pub IsCurrent : Home → Option Moment → Type 0
-IsCurrent h None = Unit
-IsCurrent h (Some shown) = shown ≡ moment h
+abbrev pub IsCurrent : Moment → Option Moment → Type 0
+IsCurrent now None = Unit
+IsCurrent now (Some shown) = shown ≡ now
 
 pub record IsKept (h : Home) (shown : Option Moment) : Type 0 where
-  pub current : IsCurrent h shown
+  pub current : IsCurrent (moment h) shown
   pub each : length h.renditions ≡ length h.settings.renditions
   pub accepted : h.count ≤ h.events
   pub asked : h.asks ≤ h.events
