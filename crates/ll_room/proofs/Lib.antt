@@ -1,1 +1,3 @@
 -- lemmas
+pub mod IdleLemmas
+pub mod StandLemmas
