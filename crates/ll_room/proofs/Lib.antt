@@ -1,2 +1,5 @@
+pub mod AskLemmas
+pub mod IdleLemmas
 pub mod PublishLemmas
 pub mod RoomLemmas
+pub mod StandLemmas

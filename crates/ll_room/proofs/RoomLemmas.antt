@@ -26,6 +26,7 @@ below-new a s (t ∷ ss) h r = (r.0, below-new a s ss h r.1)
 pub kept-answer : (h : Home) (shown : Option Moment) → h.events < event_end → IsKept h shown → IsKept (with_answer h) shown
 kept-answer h shown few k = record {
   current = k.current;
+  target = k.target;
   each = k.each;
   accepted = omega (arith, k.accepted);
   asked = omega (arith, k.asked);
@@ -42,6 +43,7 @@ pub kept-held : (h : Home) (shown : Option Moment) (e : Entry) (ss : List Slot) 
 kept-held h shown e ss few t is k =
     let many : length ss ≡ length h.slots + 1 = ap length is ∙ length-append h.slots ((record { entry = e; settled = None }) ∷ []) in record {
       current = k.current;
+      target = k.target;
       each = k.each;
       accepted = omega (arith, k.accepted);
       asked = omega (arith, k.asked);
@@ -53,10 +55,11 @@ kept-held h shown e ss few t is k =
       counted = omega (arith, few, k.few, k.asked, many);
     }
 
-pub kept-new : (channel : ℕ) (c : Configuration) (kept : List Rendition) (ss : List Slot) → kept ≡ renditions c [] → ss ≡ []
+pub kept-new : (channel : ℕ) (c : Configuration) (kept : List Rendition) (ss : List Slot) → 1 ≤ c.target → kept ≡ renditions c [] → ss ≡ []
     → IsKept (record { channel = channel; settings = c; renditions = kept; count = 0; time = 0; asks = 0; slots = ss; events = 0 }) None
-kept-new channel c kept ss is none = record {
+kept-new channel c kept ss low is none = record {
   current = tt;
+  target = low;
   each = ap length is ∙ length-renditions c [];
   accepted = omega arith;
   asked = omega arith;
