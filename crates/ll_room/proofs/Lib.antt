@@ -1,3 +1,5 @@
 -- lemmas
 pub mod IdleLemmas
 pub mod StandLemmas
+pub mod KeptLemmas
+pub mod SettleLemmas

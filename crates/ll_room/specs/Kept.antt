@@ -16,6 +16,8 @@ IsCurrent h (Some shown) = shown ≡ moment h
 
 pub record IsKept (h : Home) (shown : Option Moment) : Type 0 where
   pub current : IsCurrent h shown
+  -- a request that waits is not due when it is made
+  pub target : 1 ≤ h.settings.target
   pub each : length h.renditions ≡ length h.settings.renditions
   pub accepted : h.count ≤ h.events
   pub asked : h.asks ≤ h.events
