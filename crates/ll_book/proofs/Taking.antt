@@ -102,6 +102,40 @@ reply-taken t i d ss h =
     let p : (nat_lt (place t ss) (length ss) ≡ true) × (i ≡ place t ss) = placed (nat_lt (place t ss) (length ss)) (place t ss) i h in
     ap (λ n. (slice_index_or ss n d).settled) p.1 ∙ reply t d ss p.0
 
+-- no request above a ticket has it
+unlike : (t : ℕ) (s : Slot) → t < s.entry.ticket → (s.entry.ticket == t) ≡ false
+unlike t s h = grind (arith, nat_tests)
+
+all_above : (t : ℕ) (ss : List Slot) → IsRising t ss → without t ss ≡ ss
+all_above t [] r = refl
+all_above t (s ∷ ss) r = pushed s (s.entry.ticket == t) (without t ss) ss (unlike t s r.0) (all_above t ss (lower t s.entry.ticket ss r.0 r.1))
+
+passed_by : (t : ℕ) (s : Slot) (ss : List Slot) (b : Bool) → b ≡ false → reply_at t ss ≡ None
+    → option_and_then settled_in (cond b (Some s) (find (is_ready_at t) ss)) ≡ None
+passed_by t s ss true h k = absurd (true≢false h)
+passed_by t s ss false h k = k
+
+none_above : (t : ℕ) (ss : List Slot) → IsRising t ss → reply_at t ss ≡ None
+none_above t [] r = refl
+none_above t (s ∷ ss) r = passed_by t s ss (is_ready_at t s) (other t s r.0) (none_above t ss (lower t s.entry.ticket ss r.0 r.1))
+
+alone_by : (t : ℕ) (s : Slot) (ss : List Slot) (a b : Bool) → (s.entry.ticket == t) ≡ a → IsRising s.entry.ticket ss
+    → (is_some (reply_at t ss) ≡ true → without_ready t ss ≡ without t ss)
+    → is_some (option_and_then settled_in (cond (a && b) (Some s) (find (is_ready_at t) ss))) ≡ true
+    → cond (not (a && b)) (s ∷ without_ready t ss) (without_ready t ss) ≡ cond (not a) (s ∷ without t ss) (without t ss)
+alone_by t s ss true true e r ih h =
+    let above : IsRising t ss = subst (λ n. IsRising n ss) (grind (arith, nat_tests, e)) r in
+    others t ss above ∙ sym (all_above t ss above)
+alone_by t s ss true false e r ih h =
+    let above : IsRising t ss = subst (λ n. IsRising n ss) (grind (arith, nat_tests, e)) r in
+    absurd (true≢false (sym h ∙ ap is_some (none_above t ss above)))
+alone_by t s ss false b e r ih h = ap (λ zs. s ∷ zs) (ih h)
+
+-- the request whose reply is there is the only one of its ticket
+pub alone : (t low : ℕ) (ss : List Slot) → IsRising low ss → is_some (reply_at t ss) ≡ true → without_ready t ss ≡ without t ss
+alone t low [] r h = refl
+alone t low (s ∷ ss) r h = alone_by t s ss (s.entry.ticket == t) (is_some s.settled) refl r.1 (alone t s.entry.ticket ss r.1) h
+
 -- as many leave with a ticket as have it
 pub dropped : (t : ℕ) (ss : List Slot) → length (filter (has_ticket t) ss) + length (without t ss) ≡ length ss
 dropped t ss = length-filter_both (has_ticket t) (λ s. not (has_ticket t s)) (λ s. refl) ss

@@ -1,4 +1,4 @@
-ghost use Rattle.std.specs.Prelude.{◌≡◌, ◌≤◌, ◌<◌, ◌++◌, ◌∷◌, [], None, Some, IfOk, IsErrOf, OnErr, OnOk, filter, length, map, position};
+ghost use Rattle.std.specs.Prelude.{◌≡◌, ◌≤◌, ◌<◌, ◌++◌, ◌∷◌, [], None, Some, true, IfOk, IsErrOf, OnErr, OnOk, filter, is_some, length, map, position};
 ghost use Rattle.std.specs.List.{list_any};
 ghost use Rattle.ll_verdict.specs.State.{is_waiting, waiting_in};
 ghost use Rattle.ll_verdict.specs.Verdict.{waiting_limit};
@@ -114,6 +114,7 @@ impl Book {
     pub fn take(&mut self, ticket: u64) -> Option<Settled>
         ensures reply { result ≡ reply_at ticket self.old }
         ensures left { self.new ≡ without_ready ticket self.old }
+        ensures alone { is_some result ≡ true → self.new ≡ without ticket self.old }
     {
         let place = place_of_ready(&self.slots, ticket)?;
         let Slot { entry: _, settled } = self.slots.remove(place);

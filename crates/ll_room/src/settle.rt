@@ -51,10 +51,14 @@ impl Room {
         ensures same { IsSame self.old self.new }
         ensures nothing { answers.is_done result ≡ false → self.new ≡ self.old }
     {
-        if parked.channel() != self.channel || self.book.find(parked.ticket()).is_none() {
+        let ticket = parked.ticket();
+        if parked.channel() != self.channel {
             return Closed::Stranger(parked);
         }
-        self.book.drop_ticket(parked.ticket());
+        if self.book.find(ticket).is_none() {
+            return Closed::Stranger(parked);
+        }
+        self.book.drop_ticket(ticket);
         self.events += 1;
         parked.spend();
         Closed::Done

@@ -1,8 +1,8 @@
-use Rattle.std.proofs.Common.{◌∙◌, ap, sym, subst}
+use Rattle.std.proofs.Common.{◌∙◌, is_some, ap, sym, subst}
 use Rattle.std.specs.List.{position}
-use Rattle.ll_book.specs.Waiting.{IsRising, is_ready_at, reply_at, without_ready}
+use Rattle.ll_book.specs.Waiting.{IsRising, is_ready_at, reply_at, without, without_ready}
 use Rattle.ll_book.proofs.Rising.{rising-filter}
-use Rattle.ll_book.proofs.Taking.{not_ready, taken, reply-taken}
+use Rattle.ll_book.proofs.Taking.{alone, not_ready, taken, reply-taken}
 use Rattle.ll_book.proofs.book.Book.take.Goals as goal
 
 pub returns-in_err-place-clause-reply : goal.returns-in_err-place-clause-reply
@@ -33,3 +33,13 @@ returns-clause-left c =
     c.remove-settled.ensures.items
     ∙ taken c.args.ticket 0 c.in_ok-place.place c.self.inside.slots.items c.self.invariant (c.in_ok-place.ensures ∙ ap (position (is_ready_at c.args.ticket)) c.deref.ensures.value)
     ∙ ap (without_ready c.args.ticket) c.self.view_is
+
+pub returns-clause-alone : goal.returns-clause-alone
+returns-clause-alone c = λ there.
+    c.remove-settled.ensures.items
+    ∙ taken c.args.ticket 0 c.in_ok-place.place c.self.inside.slots.items c.self.invariant (c.in_ok-place.ensures ∙ ap (position (is_ready_at c.args.ticket)) c.deref.ensures.value)
+    ∙ alone c.args.ticket 0 c.self.inside.slots.items c.self.invariant
+    (sym (ap is_some (ap (λ s. s.settled) c.remove-settled.ensures.value
+    ∙ reply-taken c.args.ticket c.in_ok-place.place c.remove-settled.result c.self.inside.slots.items
+    (c.in_ok-place.ensures ∙ ap (position (is_ready_at c.args.ticket)) c.deref.ensures.value))) ∙ there)
+    ∙ ap (without c.args.ticket) c.self.view_is
