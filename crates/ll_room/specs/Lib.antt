@@ -1,0 +1,2 @@
+pub mod Shelf
+pub mod Ticket

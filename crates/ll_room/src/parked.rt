@@ -1,0 +1,61 @@
+ghost use Rattle.std.specs.Prelude.{◌≡◌};
+
+use std::marker::Model;
+
+/// The one value that stands for an open request of a room: who holds it is owed the reply. It can't be made twice, nor let go:
+/// it is spent where its reply is collected or the request is closed.
+pub struct Parked {
+    channel: u64,
+    ticket: u64,
+}
+
+impl Model for Parked {
+    ghost use Rattle.ll_room.specs.Ticket.{Ticket};
+
+    ghost Value = { Ticket };
+
+    ghost view = { λ p. record { channel = p.channel; ticket = p.ticket } };
+}
+
+/// None may be let go, since tickets count from 1: a leak is a failed proof.
+impl Drop for Parked {
+    fn drop(self)
+        requires { self.ticket ≡ 0 }
+    {
+        let Parked {
+            channel: _,
+            ticket: _,
+        } = self;
+    }
+}
+
+impl Parked {
+    /// The value for this request of this room.
+    pub(crate) fn new(channel: u64, ticket: u64) -> Parked
+        ensures { result ≡ record { channel = channel; ticket = ticket } }
+    {
+        Parked { channel, ticket }
+    }
+
+    /// The number of its room.
+    pub fn channel(&self) -> u64
+        ensures { result ≡ self.now.channel }
+    {
+        self.channel
+    }
+
+    /// The number of the request in its room, from 1.
+    pub fn ticket(&self) -> u64
+        ensures { result ≡ self.now.ticket }
+    {
+        self.ticket
+    }
+
+    /// Spends the value of a request that is no longer open.
+    pub(crate) fn spend(self) {
+        let Parked {
+            channel: _,
+            ticket: _,
+        } = self;
+    }
+}
