@@ -10,12 +10,12 @@ use Rattle.ll_page.specs.View.{kept, renditions, renditions_from}
 use Rattle.ll_page.specs.declared.rendition.Rendition.{Rendition}
 use Rattle.ll_window.specs.Segments.{own}
 
-own-same : (r : ℕ) (items : List Item) (i : Item) → rendition_of i ≡ r → own r (items ++ i ∷ []) ≡ own r items ++ i ∷ []
+pub own-same : (r : ℕ) (items : List Item) (i : Item) → rendition_of i ≡ r → own r (items ++ i ∷ []) ≡ own r items ++ i ∷ []
 own-same r items i e =
     let yes : (rendition_of i == r) ≡ true = grind (arith, nat_tests) in
     filter-append (λ j. rendition_of j == r) items (i ∷ []) ∙ ap (λ b. own r items ++ cond b (i ∷ []) []) yes
 
-own-other : (r : ℕ) (items : List Item) (i : Item) → rendition_of i ≢ r → own r (items ++ i ∷ []) ≡ own r items
+pub own-other : (r : ℕ) (items : List Item) (i : Item) → rendition_of i ≢ r → own r (items ++ i ∷ []) ≡ own r items
 own-other r items i ne =
     let no : (rendition_of i == r) ≡ false = grind (arith, nat_tests) in
     filter-append (λ j. rendition_of j == r) items (i ∷ []) ∙ ap (λ b. own r items ++ cond b (i ∷ []) []) no ∙ append-nil (own r items)

@@ -1,4 +1,5 @@
 pub mod AskLemmas
+pub mod FreedLemmas
 pub mod IdleLemmas
 pub mod KeptLemmas
 pub mod PublishLemmas
