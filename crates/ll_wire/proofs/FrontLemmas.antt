@@ -6,13 +6,13 @@ use Rattle.std.proofs.lemmas.List.{drop-append-le, take-append-le, length-map}
 use Rattle.ll_wire.specs.declared.head.Head.{Head}
 use Rattle.ll_wire.specs.declared.head.Head.TheVariants as head
 use Rattle.std.proofs.lemmas.Bool.Decides.{nat_tests}
-use Rattle.httparse.specs.Grammar.{RequestHead, ReadsRequest, HasNoRequest, NeverHasRequest, MayBecomeRequest, print_request}
+use Rattle.httparse.specs.Grammar.{RequestHead, ReadsRequest, HasNoRequest, NeverHasRequest, MayBecomeRequest, EndsInTarget, print_request}
 use Rattle.httparse.specs.Spans.{name_and_value}
 use Rattle.ll_wire.specs.Reading.{read}
 use Rattle.ll_wire.specs.declared.fault.HeadFault.TheVariants.{HeadTooLarge, BadHead}
 use Rattle.ll_wire.specs.Heads.{Fault, Whole, RequestValue, head_value, IsWithin, Outcome, Going, Lost, outcome, verdict, unfinished, judged, judged_parts, first_fault, lacks_host, tells_body, field_texts, is_in_target, head_of}
 use Rattle.ll_wire.proofs.ReadLemmas.{head_read}
-use Rattle.ll_wire.proofs.ValidLemmas.{may-goes, never-lost, target-goes}
+use Rattle.ll_wire.proofs.ValidLemmas.{may-goes, never-lost, no-target, target-goes}
 
 module _ (bytes start : List ℕ) (is : start ≡ take 8192 bytes) where
   at_outcome : (o : Outcome) → outcome (read start) ≡ o → head_of bytes ≡ verdict bytes o
@@ -27,6 +27,9 @@ module _ (bytes start : List ℕ) (is : start ≡ take 8192 bytes) where
 
   pub at_invalid : NeverHasRequest start → is_in_target (read start) ≡ false → head_of bytes ≡ Fault BadHead
   at_invalid never e = at_outcome Lost (never-lost start never e)
+
+  pub at_other : NeverHasRequest start → ¬ (EndsInTarget start) → head_of bytes ≡ Fault BadHead
+  at_other never elsewhere = at_invalid never (no-target start elsewhere)
 
   pub at_head : (h : RequestHead) (rest : List ℕ) → ReadsRequest start h rest → head_of bytes ≡ judged h
   at_head h rest r = at_outcome _ (ap outcome (head_read start h rest r))

@@ -1,5 +1,5 @@
 -- The parts of what was read are of their classes, and what is unfinished can be finished.
-use Rattle.std.proofs.Common.{◌≡◌, ℕ, ◌*◌, ◌==◌, inl, inr, flat_map, ◌<◌, ◌≤◌, List, [], ◌∷◌, ◌++◌, Bool, true, false, refl, ap, ◌∙◌, subst, arith, length, length-append, fold, codes, ◌&&◌}
+use Rattle.std.proofs.Common.{◌≡◌, ℕ, ◌*◌, ◌==◌, inl, inr, flat_map, ◌<◌, ◌≤◌, List, [], ◌∷◌, ◌++◌, Bool, true, false, refl, ap, ◌∙◌, subst, arith, append_assoc, length, length-append, fold, codes, ◌&&◌}
 use Rattle.std.specs.Prelude.{⊤, nat_lt, All}
 use Rattle.std.specs.Str.{is_utf8, IsUtf8}
 use Rattle.std.proofs.lemmas.Str.{IsUtf8-from_is_utf8, is_utf8-from_IsUtf8, IsUtf8-from_ascii}
@@ -7,7 +7,7 @@ use Rattle.std.proofs.lemmas.Str.Ascii.{IsAscii-cons, IsAscii-nil}
 use Rattle.std.proofs.lemmas.Bool.Decides.{nat_tests}
 use Rattle.std.proofs.lemmas.List.{length_push}
 use Rattle.std.proofs.lemmas.List.Elements.{All-nil, All-push, All-head, All-tail}
-use Rattle.httparse.specs.Grammar.{is_token_byte, is_uri_byte, is_value_byte, AllPass, IsToken, LineEnd, crlf, lf, Field, IsField, RequestHead, IsRequestHead, ReadsRequest, HasNoRequest, NeverHasRequest, MayBecomeRequest, print_field, print_end, print_request}
+use Rattle.httparse.specs.Grammar.{is_token_byte, is_uri_byte, is_value_byte, AllPass, IsToken, LineEnd, crlf, lf, Field, IsField, RequestHead, IsRequestHead, ReadsRequest, HasNoRequest, NeverHasRequest, MayBecomeRequest, EndsInTarget, print_field, print_end, print_request}
 use Rattle.httparse.specs.Spans.{RequestExceeds}
 use Rattle.httparse.proofs.GrammarLemmas.{ReadsRequest-append}
 use Rattle.ll_wire.specs.Reading.{Reading, Blank, BlankReturn, Method, Target, Version, LineStop, LineReturn, Lines, LinesReturn, Name, Value, ValueReturn, Whole, Wrong, start, step, read, blank_by, blank_return_by, method_by, target_by, target_done, version_by, digit_by, line_by, line_return_by, lines_by, lines_return_by, name_by, value_by, value_return_by, line_end_is, field_more}
@@ -288,6 +288,18 @@ in_target_goes Wrong e = cc
 pub target-goes : (bytes : List ℕ) → is_in_target (read bytes) ≡ true → outcome (read bytes) ≡ Going
 target-goes bytes e = in_target_goes (read bytes) e
 
+target_ends : (bytes : List ℕ) (s : Reading) → Spells s bytes → Valid s → is_in_target s ≡ true → EndsInTarget bytes
+target_ends bytes (Target h) sp v e = (h.blank, h.method, h.target, v.0, v.1, sp ∙ simp append_assoc)
+target_ends bytes _ sp v e = cc
+
+-- bytes that don't end in a target are not read as such
+pub no-target : (bytes : List ℕ) → ¬ (EndsInTarget bytes) → is_in_target (read bytes) ≡ false
+no-target bytes never = by (is_in_target (read bytes)) refl
+  where
+    by : (b : Bool) → is_in_target (read bytes) ≡ b → b ≡ false
+    by true e = absurd (never (target_ends bytes (read bytes) (Spells-read bytes) (Valid-read bytes) e))
+    by false e = refl
+
 lost_is_wrong : (s : Reading) → outcome s ≡ Lost → s ≡ Wrong
 lost_is_wrong Wrong e = refl
 lost_is_wrong _ e = cc
@@ -351,21 +363,3 @@ few_fields room bytes short x =
       length-append (lines_text h) (print_end h.last),
       length-append (line_text h ++ print_end h.line_end) (flat_map print_field h.fields),
     )
-
--- ---- and back
-
-pub lost-never : (bytes : List ℕ) → outcome (read bytes) ≡ Lost → NeverHasRequest bytes
-lost-never bytes e more h rest r =
-    let whole = head_read (bytes ++ more) h rest r in
-    let wrong = read-append bytes more ∙ ap (λ s. fold step s more) (lost_is_wrong (read bytes) e) ∙ wrong_stays more in
-    cc
-
-pub going-none : (bytes : List ℕ) → outcome (read bytes) ≡ Going → HasNoRequest bytes
-going-none bytes e h rest r = let whole = ap outcome (head_read bytes h rest r) in cc
-
-pub going-may : (bytes : List ℕ) → outcome (read bytes) ≡ Going → is_in_target (read bytes) ≡ false
-    → (more : List ℕ) × (h : RequestHead) × (rest : List ℕ) × ReadsRequest (bytes ++ more) h rest
-going-may bytes e f =
-    let more = can_finish (read bytes) e f in
-    let found = read_reads (bytes ++ more.0) more.1 (read-append bytes more.0 ∙ more.2) in
-    (more.0, more.1, found.0, found.1)

@@ -1,20 +1,17 @@
 //! Laws of heads, each the contract of an empty function.
-ghost use Rattle.ll_wire.specs.Laws.{GoingHasNone, GoingMay, HeadStays, LostIsNever, MayGoesOn, NeverIsLost, ReadsNothingElse, ReadsTheGrammar, WholeWithin};
+ghost use Rattle.ll_wire.specs.Laws.{HeadStays, HeadsAreJudged, OthersAreBad, PartsAreUnfinished, WholeWithin};
 
-/// Bytes that follow change what stands at the front only where that is unfinished, and a whole head lies in its bytes.
+/// Bytes that follow change what stands at the front only where that is unfinished, and a request's head lies in its bytes.
 pub fn heads_stay_law()
     ensures stays { HeadStays }
     ensures within { WholeWithin }
 {}
 
-/// A head is read exactly where the grammar of `httparse` has one (RFC 9112, sections 2 to 5). Bytes are given up only where no
-/// head can begin with them, and wait only where none is there yet and, but in a target, one can come.
+/// What stands at the front, in the words of the grammar of `httparse` alone (RFC 9112, sections 2 to 5). Of the first 8,192
+/// bytes: where a head stands at their front, it is judged. Where none does, but one can come or they end in a target, they are
+/// unfinished. Else they are BadHead.
 pub fn grammar_law()
-    ensures reads { ReadsTheGrammar }
-    ensures only { ReadsNothingElse }
-    ensures never { NeverIsLost }
-    ensures may { MayGoesOn }
-    ensures lost { LostIsNever }
-    ensures none { GoingHasNone }
-    ensures going { GoingMay }
+    ensures heads { HeadsAreJudged }
+    ensures parts { PartsAreUnfinished }
+    ensures others { OthersAreBad }
 {}

@@ -1,6 +1,11 @@
-use Rattle.ll_wire.proofs.ReadLemmas.{head_read}
-use Rattle.ll_wire.proofs.ValidLemmas.{going-may, going-none, lost-never, may-goes, never-lost, read_reads}
+use Rattle.std.proofs.Common.{refl}
+use Rattle.ll_wire.specs.Laws.{first_bytes}
+use Rattle.ll_wire.proofs.FrontLemmas.{at_head, at_partial, at_other}
 use Rattle.ll_wire.proofs.laws.grammar_law.Goals as goal
 
 pub returns : goal.returns
-returns c = record { reads = head_read; only = read_reads; never = never-lost; may = may-goes; lost = lost-never; none = going-none; going = going-may }
+returns c = record {
+  heads = λ bytes. at_head bytes (first_bytes bytes) refl;
+  parts = λ bytes. at_partial bytes (first_bytes bytes) refl;
+  others = λ bytes. at_other bytes (first_bytes bytes) refl;
+}
