@@ -66,17 +66,20 @@ is_close member = str_eq_ignore_ascii_case (trimmed_back (trimmed_front member))
 abbrev pub tells_close : FieldText → Bool
 tells_close f = is_named (codes "Connection") f && list_any is_close (members f.1)
 
+-- ---- a whole head
+
 abbrev pub field_texts : RequestHead → List FieldText
 field_texts h = map name_and_value h.fields
 
--- one Host field is wanted, but of HTTP/1.0
+-- HTTP/1.1 without exactly one Host field
 abbrev pub lacks_host : ℕ → List FieldText → Bool
 lacks_host minor fields = minor == 1 && not (count_by is_host fields == 1)
 
+-- whether the connection is kept behind the answer: never in HTTP/1.0
 abbrev pub is_kept : ℕ → List FieldText → Bool
 is_kept minor fields = minor == 1 && not (list_any tells_close fields)
 
--- the first fault of a whole head counts: too many fields, no one Host, another method, a body
+-- the first fault of a whole head counts: too many fields, not one Host, another method, a body
 abbrev pub first_fault : Bool → Bool → Bool → Bool → RequestValue → HeadValue
 first_fault true host method body r = Fault HeadTooLarge
 first_fault false true method body r = Fault BadHost
@@ -84,20 +87,23 @@ first_fault false false true body r = Fault BadMethod
 first_fault false false false true r = Fault BadBody
 first_fault false false false false r = Whole r
 
--- what a whole head asks for, by its parts
+-- what a whole head asks for, or its first fault, by its length, method, target, version and fields
 abbrev pub judged_parts : ℕ → List ℕ → List ℕ → ℕ → List FieldText → HeadValue
 judged_parts len method target minor fields =
     first_fault (nat_lt most_fields (length fields)) (lacks_host minor fields) (not (bytes_eq method (codes "GET"))) (list_any tells_body fields)
     (record { len = len; target = target; keep = is_kept minor fields })
 
+-- the same of the head
 unfoldable pub judged : RequestHead → HeadValue
 judged h = judged_parts (length (print_request h)) h.method h.target h.minor (field_texts h)
 
--- no more bytes are looked at than a head may have
+-- bytes with no whole head: as many as a head may have are too large
 abbrev pub unfinished : List ℕ → HeadValue
 unfinished bytes = if nat_le most_bytes (length bytes) then Fault HeadTooLarge else Unfinished
 
--- what a reading has come to
+-- ---- any bytes
+
+-- what a reading has come to: it goes on, it has read a head, or no head begins so
 pub data Outcome : Type 0 where
   Going : Outcome
   Done : RequestHead → Outcome
@@ -141,10 +147,11 @@ verdict bytes Going = unfinished bytes
 verdict bytes (Done h) = judged h
 verdict bytes Lost = Fault BadHead
 
+-- what stands at the front of these bytes, of which no more are looked at than a head may have
 unfoldable pub head_of : List ℕ → HeadValue
 head_of bytes = verdict bytes (outcome (read (take most_bytes bytes)))
 
--- a head that was found, in the bytes that it was found in
+-- what `Head` says in the bytes that it was found in
 abbrev pub head_value : List ℕ → Head → HeadValue
 head_value bytes found.Part = Unfinished
 head_value bytes (found.Bad fault) = Fault fault

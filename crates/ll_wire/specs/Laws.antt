@@ -16,11 +16,11 @@ WholeWithin = (bytes : List ℕ) (r : RequestValue) → head_of bytes ≡ Whole 
 abbrev pub first_bytes : List ℕ → List ℕ
 first_bytes bytes = take most_bytes bytes
 
--- where the first bytes begin with a head of the grammar, it is judged; by this law, the next and the last, all bytes are told apart by the grammar alone
+-- By these three the grammar alone says what any bytes come to. Where the first bytes begin with a head, it is judged
 abbrev pub HeadsAreJudged : Type 0
 HeadsAreJudged = (bytes : List ℕ) (h : RequestHead) (rest : List ℕ) → ReadsRequest (first_bytes bytes) h rest → head_of bytes ≡ judged h
 
--- where they have no head yet, but bytes that follow can make one, or where they end in a target, they are unfinished
+-- where they have no head, but bytes that follow can make one or they end in a target, they are unfinished
 abbrev pub PartsAreUnfinished : Type 0
 PartsAreUnfinished = (bytes : List ℕ) → HasNoRequest (first_bytes bytes) → MayBecomeRequest (first_bytes bytes) → head_of bytes ≡ unfinished bytes
 

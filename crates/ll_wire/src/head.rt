@@ -56,7 +56,7 @@ fn front(bytes: &[u8]) -> &[u8]
 
 /// What bytes come to in which a head is not at its end.
 fn unfinished(bytes: &[u8]) -> Head
-    ensures stands { head_value bytes.now result ≡ unfinished bytes.now }
+    ensures value { head_value bytes.now result ≡ unfinished bytes.now }
     ensures within { IsWithin bytes.now result }
 {
     if bytes.len() < MOST_BYTES {
@@ -71,7 +71,7 @@ fn unfinished(bytes: &[u8]) -> Head
 fn malformed(bytes: &[u8], start: &[u8]) -> Head
     requires front { start.now ≡ take 8192 bytes.now }
     requires never { NeverHasRequest start.now }
-    ensures stands { head_value bytes.now result ≡ head_of bytes.now }
+    ensures value { head_value bytes.now result ≡ head_of bytes.now }
     ensures within { IsWithin bytes.now result }
 {
     if ends_in_target(start) {
@@ -87,7 +87,7 @@ fn malformed(bytes: &[u8], start: &[u8]) -> Head
 fn many_fields(bytes: &[u8], start: &[u8]) -> Head
     requires front { start.now ≡ take 8192 bytes.now }
     requires many { RequestOverflows 64 start.now }
-    ensures stands { head_value bytes.now result ≡ head_of bytes.now }
+    ensures value { head_value bytes.now result ≡ head_of bytes.now }
     ensures within { IsWithin bytes.now result }
 {
     let mut headers = [EMPTY_HEADER_SPAN; ANY_FIELDS];
@@ -134,7 +134,7 @@ fn judge(bytes: &[u8], fields: &[HeaderSpan], spans: RequestSpans) -> Head
 /// What stands at the front of a connection's bytes: a head (RFC 9112, sections 2 to 5) and what it says, less than a head, or
 /// the first fault. No more than 8,192 bytes are looked at. It takes no memory.
 pub fn next_head(bytes: &[u8]) -> Head
-    ensures stands { head_value bytes.now result ≡ head_of bytes.now }
+    ensures value { head_value bytes.now result ≡ head_of bytes.now }
     ensures within { IsWithin bytes.now result }
 {
     let start = front(bytes);
