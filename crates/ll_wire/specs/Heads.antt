@@ -1,8 +1,9 @@
 -- What stands at the front of a connection's bytes.
 use Rattle.std.specs.Prelude.{ℕ, ◌<◌, ◌≤◌, ⊤, List, Bool, true, false, not, ◌==◌, ◌-◌, ◌&&◌, ◌||◌, nat_lt, nat_le, length, take, drop, map, codes, bytes_eq, count_by, slice_range, if◌then◌else◌}
-use Rattle.std.specs.List.{list_any, slice_split, prefix_len, suffix_len}
+use Rattle.std.specs.List.{list_any, prefix_len, suffix_len}
 use Rattle.std.specs.Char.{is_ascii_whitespace}
 use Rattle.std.specs.Str.{str_eq_ignore_ascii_case}
+use Rattle.ll_attr.specs.Words.{parts_at}
 use Rattle.httparse.specs.Grammar.{RequestHead, print_request}
 use Rattle.httparse.specs.Spans.{name_and_value}
 use Rattle.ll_wire.specs.Reading.{Reading, Blank, BlankReturn, Method, Target, Version, LineStop, LineReturn, Lines, LinesReturn, Name, Value, ValueReturn, Wrong, read}
@@ -46,11 +47,7 @@ is_host f = is_named (codes "Host") f
 
 -- a body follows
 abbrev pub tells_body : FieldText → Bool
-tells_body f = is_named (codes "Transfer-Encoding") f || is_named (codes "Content-Length") f && not (bytes_eq f.1 (codes "0"))
-
--- the members of a list: what stands between commas
-abbrev pub members : List ℕ → List (List ℕ)
-members value = slice_split (λ b. b == 44) value
+tells_body f = is_named (codes "Transfer-Encoding") f || (is_named (codes "Content-Length") f && not (bytes_eq f.1 (codes "0")))
 
 abbrev pub trimmed_front : List ℕ → List ℕ
 trimmed_front text = drop (prefix_len is_ascii_whitespace text) text
@@ -62,9 +59,9 @@ trimmed_back text = take (length text - suffix_len is_ascii_whitespace text) tex
 abbrev pub is_close : List ℕ → Bool
 is_close member = str_eq_ignore_ascii_case (trimmed_back (trimmed_front member)) (codes "close")
 
--- the connection is closed behind the answer
+-- the connection is closed behind the answer: `close` is one of the tokens between commas
 abbrev pub tells_close : FieldText → Bool
-tells_close f = is_named (codes "Connection") f && list_any is_close (members f.1)
+tells_close f = is_named (codes "Connection") f && list_any is_close (parts_at 44 f.1)
 
 -- ---- a whole head
 

@@ -1,8 +1,9 @@
 //! Whether bytes end in a request's target.
-ghost use Rattle.std.specs.Prelude.{◌≡◌};
+ghost use Rattle.std.specs.Prelude.{◌≡◌, if◌then◌else◌};
 ghost use Rattle.ll_wire.specs.Reading.{read};
 ghost use Rattle.ll_wire.specs.Heads.{is_in_target};
 ghost use Rattle.ll_wire.specs.Places.{next_place};
+ghost use Rattle.ll_wire.specs.declared.place.Place.TheVariants as Place;
 
 use httparse::{is_method_token, is_uri_token};
 
@@ -24,42 +25,37 @@ fn next(place: Place, b: u8) -> Place
     ensures { result ≡ next_place place b }
 {
     match place {
-        Place::Blank => {
-            if is_method_token(b) {
-                Place::Method
-            } else if b == b'\r' {
-                Place::BlankReturn
-            } else if b == b'\n' {
-                Place::Blank
-            } else {
-                Place::Past
-            }
-        }
-        Place::BlankReturn => {
-            if b == b'\n' {
-                Place::Blank
-            } else {
-                Place::Past
-            }
-        }
+        Place::Blank => after_blank(b),
+        Place::BlankReturn => go_if(b == b'\n', Place::Blank),
         Place::Method => {
             if is_method_token(b) {
                 Place::Method
-            } else if b == b' ' {
-                Place::Target
             } else {
-                Place::Past
+                go_if(b == b' ', Place::Target)
             }
         }
-        Place::Target => {
-            if is_uri_token(b) {
-                Place::Target
-            } else {
-                Place::Past
-            }
-        }
+        Place::Target => go_if(is_uri_token(b), Place::Target),
         Place::Past => Place::Past,
     }
+}
+
+/// The place behind the first byte of a line that stands before the method, or is its first.
+fn after_blank(b: u8) -> Place
+    ensures { result ≡ next_place Place.Blank b }
+{
+    if is_method_token(b) {
+        Place::Method
+    } else if b == b'\r' {
+        Place::BlankReturn
+    } else {
+        go_if(b == b'\n', Place::Blank)
+    }
+}
+
+fn go_if(fits: bool, place: Place) -> Place
+    ensures { result ≡ (if fits then place else Place.Past) }
+{
+    if fits { place } else { Place::Past }
 }
 
 /// Whether the bytes end in a request's target: in empty lines, a method, a space, and bytes that may stand in a target.
