@@ -1,0 +1,6 @@
+pub mod SpelledLemmas
+pub mod FrontLemmas
+pub mod HeadLemmas
+pub mod PlaceLemmas
+pub mod ReadLemmas
+pub mod ValidLemmas

@@ -1,0 +1,5 @@
+pub mod Response
+pub mod Reading
+pub mod Heads
+pub mod Places
+pub mod Laws

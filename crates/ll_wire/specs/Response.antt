@@ -1,0 +1,108 @@
+-- The response with an answer (RFC 9112, section 4).
+use Rattle.std.specs.Prelude.{ℕ, List, [], ◌∷◌, ◌++◌, Bool, true, false, ◌==◌, if◌then◌else◌, codes, decimal, length}
+use Rattle.ll_page.specs.Page.{page_text}
+use Rattle.ll_directive.specs.Targets.{fault_name}
+use Rattle.ll_directive.specs.Targets as target
+use Rattle.ll_verdict.specs.declared.reply.Reply.{Reply}
+use Rattle.ll_verdict.specs.declared.reply.Reply.TheVariants.{Text, NotFound, TooFar, Busy, Timeout}
+use Rattle.ll_wire.specs.declared.fault.HeadFault.{HeadFault}
+use Rattle.ll_wire.specs.declared.fault.HeadFault.TheVariants.{BadHead, HeadTooLarge, BadHost, BadMethod, BadBody}
+use Rattle.ll_wire.specs.declared.answer.Unavailable.{Unavailable}
+use Rattle.ll_wire.specs.declared.answer.Unavailable.TheVariants.{RecordFull, Memory}
+use Rattle.ll_wire.specs.declared.answer.Answer.{Answer}
+use Rattle.ll_wire.specs.declared.answer.Answer.TheVariants as answer
+
+-- ---- refusals
+
+abbrev pub head_status : HeadFault → ℕ
+head_status BadMethod = 405
+head_status HeadTooLarge = 431
+head_status other = 400
+
+abbrev pub head_fault_name : HeadFault → List ℕ
+head_fault_name BadHead = codes "BadHead"
+head_fault_name HeadTooLarge = codes "HeadTooLarge"
+head_fault_name BadHost = codes "BadHost"
+head_fault_name BadMethod = codes "BadMethod"
+head_fault_name BadBody = codes "BadBody"
+
+abbrev pub reply_status : Reply → ℕ
+reply_status (Text page) = 200
+reply_status NotFound = 404
+reply_status TooFar = 400
+reply_status Busy = 503
+reply_status Timeout = 503
+
+abbrev pub unavailable_name : Unavailable → List ℕ
+unavailable_name RecordFull = codes "RecordFull"
+unavailable_name Memory = codes "Memory"
+
+-- ---- what an answer is made of
+
+abbrev pub status_of : Answer → ℕ
+status_of (answer.Reply reply) = reply_status reply
+status_of (answer.Unavailable reason) = 503
+status_of (answer.Target fault) = target.status_of fault
+status_of (answer.Head fault) = head_status fault
+
+-- a name and LF
+abbrev pub named : List ℕ → List ℕ
+named name = name ++ 10 ∷ []
+
+abbrev pub reply_body : Reply → List ℕ
+reply_body (Text page) = page_text page
+reply_body NotFound = named (codes "NotFound")
+reply_body TooFar = named (codes "TooFar")
+reply_body Busy = named (codes "Busy")
+reply_body Timeout = named (codes "Timeout")
+
+-- the playlist, or the name of the refusal and LF
+abbrev pub body_of : Answer → List ℕ
+body_of (answer.Reply reply) = reply_body reply
+body_of (answer.Unavailable reason) = named (unavailable_name reason)
+body_of (answer.Target fault) = named (fault_name fault)
+body_of (answer.Head fault) = named (head_fault_name fault)
+
+-- ---- the lines of a response
+
+-- a status and its reason phrase
+abbrev pub status_words : ℕ → List ℕ
+status_words status =
+    if status == 200 then codes "200 OK"
+    else if status == 404 then codes "404 Not Found"
+    else if status == 405 then codes "405 Method Not Allowed"
+    else if status == 431 then codes "431 Request Header Fields Too Large"
+    else if status == 503 then codes "503 Service Unavailable"
+    else codes "400 Bad Request"
+
+abbrev pub content_type : ℕ → List ℕ
+content_type status = if status == 200 then codes "application/vnd.apple.mpegurl" else codes "text/plain"
+
+-- the methods that are allowed are told where one was refused
+abbrev pub allow_line : ℕ → List ℕ
+allow_line status = if status == 405 then codes "Allow: GET\r\n" else []
+
+abbrev pub kept_word : Bool → List ℕ
+kept_word true = codes "keep-alive"
+kept_word false = codes "close"
+
+-- the status line and the first fields, each line ended by CR LF
+unfoldable pub first_lines : List ℕ → List ℕ → ℕ → List ℕ
+first_lines words kind length =
+    codes "HTTP/1.1 " ++ (words ++ (codes "\r\nContent-Type: " ++ (kind ++ (codes "\r\nContent-Length: " ++ (decimal length ++ codes "\r\n")))))
+
+-- the other fields and the empty line
+unfoldable pub last_lines : List ℕ → List ℕ → List ℕ
+last_lines allow kept = codes "Cache-Control: no-cache\r\n" ++ (allow ++ (codes "Connection: " ++ (kept ++ codes "\r\n\r\n")))
+
+-- all that stands before a body of this length
+abbrev pub lines : ℕ → ℕ → Bool → List ℕ
+lines status length keep = first_lines (status_words status) (content_type status) length ++ last_lines (allow_line status) (kept_word keep)
+
+-- a response with this status and body
+abbrev pub message : ℕ → List ℕ → Bool → List ℕ
+message status body keep = lines status (length body) keep ++ body
+
+-- the bytes of the response
+abbrev pub response_bytes : Answer → Bool → List ℕ
+response_bytes answer keep = message (status_of answer) (body_of answer) keep

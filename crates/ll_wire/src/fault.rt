@@ -1,0 +1,50 @@
+use thiserror::Error;
+
+/// Why no request begins at the front of some bytes: the first fault of its head, in this order.
+#[derive(Clone, Copy, Debug, PartialEq, Eq, Error)]
+pub enum HeadFault {
+    /// No head begins so (RFC 9112, sections 2 to 5).
+    #[error("BadHead")]
+    BadHead,
+    /// The first 8,192 bytes hold no whole head, or it has more than 64 fields.
+    #[error("HeadTooLarge")]
+    HeadTooLarge,
+    /// HTTP/1.1 without exactly one Host field (section 3.2).
+    #[error("BadHost")]
+    BadHost,
+    /// The method isn't GET.
+    #[error("BadMethod")]
+    BadMethod,
+    /// A body follows (section 6).
+    #[error("BadBody")]
+    BadBody,
+}
+
+impl HeadFault {
+    ghost use Rattle.std.specs.Prelude.{◌≡◌};
+    ghost use Rattle.ll_wire.specs.Response.{head_status, head_fault_name};
+
+    /// The HTTP status of the answer.
+    pub fn status(self) -> u16
+        ensures { result ≡ head_status self }
+    {
+        match self {
+            HeadFault::BadMethod => 405,
+            HeadFault::HeadTooLarge => 431,
+            _ => 400,
+        }
+    }
+
+    /// The name that players read.
+    pub fn name(self) -> &'static str
+        ensures { result.now ≡ head_fault_name self }
+    {
+        match self {
+            HeadFault::BadHead => "BadHead",
+            HeadFault::HeadTooLarge => "HeadTooLarge",
+            HeadFault::BadHost => "BadHost",
+            HeadFault::BadMethod => "BadMethod",
+            HeadFault::BadBody => "BadBody",
+        }
+    }
+}

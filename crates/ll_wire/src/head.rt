@@ -1,0 +1,150 @@
+//! The head of a request at the front of some bytes.
+ghost use Rattle.std.specs.Prelude.{◌≡◌, ◌<◌, ◌≤◌, All, length, map, take};
+ghost use Rattle.httparse.specs.Grammar.{NeverHasRequest};
+ghost use Rattle.httparse.specs.Spans.{RequestOverflows, IsHeaderWithin, span_bytes, header_bytes};
+ghost use Rattle.httparse.specs.Spans as in_head;
+ghost use Rattle.ll_wire.specs.Heads.{head_of, head_value, unfinished, judged_parts, IsWithin};
+
+use crate::fault::HeadFault;
+use crate::fields::{any_tells_body, any_tells_close, hosts};
+use crate::place::ends_in_target;
+use httparse::spans::{EMPTY_HEADER_SPAN, HeaderSpan, RequestSpans, parse_request};
+use httparse::{Error, Status};
+
+/// The most bytes of a head.
+const MOST_BYTES: usize = 8192;
+
+/// The most fields of a head.
+const MOST_FIELDS: usize = 64;
+
+/// What the head of a GET request says. The places count from the first byte that was looked at.
+#[derive(Clone, Copy, Debug, PartialEq, Eq)]
+pub struct Request {
+    /// Where its target begins.
+    pub from: usize,
+    /// Where its target ends.
+    pub to: usize,
+    /// Whether the connection is kept behind the answer (RFC 9112, section 9.3): the version is 1.1, and no Connection field has
+    /// the token `close`.
+    pub keep: bool,
+}
+
+/// What stands at the front of a connection's bytes.
+#[derive(Clone, Copy, Debug, PartialEq, Eq)]
+pub enum Head {
+    /// A head of so many bytes, empty lines before it counted, and its request.
+    Whole(usize, Request),
+    /// Less than a head: more bytes have to come.
+    Part,
+    /// No request begins so.
+    Bad(HeadFault),
+}
+
+/// As many fields as the most bytes can have: each takes three bytes at least.
+const ANY_FIELDS: usize = 2731;
+
+/// The bytes that are looked at.
+fn front(bytes: &[u8]) -> &[u8]
+    ensures { result.now ≡ take 8192 bytes.now }
+{
+    if bytes.len() < MOST_BYTES {
+        bytes
+    } else {
+        &bytes[..MOST_BYTES]
+    }
+}
+
+/// What bytes come to in which a head is not at its end.
+fn unfinished(bytes: &[u8]) -> Head
+    ensures value { head_value bytes.now result ≡ unfinished bytes.now }
+    ensures within { IsWithin bytes.now result }
+{
+    if bytes.len() < MOST_BYTES {
+        Head::Part
+    } else {
+        Head::Bad(HeadFault::HeadTooLarge)
+    }
+}
+
+/// What bytes come to whose first bytes no head begins with. A target that is not at its end is unfinished, whatever its bytes:
+/// whether they are text shows only at its end.
+fn malformed(bytes: &[u8], start: &[u8]) -> Head
+    requires front { start.now ≡ take 8192 bytes.now }
+    requires never { NeverHasRequest start.now }
+    ensures value { head_value bytes.now result ≡ head_of bytes.now }
+    ensures within { IsWithin bytes.now result }
+{
+    if ends_in_target(start) {
+        unfinished(bytes)
+    } else {
+        Head::Bad(HeadFault::BadHead)
+    }
+}
+
+/// What bytes come to whose first bytes may have a head with too many fields. They are parsed once more with room for all of
+/// them, so that a malformed head is BadHead however many fields it has. That room is large, so it is taken here alone.
+#[inline(never)]
+fn many_fields(bytes: &[u8], start: &[u8]) -> Head
+    requires front { start.now ≡ take 8192 bytes.now }
+    requires many { RequestOverflows 64 start.now }
+    ensures value { head_value bytes.now result ≡ head_of bytes.now }
+    ensures within { IsWithin bytes.now result }
+{
+    let mut headers = [EMPTY_HEADER_SPAN; ANY_FIELDS];
+    match parse_request(start, &mut headers) {
+        Ok(Status::Complete(_)) => Head::Bad(HeadFault::HeadTooLarge),
+        Ok(Status::Partial) => unfinished(bytes),
+        Err(error) => match error {
+            Error::TooManyHeaders => unreachable!(),
+            _ => malformed(bytes, start),
+        },
+    }
+}
+
+/// What a whole head asks for.
+fn judge(bytes: &[u8], fields: &[HeaderSpan], spans: RequestSpans) -> Head
+    requires len { spans.len ≤ length bytes.now }
+    requires some { 0 < spans.len }
+    requires method { in_head.IsWithin spans.len spans.method }
+    requires path { in_head.IsWithin spans.len spans.path }
+    requires fields { All (IsHeaderWithin (length bytes.now)) fields.now }
+    ensures parts { head_value bytes.now result ≡ judged_parts spans.len (span_bytes bytes.now spans.method) (span_bytes bytes.now spans.path) spans.version (map (header_bytes bytes.now) fields.now) }
+    ensures within { IsWithin bytes.now result }
+{
+    if fields.len() > MOST_FIELDS {
+        return Head::Bad(HeadFault::HeadTooLarge);
+    }
+    if spans.version == 1 && hosts(bytes, fields) != 1 {
+        return Head::Bad(HeadFault::BadHost);
+    }
+    if spans.method.of(bytes) != b"GET".as_slice() {
+        return Head::Bad(HeadFault::BadMethod);
+    }
+    if any_tells_body(bytes, fields) {
+        return Head::Bad(HeadFault::BadBody);
+    }
+    let request = Request {
+        from: spans.path.start,
+        to: spans.path.end,
+        keep: spans.version == 1 && !any_tells_close(bytes, fields),
+    };
+    Head::Whole(spans.len, request)
+}
+
+/// What stands at the front of a connection's bytes: a head (RFC 9112, sections 2 to 5) and what it says, less than a head, or
+/// the first fault. No more than 8,192 bytes are looked at. It takes no memory.
+pub fn next_head(bytes: &[u8]) -> Head
+    ensures value { head_value bytes.now result ≡ head_of bytes.now }
+    ensures within { IsWithin bytes.now result }
+{
+    let start = front(bytes);
+    let mut headers = [EMPTY_HEADER_SPAN; MOST_FIELDS];
+    match parse_request(start, &mut headers) {
+        Ok(Status::Complete(spans)) => judge(start, &headers[..spans.headers], spans),
+        Ok(Status::Partial) => unfinished(bytes),
+        Err(error) => match error {
+            Error::TooManyHeaders => many_fields(bytes, start),
+            _ => malformed(bytes, start),
+        },
+    }
+}

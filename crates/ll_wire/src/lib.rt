@@ -1,0 +1,16 @@
+//! The heads of HTTP/1.1 requests, and responses (RFC 9112). Nothing here knows of connections.
+#![tactic(auto)]
+
+mod answer;
+mod fault;
+mod fields;
+mod head;
+mod laws;
+mod message;
+mod place;
+
+pub use answer::{Answer, Unavailable};
+pub use fault::HeadFault;
+pub use head::{Head, Request, next_head};
+pub use laws::{grammar_law, heads_stay_law};
+pub use message::response;

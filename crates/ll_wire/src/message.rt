@@ -1,0 +1,118 @@
+//! The bytes of an answer.
+ghost use Rattle.std.specs.Prelude.{◌≡◌, ◌++◌, IfOk, OnOk, string_bytes};
+ghost use Rattle.ll_wire.specs.Response as spec;
+
+use crate::answer::Answer;
+use ll_verdict::Reply;
+use std::alloc::{AllocError, Global};
+
+/// The response with this answer (RFC 9112, section 4), which tells whether the connection is kept. Its body is the playlist, or
+/// the name of the refusal and LF. It fails only where no memory is found.
+pub fn response(alloc: Global, answer: &Answer, keep: bool) -> Result<Vec<u8>, AllocError>
+    ensures { IfOk result (λ bytes. bytes.items ≡ spec.response_bytes answer.now keep) }
+{
+    let text = match answer {
+        Answer::Reply(reply) => reply_response(alloc, reply, keep)?,
+        Answer::Unavailable(reason) => refusal(alloc, 503, reason.name(), keep)?,
+        Answer::Target(fault) => refusal(alloc, fault.status(), fault.name(), keep)?,
+        Answer::Head(fault) => refusal(alloc, fault.status(), fault.name(), keep)?,
+    };
+    Ok(text.into_bytes())
+}
+
+/// The response with what a channel gives.
+fn reply_response(alloc: Global, reply: &Reply, keep: bool) -> Result<String, AllocError>
+    ensures { IfOk result (λ text. string_bytes text ≡ spec.message (spec.reply_status reply.now) (spec.reply_body reply.now) keep) }
+{
+    match reply {
+        Reply::Text(page) => playlist(alloc, page.text(), keep),
+        Reply::NotFound => refusal(alloc, 404, "NotFound", keep),
+        Reply::TooFar => refusal(alloc, 400, "TooFar", keep),
+        Reply::Busy => refusal(alloc, 503, "Busy", keep),
+        Reply::Timeout => refusal(alloc, 503, "Timeout", keep),
+    }
+}
+
+/// The response with a playlist.
+fn playlist(alloc: Global, text: &str, keep: bool) -> Result<String, AllocError>
+    ensures { IfOk result (λ bytes. string_bytes bytes ≡ spec.message 200 text.now keep) }
+{
+    let mut message = head(alloc, 200, text.len(), keep)?;
+    message.push_str(text)?;
+    Ok(message)
+}
+
+/// The response with a refusal of this name.
+fn refusal(alloc: Global, status: u16, name: &str, keep: bool) -> Result<String, AllocError>
+    ensures { IfOk result (λ bytes. string_bytes bytes ≡ spec.message status (spec.named name.now) keep) }
+{
+    let mut message = head(alloc, status, name.len() + 1, keep)?;
+    message.push_str(name)?;
+    message.push_str("\n")?;
+    Ok(message)
+}
+
+/// All that stands before a body of this length.
+fn head(alloc: Global, status: u16, length: usize, keep: bool) -> Result<String, AllocError>
+    ensures { IfOk result (λ text. string_bytes text ≡ spec.lines status length keep) }
+{
+    let mut text = first_lines(alloc, status_words(status), content_type(status), length)?;
+    push_last_lines(&mut text, allow_line(status), kept_word(keep))?;
+    Ok(text)
+}
+
+/// The status line and the first fields.
+#[tactic(auto, unfolding(crate::specs::Response::first_lines))]
+fn first_lines(alloc: Global, words: &str, kind: &str, length: usize) -> Result<String, AllocError>
+    ensures { IfOk result (λ text. string_bytes text ≡ spec.first_lines words.now kind.now length) }
+{
+    format!(in alloc; "HTTP/1.1 {words}\r\nContent-Type: {kind}\r\nContent-Length: {length}\r\n")
+}
+
+/// Adds the other fields and the empty line.
+#[tactic(auto, unfolding(crate::specs::Response::last_lines))]
+fn push_last_lines(text: &mut String, allow: &str, kept: &str) -> Result<(), AllocError>
+    ensures { OnOk result (string_bytes text.new ≡ string_bytes text.old ++ spec.last_lines allow.now kept.now) }
+{
+    write!(
+        text,
+        "Cache-Control: no-cache\r\n{allow}Connection: {kept}\r\n\r\n"
+    )
+}
+
+/// A status and its reason phrase.
+fn status_words(status: u16) -> &'static str
+    ensures { result.now ≡ spec.status_words status }
+{
+    match status {
+        200 => "200 OK",
+        404 => "404 Not Found",
+        405 => "405 Method Not Allowed",
+        431 => "431 Request Header Fields Too Large",
+        503 => "503 Service Unavailable",
+        _ => "400 Bad Request",
+    }
+}
+
+fn content_type(status: u16) -> &'static str
+    ensures { result.now ≡ spec.content_type status }
+{
+    if status == 200 {
+        "application/vnd.apple.mpegurl"
+    } else {
+        "text/plain"
+    }
+}
+
+/// The methods that are allowed, where one was refused.
+fn allow_line(status: u16) -> &'static str
+    ensures { result.now ≡ spec.allow_line status }
+{
+    if status == 405 { "Allow: GET\r\n" } else { "" }
+}
+
+fn kept_word(keep: bool) -> &'static str
+    ensures { result.now ≡ spec.kept_word keep }
+{
+    if keep { "keep-alive" } else { "close" }
+}
