@@ -1,5 +1,6 @@
 -- What is kept of the channels of a script in place of all events.
-use Rattle.std.specs.Prelude.{◌≡◌, ℕ, ◌+◌, ◌==◌, List, [], ◌∷◌, ◌++◌, Bool, Option, Some, None, filter, map, slice_get}
+use Rattle.std.specs.Prelude.{◌≡◌, ℕ, ◌+◌, ◌==◌, List, [], ◌∷◌, ◌++◌, Bool, false, Option, Some, None, filter, map, slice_get}
+use Rattle.std.specs.List.{list_any}
 use Rattle.ll_room.specs.Home.{Home, home, tickets}
 use Rattle.ll_verdict.specs.State.{state_of}
 use Rattle.ll_held.specs.declared.wait.Wait.{Wait}
@@ -53,7 +54,15 @@ abbrev pub open_in : Option Home → List ℕ
 open_in None = []
 open_in (Some h) = tickets h
 
--- each room's number is its place, and its open requests are those that wait there, in the same order
+-- no number stands twice
+abbrev pub AreDistinct : List ℕ → Type 0
+AreDistinct [] = Unit
+AreDistinct (n ∷ more) = (list_any (λ m. m == n) more ≡ false) × AreDistinct more
+
+-- for private contracts: each room stands for the events of a channel, its number is its place, and its open requests are those that
+-- wait there, in the same order
 pub record AreTied (rooms : List Home) (waits : List Wait) : Type 0 where
-  pub numbers : (place : ℕ) (h : Home) → slice_get rooms place ≡ Some h → h.channel ≡ place
+  pub channels : List Channel
+  pub rooms_are : rooms ≡ homes_from 0 channels
   pub opened : (place : ℕ) → tickets_at place waits ≡ open_in (slice_get rooms place)
+  pub distinct : (place : ℕ) → AreDistinct (tickets_at place waits)
