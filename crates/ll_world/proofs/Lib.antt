@@ -1,1 +1,2 @@
 pub mod TieLemmas
+pub mod StandLemmas
