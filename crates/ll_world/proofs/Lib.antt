@@ -1,2 +1,4 @@
 pub mod TieLemmas
 pub mod StandLemmas
+pub mod DueLemmas
+pub mod ActLemmas

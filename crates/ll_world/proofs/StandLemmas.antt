@@ -10,7 +10,7 @@ use Rattle.ll_world.specs.Kept.{AreTied, Kept, Leads, answers_of, home_at, homes
 use Rattle.ll_world.specs.declared.answer.Answer.{Answer}
 use Rattle.ll_world.proofs.TieLemmas.{none_some, some_is, tied_less, tied_more, tied_same}
 
-no_more : (i : ℕ) → 0 + i ≡ i
+pub no_more : (i : ℕ) → 0 + i ≡ i
 no_more i = omega arith
 
 next_place : (n i : ℕ) → n + 1 + i ≡ n + suc i
@@ -30,7 +30,7 @@ homes_set n (d ∷ cs) zero c = ap (λ m. home_at m c ∷ homes_from (n + 1) cs)
 homes_set n (d ∷ cs) (suc i) c =
     ap (λ m. home_at n d ∷ slice_set (homes_from (n + 1) cs) i (home_at m c)) (sym (next_place n i)) ∙ ap (λ hs. home_at n d ∷ hs) (homes_set (n + 1) cs i c)
 
-homes_more : (n : ℕ) (cs : List Channel) (c : Channel) (m : ℕ) → m ≡ n + length cs → homes_from n cs ++ home_at m c ∷ [] ≡ homes_from n (cs ++ c ∷ [])
+pub homes_more : (n : ℕ) (cs : List Channel) (c : Channel) (m : ℕ) → m ≡ n + length cs → homes_from n cs ++ home_at m c ∷ [] ≡ homes_from n (cs ++ c ∷ [])
 homes_more n [] c m e = ap (λ k. home_at k c ∷ []) (e ∙ sym (at_first n))
 homes_more n (d ∷ cs) c m e = ap (λ hs. home_at n d ∷ hs) (homes_more (n + 1) cs c m (e ∙ sym (next_place n (length cs))))
 
