@@ -316,12 +316,7 @@ pub closes : (rooms : List Home) (waits : List Wait) (i t : ℕ) (h : Home) (p :
     → p ≡ record { channel = i; ticket = t } → room.is_done (room.closed h p) ≡ true
 closes rooms waits i t h p tied at found is =
     ap (λ p. room.is_done (room.closed h p)) is
-    ∙ ap₂ (λ a b. room.is_done (if a && b then done else given_back)) (ap (λ n. i == n) (number_is rooms waits i h tied at) ∙ same_test i) (sym (is_open_there rooms waits i t h tied at) ∙ found)
-  where
-    abbrev done : Closed
-    done = given_up.Done
-    abbrev given_back : Closed
-    given_back = given_up.Stranger (record { channel = i; ticket = t })
+    ∙ ap₂ (λ a b. room.is_done (if a && b then given_up.Done else given_up.Stranger (record { channel = i; ticket = t }))) (ap (λ n. i == n) (number_is rooms waits i h tied at) ∙ same_test i) (sym (is_open_there rooms waits i t h tied at) ∙ found)
 
 pub gave_up : (old : Kept) (w : World) (x : Wait) (h h2 : Home) (p : Ticket) → old ≡ kept_world w → slice_get old.rooms x.place ≡ Some h → IsSame h h2
     → GoesOn h h2 (Close p.ticket) → p.ticket ≡ x.ticket

@@ -4,11 +4,10 @@ ghost use Rattle.ll_world.specs.Kept.{Leads, kept_world};
 ghost use Rattle.ll_world.specs.World as world;
 ghost use Rattle.ll_world.specs.World.{World, start};
 ghost use Rattle.ll_held.specs.Waits.{under, without};
-ghost use Rattle.ll_held.specs.declared.wait.Wait.{Wait};
 
 use crate::answer::Answer;
 use ll_directive::Want;
-use ll_held::Held;
+use ll_held::{Held, Wait};
 use ll_item::{Item, Settings};
 use ll_room::{AskFault, Asked, Closed, Collected, Room};
 use ll_verdict::PublishFault;
@@ -143,21 +142,20 @@ impl Rooms {
         ensures closed { (w : World) → self.old ≡ kept_world w → Leads self.new None w (world.close id w) }
     {
         if let Some(wait) = self.held.of(id) {
-            self.give_up(wait.place, wait.ticket);
+            self.give_up(wait);
         }
     }
 
     /// Gives a request that waits up.
-    fn give_up(&mut self, place: usize, ticket: u64)
-        requires { is_some (under place ticket self.old.waits) ≡ true }
-        ensures given_up { (w : World) → (x : Wait) → self.old ≡ kept_world w → under place ticket self.old.waits ≡ Some x
-            → Leads self.new None w (world.close_at w x (slice_get w.channels x.place)) }
-        ensures left { self.new.waits ≡ without place ticket self.old.waits }
+    fn give_up(&mut self, wait: Wait)
+        requires { is_some (under wait.place wait.ticket self.old.waits) ≡ true }
+        ensures given_up { (w : World) → self.old ≡ kept_world w → Leads self.new None w (world.close_at w wait (slice_get w.channels wait.place)) }
+        ensures left { self.new.waits ≡ without wait.place wait.ticket self.old.waits }
     {
-        let Some(parked) = self.held.take(place, ticket) else {
+        let Some(parked) = self.held.take(wait.place, wait.ticket) else {
             unreachable!();
         };
-        let Some(room) = self.rooms.get_mut(place) else {
+        let Some(room) = self.rooms.get_mut(wait.place) else {
             unreachable!();
         };
         match room.close(parked) {
@@ -201,7 +199,7 @@ impl Rooms {
     pub fn finish(mut self) {
         loop {
             match self.held.first() {
-                Some(wait) => self.give_up(wait.place, wait.ticket),
+                Some(wait) => self.give_up(wait),
                 None => {
                     let Rooms {
                         alloc: _,
