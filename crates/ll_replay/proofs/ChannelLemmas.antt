@@ -14,7 +14,7 @@ use Rattle.ll_replay.specs.Kept.{KeptChannel, kept_channel}
 use Rattle.ll_replay.specs.World.{Channel, with_event}
 use Rattle.ll_replay.specs.declared.refusal.Refusal.{Refusal}
 use Rattle.ll_replay.specs.declared.refusal.Refusal.TheVariants as refused
-use Rattle.ll_replay.proofs.RenditionLemmas.{length-renditions, rendition-got, renditions-snoc}
+use Rattle.ll_page.proofs.RenditionLemmas.{length-renditions, rendition-got, renditions-snoc}
 
 -- a channel is full where it has taken all its events
 pub full-at-end : (events : List Event) (n : ℕ) → n ≡ length events → n ≡ event_end → full_by events ≡ Some refused.RecordFull

@@ -4,7 +4,6 @@ pub mod LineLemmas
 pub mod PlaceLemmas
 pub mod PublishLemmas
 pub mod ReadingLemmas
-pub mod RenditionLemmas
 pub mod RunLemmas
 pub mod SettingsLemmas
 pub mod StreamLemmas

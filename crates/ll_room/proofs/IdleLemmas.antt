@@ -1,11 +1,11 @@
 -- After an event no open request is left that would settle: those that could have settled with it, and a new one is not due yet.
-use Rattle.std.proofs.Common.{◌≡◌, ℕ, ◌+◌, ◌*◌, ◌≤◌, List, [], ◌∷◌, ◌++◌, Bool, true, false, ◌&&◌, ◌||◌, cond, nat_le, Option, Some, None, is_none, length, refl, ap, ap₂, ◌∙◌, sym, subst, true≢false, filter, map, arith}
+use Rattle.std.proofs.Common.{◌≡◌, ℕ, ◌+◌, ◌*◌, ◌≤◌, List, [], ◌∷◌, Bool, true, false, ◌&&◌, ◌||◌, cond, nat_le, Option, Some, None, is_none, length, refl, ap, ap₂, sym, subst, true≢false, filter, map, arith}
 use Rattle.std.proofs.lemmas.Bool.Decides.{nat_tests}
 use Rattle.ll_item.specs.Settings.{Configuration}
 use Rattle.ll_item.specs.declared.item.Item.{Item}
 use Rattle.ll_verdict.specs.Events.{Event, Publish, Ask, Collect, Close, Clock, items, time, taken, later}
 use Rattle.ll_verdict.specs.State.{State, state_of, settle, stays, new_slots, slot_by, answer_of, next, waiting_in}
-use Rattle.ll_verdict.specs.Verdict.{wanted_of, is_there, reply_by, reply_now, reply_with}
+use Rattle.ll_verdict.specs.Verdict.{wanted_of, is_there, reply_by, reply_with}
 use Rattle.ll_verdict.specs.declared.entry.Slot.{Slot}
 use Rattle.ll_verdict.specs.declared.reply.Reply.{Reply}
 use Rattle.ll_verdict.specs.declared.reply.Settled.{Settled}

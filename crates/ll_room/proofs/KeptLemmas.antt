@@ -1,16 +1,12 @@
 -- What a room keeps true of itself, after held requests were collected, closed or timed out.
-use Rattle.std.proofs.Common.{◌≡◌, not, ◌||◌, ◌==◌, true≢false, ◌≤◌, ◌<◌, ℕ, ◌+◌, ◌^◌, List, [], ◌∷◌, Bool, true, false, cond, Option, Some, None, length, filter, map, refl, ap, ◌∙◌, sym, subst, suc, arith}
+use Rattle.std.proofs.Common.{◌≡◌, not, ◌||◌, ◌==◌, true≢false, ◌≤◌, ◌<◌, ℕ, ◌+◌, ◌^◌, List, [], ◌∷◌, Bool, true, false, cond, Option, length, filter, map, refl, ap, ◌∙◌, sym, subst, suc, arith}
 use Rattle.std.specs.List.{list_any}
 use Rattle.ll_page.specs.Page.{Moment}
 use Rattle.ll_verdict.specs.declared.entry.Slot.{Slot}
 use Rattle.ll_book.specs.Release.{expired, is_over, over_if}
-use Rattle.ll_book.specs.Waiting.{AreBelow, without, without_ready, has_ticket, is_ready_at}
+use Rattle.ll_book.specs.Waiting.{AreBelow, without, has_ticket}
 use Rattle.ll_room.specs.Home.{Home}
-use Rattle.ll_room.specs.Kept.{IsCurrent, IsKept, moment}
-
-pub still_current : (h g : Home) (shown : Option Moment) → moment g ≡ moment h → IsCurrent h shown → IsCurrent g shown
-still_current h g None e i = tt
-still_current h g (Some copy) e i = i ∙ sym e
+use Rattle.ll_room.specs.Kept.{IsKept}
 
 kept_below : (n : ℕ) (s : Slot) (ss : List Slot) (b : Bool) → s.entry.ticket < n → AreBelow n ss → AreBelow n (cond b (s ∷ ss) ss)
 kept_below n s ss true h k = (h, k)
@@ -50,7 +46,7 @@ pub clock-kept : (h : Home) (shown : Option Moment) (time : ℕ) (slots : List S
 clock-kept h shown time slots k room early e =
     let long : length slots ≡ length h.slots = ap length e ∙ long_expired time h.slots in
     record {
-    current = still_current h (record h { time = time; slots = slots; events = h.events + 1 }) shown refl k.current;
+    current = k.current;
     target = k.target;
     each = k.each;
     accepted = omega (arith, k.accepted);
@@ -80,7 +76,7 @@ pub leave-kept : (h : Home) (shown : Option Moment) (t : ℕ) (slots : List Slot
 leave-kept h shown t slots k e there =
     let fewer : length slots < length h.slots = subst (λ ss. length ss < length h.slots) (sym e) (lost t h.slots there) in
     record {
-    current = still_current h (with_left h slots) shown refl k.current;
+    current = k.current;
     target = k.target;
     each = k.each;
     accepted = omega (arith, k.accepted);

@@ -1,5 +1,6 @@
--- lemmas
 pub mod IdleLemmas
-pub mod StandLemmas
 pub mod KeptLemmas
+pub mod PublishLemmas
+pub mod RoomLemmas
 pub mod SettleLemmas
+pub mod StandLemmas

@@ -6,7 +6,7 @@ use Rattle.ll_book.specs.Waiting.{has_ticket, reply_at}
 use Rattle.ll_verdict.specs.Verdict.{reply_of}
 use Rattle.ll_verdict.specs.declared.reply.Reply.{Reply}
 use Rattle.ll_verdict.specs.declared.reply.Settled.{Settled}
-use Rattle.ll_room.specs.Home.{Home}
+use Rattle.ll_room.specs.Home.{Home, less}
 use Rattle.ll_room.specs.Mark.{Mark}
 use Rattle.ll_room.specs.Ticket.{Ticket}
 use Rattle.ll_room.specs.declared.asked.Asked.{Asked}
@@ -26,6 +26,11 @@ asked h want None = Held (record { channel = h.channel; ticket = h.asks + 1 })
 abbrev pub new_tickets : Asked → List ℕ
 new_tickets (Now reply) = []
 new_tickets (Held parked) = parked.ticket ∷ []
+
+-- these tickets without that of a request that is held
+abbrev pub others : Asked → List ℕ → List ℕ
+others (Now reply) list = list
+others (Held parked) list = less parked.ticket list
 
 abbrev pub collected_by : Ticket → Option Settled → Bool → Collected
 collected_by p (Some settled) here = Got (record { room = p.channel; stamp = stamp.Collect p.ticket; value = reply_of settled })

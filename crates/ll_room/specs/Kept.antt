@@ -1,5 +1,5 @@
 -- For private contracts: what a room keeps true of itself.
-use Rattle.std.specs.Prelude.{◌≡◌, ◌≤◌, ℕ, ◌+◌, ◌*◌, ◌^◌, ◌++◌, [], ◌∷◌, Option, Some, None, length}
+use Rattle.std.specs.Prelude.{◌≡◌, ◌≤◌, ◌+◌, ◌*◌, ◌^◌, ◌++◌, [], ◌∷◌, Option, Some, None, length}
 use Rattle.ll_page.specs.Page.{Moment, Paged, seen_of}
 use Rattle.ll_book.specs.Waiting.{AreBelow}
 use Rattle.ll_verdict.specs.declared.wanted.Wanted.{Wanted}
@@ -10,12 +10,12 @@ abbrev pub moment : Home → Moment
 moment h = record { settings = h.settings; renditions = h.renditions; count = h.count }
 
 -- a shared copy, where one was made, is the channel as it is now
-abbrev pub IsCurrent : Home → Option Moment → Type 0
-IsCurrent h None = Unit
-IsCurrent h (Some shown) = shown ≡ moment h
+abbrev pub IsCurrent : Moment → Option Moment → Type 0
+IsCurrent now None = Unit
+IsCurrent now (Some shown) = shown ≡ now
 
 pub record IsKept (h : Home) (shown : Option Moment) : Type 0 where
-  pub current : IsCurrent h shown
+  pub current : IsCurrent (moment h) shown
   -- a request that waits is not due when it is made
   pub target : 1 ≤ h.settings.target
   pub each : length h.renditions ≡ length h.settings.renditions

@@ -4,14 +4,14 @@ ghost use Rattle.ll_item.specs.Settings.{Configuration};
 ghost use Rattle.ll_item.specs.declared.item.Item.{Item};
 ghost use Rattle.ll_page.specs.View as view;
 ghost use Rattle.ll_window.specs.Compact.{compact};
-ghost use Rattle.ll_window.specs.Segments.{ended};
-ghost use Rattle.ll_verdict.specs.Events.{Event, Ask};
+ghost use Rattle.ll_window.specs.Segments.{ended, own};
+ghost use Rattle.ll_verdict.specs.Events.{Event, Ask, items};
 ghost use Rattle.ll_verdict.specs.State.{waiting_in};
 ghost use Rattle.ll_verdict.specs.Verdict.{at_once, held, waiting_limit, wanted_of};
 ghost use Rattle.ll_verdict.specs.Verdict as verdict;
-ghost use Rattle.ll_room.specs.Answers.{asked, new_tickets};
+ghost use Rattle.ll_room.specs.Answers.{asked, new_tickets, others};
 ghost use Rattle.ll_room.specs.Full.{event_end};
-ghost use Rattle.ll_room.specs.Home.{IsSame, Stands, less, tickets};
+ghost use Rattle.ll_room.specs.Home.{IsSame, Stands, tickets};
 ghost use Rattle.ll_room.specs.Kept.{page_now, with_answer, with_held};
 
 use crate::asked::Asked;
@@ -45,7 +45,7 @@ impl Room {
         ensures full { IsErrOf result AskFault.RecordFull → event_end ≤ self.old.events }
         ensures memory { IsErrOf result AskFault.Memory → self.old.events < event_end }
         ensures opened { IfOk result (λ a. tickets self.new ≡ tickets self.old ++ new_tickets a) }
-        ensures newest { less (self.old.asks + 1) (tickets self.old ++ (self.old.asks + 1) ∷ []) ≡ tickets self.old }
+        ensures newest { IfOk result (λ a. others a (tickets self.new) ≡ tickets self.old) }
         ensures same { IsSame self.old self.new }
         ensures unchanged { OnErr result (self.new ≡ self.old) }
     {
@@ -55,12 +55,11 @@ impl Room {
         let Some(wanted) = self.wanted(&want) else {
             return Ok(self.answer(want, Reply::NotFound));
         };
-        let window = &self.renditions[wanted.rendition].window;
-        if is_there(window, wanted.awaited) {
+        if self.is_there(&wanted) {
             let page = self.page(&wanted)?;
             return Ok(self.answer(want, Reply::Text(page)));
         }
-        if is_far(window, wanted.awaited) {
+        if self.is_far(&wanted) {
             return Ok(self.answer(want, Reply::TooFar));
         }
         match self.hold(wanted) {
@@ -80,6 +79,24 @@ impl Room {
             awaited: want.awaited(),
             form: form_of(want.skip()),
         })
+    }
+
+    /// Whether what a request awaits is there, or its rendition has ended.
+    fn is_there(&self, wanted: &Wanted) -> bool
+        requires { wanted.now.rendition < length self.now.renditions }
+        ensures { (events : List Event) → Stands self.now events
+            → result ≡ verdict.is_there self.now.settings (items self.now.settings events) wanted.now }
+    {
+        is_there(&self.renditions[wanted.rendition].window, wanted.awaited)
+    }
+
+    /// Whether what a request awaits is too far ahead to be waited for.
+    fn is_far(&self, wanted: &Wanted) -> bool
+        requires { wanted.now.rendition < length self.now.renditions }
+        ensures { (events : List Event) → Stands self.now events
+            → result ≡ verdict.far self.now.settings (own wanted.now.rendition (items self.now.settings events)) wanted.now.awaited }
+    {
+        is_far(&self.renditions[wanted.rendition].window, wanted.awaited)
     }
 
     /// The playlist or delta update as it is now.

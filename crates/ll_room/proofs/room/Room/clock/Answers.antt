@@ -1,5 +1,4 @@
 use Rattle.std.proofs.Common.{◌∙◌, ap, sym, subst, map, arith}
-use Rattle.std.proofs.lemmas.Bool.Decides.{nat_tests}
 use Rattle.ll_book.specs.Waiting.{ticket_in}
 use Rattle.ll_room.specs.Home.{Stands}
 use Rattle.ll_room.proofs.KeptLemmas.{clock-kept}

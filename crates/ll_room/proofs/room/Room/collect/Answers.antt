@@ -1,5 +1,5 @@
-use Rattle.std.proofs.Common.{◌≡◌, ◌∙◌, ap, sym, subst, map, is_some, Bool, true, None}
-use Rattle.ll_book.specs.Waiting.{found, reply_at, ticket_in, without}
+use Rattle.std.proofs.Common.{◌≡◌, ◌∙◌, ap, sym, subst, map, is_some, true, None}
+use Rattle.ll_book.specs.Waiting.{found, reply_at, ticket_in}
 use Rattle.ll_room.specs.Home.{Stands, less}
 use Rattle.ll_room.proofs.KeptLemmas.{leave-kept, same-kept}
 use Rattle.ll_room.proofs.SettleLemmas.{collect-stands, fewer, open-found, open-ready, same-home, still, stranger, unready}

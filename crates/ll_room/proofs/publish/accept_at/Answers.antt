@@ -1,0 +1,18 @@
+use Rattle.std.proofs.Common.{rules, ◌≡◌, ◌≢◌, ◌+◌, ◌<◌, ◌++◌, ◌∷◌, [], List, IfOk, IfErr, IsErrOf, OnOk, OnErr, MatchResult, None, Some, length, slice_get, false, ℕ, ◌-◌, ◌*◌, ◌≤◌, ◌/◌, ◌%◌, Bool, true, nat_eq, nat_lt, slice_index_or, slice_set, bit_and, bit_or, Fits, w8, w32, w64, Bor, MutBor}
+use Rattle.ll_item.specs.Items.{rendition_of}
+use Rattle.ll_item.specs.declared.item.Item.{Item}
+use Rattle.ll_verdict.specs.Events.{Event, Publish}
+use Rattle.ll_room.specs.Freed.{GoOn, with_item}
+use Rattle.ll_room.specs.Freed as spec
+use Rattle.ll_room.specs.Full.{refusal_after, refusal_at, refusal_by}
+use Rattle.ll_room.specs.Home.{IsSame, Stands, tickets}
+use Rattle.ll_room.specs.declared.stamped.Stamp.TheVariants as stamp
+use Rattle.ll_room.proofs.publish.accept_at.Goals as goal
+
+-- src/publish.rt:138:1
+pub returns-in-Some-clause-goes_on : goal.returns-in-Some-clause-goes_on
+returns-in-Some-clause-goes_on c = ?
+
+-- src/publish.rt:138:1
+pub returns-in-None-clause-goes_on : goal.returns-in-None-clause-goes_on
+returns-in-None-clause-goes_on c = ?
