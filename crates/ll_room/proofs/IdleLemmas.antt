@@ -45,9 +45,11 @@ born_idle : (c : Configuration) (st : State) (n : ℕ) (o : Option Reply) (a : O
     → reply_by c n st.items a ≡ o → Each (Idle c st.items st.time) (slot_by c o st a)
 born_idle c st n (Some reply) a low h = tt
 born_idle c st n None None low h = tt
-born_idle c st n None (Some a) low h =
-    (ap₂ (λ there due. record { entry = record { ticket = st.asks + 1; wanted = a; seen = length st.items; deadline = st.time + 3000 * c.target }; settled = cond (there || due) (Some (reply_with c st.items a)) None })
-    (unanswered (is_there c st.items a) _ _ h) (not_due st.time c.target low), tt)
+born_idle c st n None (Some a) low h = (
+  ap₂ (λ there due. record { entry = record { ticket = st.asks + 1; wanted = a; seen = length st.items; deadline = st.time + 3000 * c.target }; settled = cond (there || due) (Some (reply_with c st.items a)) None })
+      (unanswered (is_there c st.items a) _ _ h) (not_due st.time c.target low),
+  tt,
+)
 
 new_idle : (c : Configuration) (st : State) (e : Event) → 1 ≤ c.target → Each (Idle c (taken c st.items e) (later st.time e)) (new_slots c st e)
 new_idle c st (Publish item) low = tt

@@ -4,4 +4,5 @@ pub mod Full
 pub mod Home
 pub mod Kept
 pub mod Mark
+pub mod Shelf
 pub mod Ticket

@@ -11,10 +11,12 @@ mod release;
 mod rendition;
 mod room;
 mod settle;
+mod shelf;
 mod stamped;
 
 pub use asked::{Asked, Closed, Collected};
 pub use fault::{AskFault, ClockFault};
 pub use parked::Parked;
 pub use room::Room;
+pub use shelf::Shelf;
 pub use stamped::{Stamp, Stamped};

@@ -1,9 +1,9 @@
-//! A held request.
 ghost use Rattle.std.specs.Prelude.{◌≡◌};
 
 use std::marker::Model;
 
-/// A held request. It must be spent: collected, closed or given back to its room.
+/// The one value that stands for an open request of a room: who holds it is owed the reply. It can't be made twice, nor let go:
+/// it is spent where its reply is collected, the request is closed, or it is given back to a room where it is no longer open.
 pub struct Parked {
     channel: u64,
     ticket: u64,
@@ -17,7 +17,7 @@ impl Model for Parked {
     ghost view = { λ p. record { channel = p.channel; ticket = p.ticket } };
 }
 
-/// It may not be let go: tickets count from 1.
+/// None may be let go, since tickets count from 1: a leak is a failed proof.
 impl Drop for Parked {
     fn drop(self)
         requires { self.ticket ≡ 0 }
@@ -30,7 +30,7 @@ impl Drop for Parked {
 }
 
 impl Parked {
-    /// The request of this ticket in the room of this number.
+    /// The value for this request of this room.
     pub(crate) fn new(channel: u64, ticket: u64) -> Parked
         ensures { result ≡ record { channel = channel; ticket = ticket } }
     {
@@ -44,14 +44,14 @@ impl Parked {
         self.channel
     }
 
-    /// Its number among the requests of its channel, from 1.
+    /// The number of the request in its room, from 1.
     pub fn ticket(&self) -> u64
         ensures { result ≡ self.now.ticket }
     {
         self.ticket
     }
 
-    /// Lets it go, once its request is no longer open.
+    /// Spends the value of a request that is no longer open.
     pub(crate) fn spend(self) {
         let Parked {
             channel: _,

@@ -33,8 +33,10 @@ returns-clause-answer c =
     let left : c.take.new.self ≡ c.self.inside.book = c.take.ensures.left ∙ unready c.ticket-ticket.result c.self.inside.book none in
     let there = sym (open-found c.ticket-ticket.result c.self.inside.book) ∙ ap (λ ss. is_some (found c.ticket-ticket.result ss)) (sym left) ∙ sym (ap is_some c.find.ensures) in
     let here = sym c.channel.ensures ∙ c.if-channel-self.false in
-    elim c.match-find.branch [ in-Some-find w ↦ w.result-is ∙ still _ c.args.self.now c.args.parked c.ticket-ticket.result c.self.view_is here c.ticket-ticket.ensures none (there ∙ ap is_some w.in-Some-find.is)
-    | in-None w ↦ w.result-is ∙ stranger _ c.args.self.now c.args.parked c.ticket-ticket.result c.self.view_is here c.ticket-ticket.ensures none (there ∙ ap is_some w.in-None.is) ]
+    elim c.match-find.branch [
+      | in-Some-find w ↦ w.result-is ∙ still _ c.args.self.now c.args.parked c.ticket-ticket.result c.self.view_is here c.ticket-ticket.ensures none (there ∙ ap is_some w.in-Some-find.is)
+      | in-None w ↦ w.result-is ∙ stranger _ c.args.self.now c.args.parked c.ticket-ticket.result c.self.view_is here c.ticket-ticket.ensures none (there ∙ ap is_some w.in-None.is)
+    ]
 
 pub returns-clause-nothing : goal.returns-clause-nothing
 returns-clause-nothing c = λ nothing.

@@ -1,0 +1,8 @@
+//! The requests that wait, of many rooms together, with the values that stand for them.
+#![tactic(auto)]
+
+mod held;
+mod wait;
+
+pub use held::Held;
+pub use wait::Wait;

@@ -1,0 +1,166 @@
+-- One more request of a room: what it is answered, and what the room stands for then.
+use Rattle.std.proofs.Common.{◌≡◌, ℕ, ◌+◌, ◌≤◌, ◌<◌, List, [], ◌∷◌, ◌++◌, Bool, true, false, ◌||◌, cond, nat_le, Option, Some, None, length, refl, ap, ap₂, ◌∙◌, sym, filter, map, append-nil, arith, subst, slice_index_or}
+use Rattle.std.specs.Prelude.{slice_get}
+use Rattle.std.proofs.lemmas.Option.{slice_get_read}
+use Rattle.std.proofs.lemmas.Bool.Decides.{nat_tests}
+use Rattle.ll_item.specs.Settings.{Configuration}
+use Rattle.ll_item.specs.declared.item.Item.{Item}
+use Rattle.ll_directive.specs.Targets.{WantValue}
+use Rattle.ll_directive.specs.declared.want.Awaited.{Awaited}
+use Rattle.ll_page.specs.Page.{Paged}
+use Rattle.ll_page.specs.View.{kept, renditions}
+use Rattle.ll_page.specs.declared.rendition.Rendition.{Rendition}
+use Rattle.ll_page.proofs.RenditionLemmas.{rendition-got}
+use Rattle.ll_window.specs.Compact.{Compact, compact}
+use Rattle.ll_window.specs.Segments.{own, ended}
+use Rattle.std.proofs.lemmas.List.{map-append}
+use Rattle.ll_book.specs.Waiting.{AreBelow, ticket_in}
+use Rattle.ll_verdict.specs.Events.{Event, Ask, items, time}
+use Rattle.ll_verdict.specs.State.{State, state_of, settle, stays, slot_by, answer_of, next, waiting_in}
+use Rattle.ll_verdict.specs.Verdict.{at_once, held, is_there, page_of, reply_now, wanted_of, waiting_limit}
+use Rattle.ll_verdict.specs.Verdict as verdict
+use Rattle.ll_verdict.specs.declared.entry.Slot.{Slot}
+use Rattle.ll_verdict.specs.declared.reply.Reply.{Reply}
+use Rattle.ll_verdict.specs.declared.reply.Reply.TheVariants as now
+use Rattle.ll_verdict.specs.declared.wanted.Wanted.{Wanted}
+use Rattle.ll_verdict.proofs.StateLemmas.{at_once-is}
+use Rattle.ll_room.specs.Answers.{asked}
+use Rattle.ll_room.specs.Home.{Home, Stands, home, less, tickets}
+use Rattle.ll_room.specs.Kept.{page_now, with_answer, with_held}
+use Rattle.ll_room.proofs.IdleLemmas.{idle, same_slots}
+use Rattle.ll_room.proofs.RoomLemmas.{newest}
+use Rattle.ll_room.proofs.StandLemmas.{all_stay, stands-by}
+
+-- the state that a room stands for
+abbrev of : Home → List Event → State
+of h es = state_of h.settings es
+
+abbrev with_reply : Home → Option Reply → Option Wanted → Home
+with_reply h (Some reply) a = with_answer h
+with_reply h None (Some a) = with_held h a
+with_reply h None None = with_answer h
+
+-- what is answered is the reply at once
+pub answered : (h : Home) (es : List Event) (w : WantValue) (o : Option Reply) → answer_of h.settings (of h es) w ≡ o
+    → asked h w o ≡ asked h w (at_once h.settings (held h.settings es) es w)
+answered h es w o e = ap (asked h w) (sym e ∙ sym (at_once-is h.settings es w))
+
+-- the open requests of before, which are not due
+stay : (c : Configuration) (es : List Event) (w : WantValue) → 1 ≤ c.target
+    → map (settle c (items c es) (time es)) (filter (stays (Ask w)) (state_of c es).slots) ≡ (state_of c es).slots
+stay c es w low =
+    ap (map (settle c (items c es) (time es))) (all_stay (Ask w) (state_of c es).slots (λ s. refl))
+    ∙ same_slots c (items c es) (time es) (state_of c es).slots (idle c es low)
+
+asked-next : (channel : ℕ) (c : Configuration) (es : List Event) (w : WantValue) (o : Option Reply) → 1 ≤ c.target → answer_of c (state_of c es) w ≡ o
+    → with_reply (home channel c (state_of c es)) o (wanted_of c w) ≡ home channel c (next c (state_of c es) (Ask w))
+asked-next channel c es w o low e =
+    by_wanted o (wanted_of c w)
+    ∙ ap (λ x. finish (slot_by c x (state_of c es) (wanted_of c w))) (sym e)
+    ∙ ap (λ ss. finish_on ss (slot_by c (answer_of c (state_of c es) w) (state_of c es) (wanted_of c w))) (sym (stay c es w low))
+  where
+    before : List Slot
+    before = (state_of c es).slots
+    finish_on : List Slot → List Slot → Home
+    finish_on old more = record (home channel c (state_of c es)) { asks = (state_of c es).asks + 1; slots = old ++ more; events = (state_of c es).events + 1 }
+    finish : List Slot → Home
+    finish more = finish_on before more
+    by_wanted : (o : Option Reply) (a : Option Wanted) → with_reply (home channel c (state_of c es)) o a ≡ finish (slot_by c o (state_of c es) a)
+    by_wanted (Some reply) a = ap (λ ss. record (with_answer (home channel c (state_of c es))) { slots = ss }) (sym (append-nil before))
+    by_wanted None (Some a) = refl
+    by_wanted None None = ap (λ ss. record (with_answer (home channel c (state_of c es))) { slots = ss }) (sym (append-nil before))
+
+pub asked-stands : (h new : Home) (es : List Event) (w : WantValue) (o : Option Reply) → Stands h es → 1 ≤ h.settings.target
+    → answer_of h.settings (of h es) w ≡ o → new ≡ with_reply h o (wanted_of h.settings w) → Stands new (es ++ Ask w ∷ [])
+asked-stands h new es w o stands low e is =
+    let whole : new ≡ home h.channel h.settings (next h.settings (of h es) (Ask w)) =
+    is ∙ ap (λ x. with_reply x o (wanted_of h.settings w)) stands ∙ asked-next h.channel h.settings es w o low e in
+    let settings : new.settings ≡ h.settings = ap (λ (x : Home). x.settings) whole in
+    let channel : new.channel ≡ h.channel = ap (λ (x : Home). x.channel) whole in
+    stands-by new h.settings es (Ask w) settings (whole ∙ ap (λ n. home n h.settings (next h.settings (of h es) (Ask w))) (sym channel))
+
+-- why it is answered so
+
+pub unknown : (c : Configuration) (s : State) (w : WantValue) → wanted_of c w ≡ None → answer_of c s w ≡ Some now.NotFound
+unknown c s w e = ap (verdict.reply_by c (waiting_in s.slots) s.items) e
+
+abbrev by_cases : Bool → Bool → Bool → Paged → Option Reply
+by_cases there far busy page = cond there (Some (now.Text page)) (cond far (Some now.TooFar) (cond busy (Some now.Busy) None))
+
+known : (c : Configuration) (s : State) (w : WantValue) (a : Wanted) (there far busy : Bool) → wanted_of c w ≡ Some a → is_there c s.items a ≡ there
+    → verdict.far c (own a.rendition s.items) a.awaited ≡ far → nat_le waiting_limit (waiting_in s.slots) ≡ busy
+    → answer_of c s w ≡ by_cases there far busy (page_of c s.items a)
+known c s w a there far busy e t f b =
+    ap (verdict.reply_by c (waiting_in s.slots) s.items) e ∙ ap (λ x. by_cases x (verdict.far c (own a.rendition s.items) a.awaited) (nat_le waiting_limit (waiting_in s.slots)) (page_of c s.items a)) t ∙ ap₂ (λ x y. by_cases there x y (page_of c s.items a)) f b
+
+pub there : (c : Configuration) (s : State) (w : WantValue) (a : Wanted) → wanted_of c w ≡ Some a → is_there c s.items a ≡ true
+    → answer_of c s w ≡ Some (now.Text (page_of c s.items a))
+there c s w a e t = known c s w a true (verdict.far c (own a.rendition s.items) a.awaited) (nat_le waiting_limit (waiting_in s.slots)) e t refl refl
+
+pub too_far : (c : Configuration) (s : State) (w : WantValue) (a : Wanted) → wanted_of c w ≡ Some a → is_there c s.items a ≡ false
+    → verdict.far c (own a.rendition s.items) a.awaited ≡ true → answer_of c s w ≡ Some now.TooFar
+too_far c s w a e t f = known c s w a false true (nat_le waiting_limit (waiting_in s.slots)) e t f refl
+
+pub busy : (c : Configuration) (s : State) (w : WantValue) (a : Wanted) → wanted_of c w ≡ Some a → is_there c s.items a ≡ false
+    → verdict.far c (own a.rendition s.items) a.awaited ≡ false → waiting_limit ≤ waiting_in s.slots → answer_of c s w ≡ Some now.Busy
+busy c s w a e t f many = known c s w a false false true e t f (grind (arith, nat_tests))
+
+pub waits : (c : Configuration) (s : State) (w : WantValue) (a : Wanted) → wanted_of c w ≡ Some a → is_there c s.items a ≡ false
+    → verdict.far c (own a.rendition s.items) a.awaited ≡ false → waiting_in s.slots < waiting_limit → answer_of c s w ≡ None
+waits c s w a e t f few = known c s w a false false false e t f (grind (arith, nat_tests))
+
+-- the page is that of the state
+pub page-is : (h : Home) (es : List Event) (a : Wanted) → Stands h es → page_now h a ≡ page_of h.settings (items h.settings es) a
+page-is h es a stands = ap (λ (x : Home). page_now x a) stands
+
+-- the window of a rendition
+pub window-is : (h : Home) (es : List Event) (r : ℕ) (k : Rendition) → Stands h es → slice_get h.renditions r ≡ Some k
+    → k.window ≡ compact h.settings (own r (items h.settings es))
+window-is h es r k stands e =
+    ap (λ (x : Rendition). x.window) (rendition-got h.settings (items h.settings es) r k (sym (ap (λ (x : Home). slice_get x.renditions r) stands) ∙ e)).1
+
+told-at : {B : Type 0} (h : Home) (es : List Event) (r : ℕ) (k : Rendition) (b : B) (f : Configuration → List Item → B) → Stands h es
+    → slice_get h.renditions r ≡ Some k → ((its : List Item) → k.window ≡ compact k.window.settings its → b ≡ f k.window.settings its)
+    → b ≡ f h.settings (own r (items h.settings es))
+told-at h es r k b f stands got told =
+    let own_items = own r (items h.settings es) in
+    let w = window-is h es r k stands got in
+    let same : k.window.settings ≡ h.settings = ap (λ (x : Compact). x.settings) w in
+    told own_items (w ∙ ap (λ d. compact d own_items) (sym same)) ∙ ap (λ d. f d own_items) same
+
+-- what a rendition tells is what the events tell
+pub told-there : (h : Home) (es : List Event) (a : Wanted) (k : Rendition) (b : Bool) → Stands h es → slice_get h.renditions a.rendition ≡ Some k
+    → ((its : List Item) → k.window ≡ compact k.window.settings its → b ≡ (verdict.holds k.window.settings its a.awaited || ended its))
+    → b ≡ is_there h.settings (items h.settings es) a
+unfolding is_there
+told-there h es a k b stands got told = told-at h es a.rendition k b (λ c its. verdict.holds c its a.awaited || ended its) stands got told
+
+pub told-far : (h : Home) (es : List Event) (a : Wanted) (k : Rendition) (b : Bool) → Stands h es → slice_get h.renditions a.rendition ≡ Some k
+    → ((its : List Item) → k.window ≡ compact k.window.settings its → b ≡ verdict.far k.window.settings its a.awaited)
+    → b ≡ verdict.far h.settings (own a.rendition (items h.settings es)) a.awaited
+told-far h es a k b stands got told = told-at h es a.rendition k b (λ c its. verdict.far c its a.awaited) stands got told
+
+pub got-at : (h i : Home) (r : ℕ) (k : Rendition) → i ≡ h → r < length h.renditions → k ≡ slice_index_or i.renditions r k → slice_get h.renditions r ≡ Some k
+got-at h i r k e within at =
+    ap (λ (x : Home). slice_get x.renditions r) (sym e)
+    ∙ slice_get_read i.renditions (length i.renditions) r k refl (subst (λ (x : Home). r < length x.renditions) (sym e) within) at
+
+pub low : (h i : Home) → i ≡ h → 1 ≤ i.settings.target → 1 ≤ h.settings.target
+low h i e n = subst (λ (x : Home). 1 ≤ x.settings.target) e n
+
+-- no ticket of an open request is the next one
+pub newest-held : (h i new : Home) (a : Wanted) → i ≡ h → AreBelow (i.asks + 1) i.slots → new ≡ with_held h a → less (h.asks + 1) (tickets new) ≡ tickets h
+newest-held h i new a e below is =
+    ap (λ (x : Home). less (h.asks + 1) (tickets x)) is
+    ∙ ap (less (h.asks + 1)) (map-append ticket_in h.slots _)
+    ∙ newest (h.asks + 1) h.slots (subst (λ (x : Home). AreBelow (x.asks + 1) x.slots) e below)
+
+pub few-waiting : (h : Home) (es : List Event) → Stands h es → waiting_in h.slots < waiting_limit → waiting_in (of h es).slots < waiting_limit
+few-waiting h es stands n = subst (λ (x : Home). waiting_in x.slots < waiting_limit) stands n
+
+pub many-waiting : (h : Home) (es : List Event) → Stands h es → waiting_limit ≤ waiting_in h.slots → waiting_limit ≤ waiting_in (of h es).slots
+many-waiting h es stands n = subst (λ (x : Home). waiting_limit ≤ waiting_in x.slots) stands n
+
+pub held-stands : (h new : Home) (es : List Event) (w : WantValue) (a : Wanted) → Stands h es → 1 ≤ h.settings.target → wanted_of h.settings w ≡ Some a
+    → answer_of h.settings (of h es) w ≡ None → new ≡ with_held h a → Stands new (es ++ Ask w ∷ [])
+held-stands h new es w a stands low e none is = asked-stands h new es w None stands low none (is ∙ ap (with_reply h None) (sym e))
