@@ -23,11 +23,14 @@ use Rattle.ll_book.specs.Pages.{PagesOf}
 use Rattle.ll_book.specs.Release.{AreThose, Held, given_if, holder, holders_of, part_comes, released, segment_comes, takes}
 use Rattle.ll_book.specs.Waiting.{AreBelow, ticket_in}
 use Rattle.ll_book.specs.declared.release.Release.{Release}
+use Rattle.ll_book.specs.declared.release.Release.TheVariants as release
 use Rattle.ll_book.proofs.Holding.{release-law}
-use Rattle.ll_room.specs.Freed.{GoOn, HasHolders, HasThose, freed, freed_slots, released_with, releases, releases_at, takes_any}
+use Rattle.ll_room.specs.Coming.{IsComing, changed, pages}
+use Rattle.ll_room.specs.Freed.{AreApart, GoOn, HasHolders, HasThose, freed, freed_slots, new_pages, released_with, releases, releases_at, takes_any, with_item}
 use Rattle.ll_room.specs.Full.{event_end, refusal_at}
 use Rattle.ll_room.specs.Home.{Home}
 use Rattle.ll_room.specs.Kept.{IsCurrent, IsKept}
+use Rattle.ll_room.specs.declared.publish.Coming.{Coming}
 
 -- date ranges that take an item, which leaves the window
 pub ranged : {E : Type 0} (c : Configuration) (before : List Item) (i j : Item) (k : Rendition) (a : Announced) (end : ℕ) (r : Result Unit E)
@@ -101,12 +104,10 @@ silent-slots pages both ss h k = ap (map (freed pages both.1)) (none_freed pages
 
 -- the releases, with holders that were made for them
 
--- two releases of which the second takes none that the first takes
+-- two releases, in turn
+
 abbrev Apart : Release → Release → Type 0
 Apart first second = (s : Slot) → takes first s ≡ true → takes second s ≡ false
-
-abbrev pub ApartOpt : Option Release × Option Release → Type 0
-ApartOpt both = elim both.0 [ None ↦ Unit {0} | Some first ↦ elim both.1 [ None ↦ Unit {0} | Some second ↦ Apart first second ] ]
 
 apart_by : (a : Awaited) (w e : Bool) (n l : ℕ) → (w && (e && part_comes a n l)) ≡ true → (w && (e && segment_comes a n)) ≡ false
 apart_by Nothing true true n l h = refl
@@ -119,15 +120,26 @@ apart_by (Part m p) true true n l h = refl
 apart_by (Part m p) true false n l h = refl
 apart_by (Part m p) false e n l h = refl
 
-apart_at : (o : Option Rendition) (i : Item) → ApartOpt (releases_at o i)
-apart_at None i = tt
-apart_at (Some k) (item.Part r d b true) = λ s h.
-    apart_by s.entry.wanted.awaited (is_waiting s) (s.entry.wanted.rendition == r) k.window.next_number (length k.window.open_parts) h
-apart_at (Some k) (item.Part r d b false) = tt
-apart_at (Some k) (item.Break r) = tt
-apart_at (Some k) (item.End r) = tt
-apart_at (Some k) (item.Range r id attributes) = tt
-apart_at (Some k) (item.Unrange r id) = tt
+its_own : {X : Type 0} (x y : X) → Some x ≡ Some y → x ≡ y
+its_own x y e = cc
+
+none_some : {X : Type 0} (x : X) → None ≡ Some x → ⊥
+none_some x e = true≢false (ap is_none e)
+
+part_apart : (k : Compact) (i : Item) (r n : ℕ) (first second : Release) (s : Slot) → first ≡ release.Part r k.next_number (length k.open_parts)
+    → second ≡ release.Segment r k.next_number → takes first s ≡ true → takes second s ≡ false
+part_apart k i r n first second s e f h =
+    ap (λ w. takes w s) f
+    ∙ apart_by s.entry.wanted.awaited (is_waiting s) (s.entry.wanted.rendition == r) k.next_number (length k.open_parts) (sym (ap (λ w. takes w s) e) ∙ h)
+
+apart_at : (o : Option Rendition) (i : Item) → AreApart (releases_at o i)
+apart_at None i first second s e f h = absurd (none_some first e)
+apart_at (Some k) (item.Part r d b true) first second s e f h = part_apart k.window (item.Part r d b true) r d first second s (sym (its_own _ _ e)) (sym (its_own _ _ f)) h
+apart_at (Some k) (item.Part r d b false) first second s e f h = absurd (none_some second f)
+apart_at (Some k) (item.Break r) first second s e f h = absurd (none_some first e)
+apart_at (Some k) (item.End r) first second s e f h = absurd (none_some second f)
+apart_at (Some k) (item.Range r id attributes) first second s e f h = absurd (none_some first e)
+apart_at (Some k) (item.Unrange r id) first second s e f h = absurd (none_some first e)
 
 second_kept : (pages : PagesOf) (first second : Release) (s : Slot) (b : Bool) → Apart first second → takes first s ≡ b
     → takes second (given_if pages b s) ≡ takes second s
@@ -162,28 +174,28 @@ released-is pages None ss found h = sym (map_same ss)
 released-is pages (Some which) ss None h = absurd h
 released-is pages (Some which) ss (Some held) h = ap (λ hs. released which hs ss) h ∙ release-law.given pages which ss
 
-has_after : (pages : PagesOf) (first second : Option Release) (ss : List Slot) (found : Option Held) → ApartOpt (first, second)
+has_after : (pages : PagesOf) (first second : Option Release) (ss : List Slot) (found : Option Held) → AreApart (first, second)
     → HasHolders pages second ss found → HasHolders pages second (map (freed pages first) ss) found
 has_after pages None second ss found apart h = subst (λ xs. HasHolders pages second xs found) (sym (map_same ss)) h
 has_after pages (Some first) None ss found apart h = h
 has_after pages (Some first) (Some second) ss None apart h = h
-has_after pages (Some first) (Some second) ss (Some held) apart h = h ∙ sym (same_holders pages first second ss apart)
+has_after pages (Some first) (Some second) ss (Some held) apart h = h ∙ sym (same_holders pages first second ss (λ s. apart first second s refl refl))
 
 -- the second release, after the first
-pub has-those-after : (pages : PagesOf) (both : Option Release × Option Release) (ss new : List Slot) (found more : Option Held) → ApartOpt both
+pub has-those-after : (pages : PagesOf) (both : Option Release × Option Release) (ss new : List Slot) (found more : Option Held) → AreApart both
     → HasHolders pages both.0 ss found → HasHolders pages both.1 ss more → new ≡ released_with both.0 found ss → HasThose both.1 more new
 has-those-after pages both ss new found more apart h k e =
     subst (HasThose both.1 more) (sym (e ∙ released-is pages both.0 ss found h))
     (has-those pages both.1 (map (freed pages both.0) ss) more (has_after pages both.0 both.1 ss more apart k))
 
-pub both-released : (pages : PagesOf) (both : Option Release × Option Release) (ss new : List Slot) (found more : Option Held) → ApartOpt both
+pub both-released : (pages : PagesOf) (both : Option Release × Option Release) (ss new : List Slot) (found more : Option Held) → AreApart both
     → HasHolders pages both.0 ss found → HasHolders pages both.1 ss more → new ≡ released_with both.0 found ss
     → released_with both.1 more new ≡ freed_slots pages both ss
 both-released pages both ss new found more apart h k e =
     ap (released_with both.1 more) (e ∙ released-is pages both.0 ss found h)
     ∙ released-is pages both.1 (map (freed pages both.0) ss) more (has_after pages both.0 both.1 ss more apart k)
 
-pub apart : (h : Home) (i : Item) → ApartOpt (releases h i)
+pub apart : (h : Home) (i : Item) → AreApart (releases h i)
 apart h i = apart_at (slice_get h.renditions (rendition_of i)) i
 
 -- what a room keeps true of itself after one more item
@@ -231,3 +243,40 @@ kept-item h shown now kept ss moment_now few k many same is current =
       few = omega (arith, k.few, long);
       counted = omega (arith, few, k.few, k.asked, long);
     }
+
+-- the room after one more item that releases nothing, or of which these are the open requests
+abbrev item_on : List Rendition → List Slot → Home → Home
+item_on kept ss h = record h { renditions = kept; count = h.count + 1; slots = ss; events = h.events + 1 }
+
+pub silent-item : (h now : Home) (kept : List Rendition) (i : Item) → h ≡ now → takes_any (releases now i).0 now.slots ≡ false
+    → takes_any (releases now i).1 now.slots ≡ false → item_on kept h.slots h ≡ with_item now kept i
+silent-item h now kept i e first second =
+    ap (λ (x : Home). item_on kept x.slots x) e
+    ∙ ap (λ ss. item_on kept ss now) (sym (silent-slots (new_pages now kept i) (releases now i) now.slots first second))
+
+pub released-item : (h : Home) (i : Item) (first second : Option Release) (x : Coming) → (first, second) ≡ releases h i → x.rendition ≡ rendition_of i
+    → IsComing h first second x → changed h first second x ≡ with_item h x.renditions.items i
+released-item h i first second x both r is =
+    let made : Moment = record { settings = h.settings; renditions = x.renditions.items; count = h.count + 1 } in
+    let pages_are : pages x ≡ new_pages h x.renditions.items i = ap₂ (λ m q. record { moment = m; rendition = q }) is.shown r in
+    ap₂ (λ p q. item_on x.renditions.items (freed_slots p q h.slots) h) pages_are both
+
+-- the room that takes over what was made is kept true
+pub kept-change : (h : Home) (shown : Option Moment) (first second : Option Release) (x : Coming) (new final : List Slot) → h.events < event_end → IsKept h shown
+    → AreApart (first, second) → IsComing h first second x → new ≡ released_with first x.first h.slots → final ≡ released_with second x.second new
+    → IsKept (item_on x.renditions.items final h) (Some x.shown)
+kept-change h shown first second x new final few k apart is e f =
+    let slots : final ≡ freed_slots (pages x) (first, second) h.slots =
+    f ∙ both-released (pages x) (first, second) h.slots new x.first x.second apart is.has_first is.has_second e in
+    kept-item h shown (Some x.shown) x.renditions.items final x.shown few k is.many (ap (map ticket_in) slots ∙ same-tickets (pages x) (first, second) h.slots)
+    is.shown refl
+
+pub coming-of : (h now : Home) (first second : Option Release) (x : Coming) → h ≡ now → IsComing now first second x → IsComing h first second x
+coming-of h now first second x e is = subst (λ (r : Home). IsComing r first second x) (sym e) is
+
+pub changed-is : (h now : Home) (first second : Option Release) (x : Coming) (new final : List Slot) → h ≡ now → AreApart (first, second)
+    → IsComing h first second x → new ≡ released_with first x.first h.slots → final ≡ released_with second x.second new
+    → item_on x.renditions.items final h ≡ changed now first second x
+changed-is h now first second x new final e apart is f g =
+    ap (λ ss. item_on x.renditions.items ss h) (g ∙ both-released (pages x) (first, second) h.slots new x.first x.second apart is.has_first is.has_second f)
+    ∙ ap (λ (r : Home). changed r first second x) e
