@@ -1,16 +1,15 @@
 -- A room that takes one more item stands for its events and that one.
-use Rattle.std.proofs.Common.{◌≡◌, ℕ, zero, suc, ◌+◌, ◌≤◌, ◌<◌, List, [], ◌∷◌, ◌++◌, Bool, true, false, cond, nat_lt, Option, Some, None, is_none, refl, ap, ap₂, sym, subst, ◌∙◌, true≢false, filter, map, length, length-append, append-nil, arith}
+use Rattle.std.proofs.Common.{◌≡◌, ℕ, zero, suc, ◌+◌, ◌≤◌, List, [], ◌∷◌, ◌++◌, Bool, true, false, cond, nat_lt, Option, Some, None, is_none, refl, ap, ap₂, sym, ◌∙◌, true≢false, filter, map, length, length-append, append-nil, arith}
 use Rattle.std.specs.Prelude.{slice_get, option_map}
 use Rattle.std.proofs.lemmas.Bool.Decides.{nat_tests}
 use Rattle.ll_item.specs.Items.{rendition_of}
 use Rattle.ll_item.specs.Settings.{Configuration}
 use Rattle.ll_item.specs.declared.item.Item.{Item}
-use Rattle.ll_page.specs.Page.{Paged}
 use Rattle.ll_page.specs.View.{kept, renditions}
 use Rattle.ll_page.specs.declared.rendition.Rendition.{Rendition}
 use Rattle.ll_page.proofs.RenditionLemmas.{length-renditions, rendition-got}
 use Rattle.ll_range.specs.Announced as range
-use Rattle.ll_window.specs.Compact.{Compact, compact}
+use Rattle.ll_window.specs.Compact.{compact}
 use Rattle.ll_window.specs.Refusal as window
 use Rattle.ll_window.specs.Segments.{ended, own}
 use Rattle.ll_window.specs.declared.window.PushFault.{PushFault}
@@ -24,7 +23,7 @@ use Rattle.ll_verdict.specs.declared.fault.PublishFault.{PublishFault}
 use Rattle.ll_verdict.specs.declared.fault.PublishFault.TheVariants.{NoRendition}
 use Rattle.ll_verdict.specs.declared.wanted.Wanted.{Wanted}
 use Rattle.ll_book.specs.Pages.{PagesOf, page_in}
-use Rattle.ll_room.specs.Freed.{GoOn, first_release, freed_slots, new_pages, releases, releases_at, second_release, with_item}
+use Rattle.ll_room.specs.Freed.{GoOn, first_release, freed_slots, releases_at, second_release, with_item}
 use Rattle.ll_room.specs.Full.{full_by, is_full, refusal_after, refusal_at, refusal_by, refusal_of}
 use Rattle.ll_room.specs.Home.{Home, Stands, home}
 use Rattle.ll_room.proofs.FreedLemmas.{each_freed}

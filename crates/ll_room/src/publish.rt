@@ -35,7 +35,9 @@ impl Room {
         ensures same { IsSame self.old self.new }
         ensures unchanged { OnErr result (self.new ≡ self.old) }
     {
-        self.test(&item)?;
+        if let Err(fault) = self.test(&item) {
+            return Err(fault);
+        }
         match self.accept(item) {
             Ok(accepted) => Ok(accepted),
             Err(AllocError) => Err(PublishFault::Memory),
@@ -67,12 +69,28 @@ impl Room {
     {
         let stamp = Stamp::Publish(item.copy()?);
         let (first, second) = self.releases(&item);
-        if takes_any(&self.book, first) || takes_any(&self.book, second) {
-            self.accept_and_release(item, first, second)?;
-        } else {
-            self.accept_silently(item)?;
-        }
+        self.take_in(item, first, second)?;
         Ok(Stamped::new(self.channel, stamp, self.count))
+    }
+
+    /// Takes an item in, with these releases.
+    fn take_in(
+        &mut self,
+        item: Item,
+        first: Option<Release>,
+        second: Option<Release>,
+    ) -> Result<(), AllocError>
+        requires allowed { refusal_by self.old item ≡ None }
+        requires releases { (first, second) ≡ spec.releases self.old item }
+        ensures goes_on { OnOk result (GoOn self.old.renditions self.new.renditions item) }
+        ensures accepted { OnOk result (self.new ≡ with_item self.old self.new.renditions item) }
+        ensures unchanged { OnErr result (self.new ≡ self.old) }
+    {
+        if takes_any(&self.book, first) || takes_any(&self.book, second) {
+            self.accept_and_release(item, first, second)
+        } else {
+            self.accept_silently(item)
+        }
     }
 
     /// The releases that an item brings.
