@@ -6,9 +6,7 @@ use Rattle.std.proofs.lemmas.Bool.Decides.{nat_tests}
 use Rattle.ll_item.specs.Settings.{Configuration}
 use Rattle.ll_item.specs.declared.item.Item.{Item}
 use Rattle.ll_directive.specs.Targets.{WantValue}
-use Rattle.ll_directive.specs.declared.want.Awaited.{Awaited}
 use Rattle.ll_page.specs.Page.{Paged}
-use Rattle.ll_page.specs.View.{kept, renditions}
 use Rattle.ll_page.specs.declared.rendition.Rendition.{Rendition}
 use Rattle.ll_page.proofs.RenditionLemmas.{rendition-got}
 use Rattle.ll_window.specs.Compact.{Compact, compact}
@@ -61,10 +59,13 @@ asked-next channel c es w o low e =
   where
     before : List Slot
     before = (state_of c es).slots
+
     finish_on : List Slot → List Slot → Home
     finish_on old more = record (home channel c (state_of c es)) { asks = (state_of c es).asks + 1; slots = old ++ more; events = (state_of c es).events + 1 }
+
     finish : List Slot → Home
     finish more = finish_on before more
+
     by_wanted : (o : Option Reply) (a : Option Wanted) → with_reply (home channel c (state_of c es)) o a ≡ finish (slot_by c o (state_of c es) a)
     by_wanted (Some reply) a = ap (λ ss. record (with_answer (home channel c (state_of c es))) { slots = ss }) (sym (append-nil before))
     by_wanted None (Some a) = refl

@@ -170,14 +170,14 @@ waiting-freed : (pages : PagesOf) (first second : Option Release) (e : Entry) (t
     → frees_opt first e.wanted ≡ f → frees_opt second e.wanted ≡ g → there ≡ (f || g) → late ≡ false
     → (there ≡ true → page ≡ page_in pages e.wanted.form)
     → slot e (cond (there || late) (Some (cond there (Text page) Timeout)) None) ≡ freed pages second (freed pages first (slot e None))
-waiting-freed pages first second e there late true g page d h is no p =
+waiting-freed pages first second e there late true g page d h is early p =
     ap₂ (λ t q. slot e (cond (t || late) (Some (cond t (Text q) Timeout)) None)) is (p is)
     ∙ sym (ap (freed pages second) (freed-waiting pages first e true d) ∙ freed-ready pages second e (Text (page_in pages e.wanted.form)))
-waiting-freed pages first second e there late false true page d h is no p =
+waiting-freed pages first second e there late false true page d h is early p =
     ap₂ (λ t q. slot e (cond (t || late) (Some (cond t (Text q) Timeout)) None)) is (p is)
     ∙ sym (ap (freed pages second) (freed-waiting pages first e false d) ∙ freed-waiting pages second e true h)
-waiting-freed pages first second e there late false false page d h is no p =
-    ap₂ (λ t l. slot e (cond (t || l) (Some (cond t (Text page) Timeout)) None)) is no
+waiting-freed pages first second e there late false false page d h is early p =
+    ap₂ (λ t l. slot e (cond (t || l) (Some (cond t (Text page) Timeout)) None)) is early
     ∙ sym (ap (freed pages second) (freed-waiting pages first e false d) ∙ freed-waiting pages second e false h)
 
 -- a request that waits and is not due

@@ -1,11 +1,11 @@
 -- After an event no open request is left that would settle: those that could have settled with it, and a new one is not due yet.
-use Rattle.std.proofs.Common.{◌≡◌, ℕ, ◌+◌, ◌*◌, ◌≤◌, List, [], ◌∷◌, ◌++◌, Bool, true, false, ◌&&◌, ◌||◌, cond, nat_le, Option, Some, None, is_none, length, refl, ap, ap₂, ◌∙◌, sym, subst, true≢false, filter, map, arith}
+use Rattle.std.proofs.Common.{◌≡◌, ℕ, ◌+◌, ◌*◌, ◌≤◌, List, [], ◌∷◌, Bool, true, false, ◌&&◌, ◌||◌, cond, nat_le, Option, Some, None, is_none, length, refl, ap, ap₂, sym, subst, true≢false, filter, map, arith}
 use Rattle.std.proofs.lemmas.Bool.Decides.{nat_tests}
 use Rattle.ll_item.specs.Settings.{Configuration}
 use Rattle.ll_item.specs.declared.item.Item.{Item}
 use Rattle.ll_verdict.specs.Events.{Event, Publish, Ask, Collect, Close, Clock, items, time, taken, later}
 use Rattle.ll_verdict.specs.State.{State, state_of, settle, stays, new_slots, slot_by, answer_of, next, waiting_in}
-use Rattle.ll_verdict.specs.Verdict.{wanted_of, is_there, reply_by, reply_now, reply_with}
+use Rattle.ll_verdict.specs.Verdict.{wanted_of, is_there, reply_by, reply_with}
 use Rattle.ll_verdict.specs.declared.entry.Slot.{Slot}
 use Rattle.ll_verdict.specs.declared.reply.Reply.{Reply}
 use Rattle.ll_verdict.specs.declared.reply.Settled.{Settled}
@@ -45,9 +45,11 @@ born_idle : (c : Configuration) (st : State) (n : ℕ) (o : Option Reply) (a : O
     → reply_by c n st.items a ≡ o → Each (Idle c st.items st.time) (slot_by c o st a)
 born_idle c st n (Some reply) a low h = tt
 born_idle c st n None None low h = tt
-born_idle c st n None (Some a) low h =
-    (ap₂ (λ there due. record { entry = record { ticket = st.asks + 1; wanted = a; seen = length st.items; deadline = st.time + 3000 * c.target }; settled = cond (there || due) (Some (reply_with c st.items a)) None })
-    (unanswered (is_there c st.items a) _ _ h) (not_due st.time c.target low), tt)
+born_idle c st n None (Some a) low h = (
+  ap₂ (λ there due. record { entry = record { ticket = st.asks + 1; wanted = a; seen = length st.items; deadline = st.time + 3000 * c.target }; settled = cond (there || due) (Some (reply_with c st.items a)) None })
+      (unanswered (is_there c st.items a) _ _ h) (not_due st.time c.target low),
+  tt,
+)
 
 new_idle : (c : Configuration) (st : State) (e : Event) → 1 ≤ c.target → Each (Idle c (taken c st.items e) (later st.time e)) (new_slots c st e)
 new_idle c st (Publish item) low = tt

@@ -1,10 +1,10 @@
 -- What a room keeps true of itself, after held requests were collected, closed or timed out.
-use Rattle.std.proofs.Common.{◌≡◌, not, ◌||◌, ◌==◌, true≢false, ◌≤◌, ◌<◌, ℕ, ◌+◌, ◌^◌, List, [], ◌∷◌, Bool, true, false, cond, Option, Some, None, length, filter, map, refl, ap, ◌∙◌, sym, subst, suc, arith}
+use Rattle.std.proofs.Common.{◌≡◌, not, ◌||◌, ◌==◌, true≢false, ◌≤◌, ◌<◌, ℕ, ◌+◌, ◌^◌, List, [], ◌∷◌, Bool, true, false, cond, Option, length, filter, map, refl, ap, ◌∙◌, sym, subst, suc, arith}
 use Rattle.std.specs.List.{list_any}
 use Rattle.ll_page.specs.Page.{Moment}
 use Rattle.ll_verdict.specs.declared.entry.Slot.{Slot}
 use Rattle.ll_book.specs.Release.{expired, is_over, over_if}
-use Rattle.ll_book.specs.Waiting.{AreBelow, without, without_ready, has_ticket, is_ready_at}
+use Rattle.ll_book.specs.Waiting.{AreBelow, without, has_ticket}
 use Rattle.ll_room.specs.Home.{Home}
 use Rattle.ll_room.specs.Kept.{IsKept}
 
@@ -46,16 +46,16 @@ pub clock-kept : (h : Home) (shown : Option Moment) (time : ℕ) (slots : List S
 clock-kept h shown time slots k room early e =
     let long : length slots ≡ length h.slots = ap length e ∙ long_expired time h.slots in
     record {
-    current = k.current;
-    target = k.target;
-    each = k.each;
-    accepted = omega (arith, k.accepted);
-    asked = omega (arith, k.asked);
-    early = early;
-    below = subst (AreBelow (h.asks + 1)) (sym e) (below_expired time (h.asks + 1) h.slots k.below);
-    few = omega (arith, long, k.few);
-    counted = clock_counted h.events (length slots) room (omega (arith, long, k.few, k.asked));
-}
+      current = k.current;
+      target = k.target;
+      each = k.each;
+      accepted = omega (arith, k.accepted);
+      asked = omega (arith, k.asked);
+      early = early;
+      below = subst (AreBelow (h.asks + 1)) (sym e) (below_expired time (h.asks + 1) h.slots k.below);
+      few = omega (arith, long, k.few);
+      counted = clock_counted h.events (length slots) room (omega (arith, long, k.few, k.asked));
+    }
 
 -- a request that leaves
 
@@ -76,16 +76,16 @@ pub leave-kept : (h : Home) (shown : Option Moment) (t : ℕ) (slots : List Slot
 leave-kept h shown t slots k e there =
     let fewer : length slots < length h.slots = subst (λ ss. length ss < length h.slots) (sym e) (lost t h.slots there) in
     record {
-    current = k.current;
-    target = k.target;
-    each = k.each;
-    accepted = omega (arith, k.accepted);
-    asked = omega (arith, k.asked);
-    early = k.early;
-    below = subst (AreBelow (h.asks + 1)) (sym e) (below-filter (λ s. not (has_ticket t s)) (h.asks + 1) h.slots k.below);
-    few = omega (arith, fewer, k.few);
-    counted = omega (arith, fewer, k.counted);
-}
+      current = k.current;
+      target = k.target;
+      each = k.each;
+      accepted = omega (arith, k.accepted);
+      asked = omega (arith, k.asked);
+      early = k.early;
+      below = subst (AreBelow (h.asks + 1)) (sym e) (below-filter (λ s. not (has_ticket t s)) (h.asks + 1) h.slots k.below);
+      few = omega (arith, fewer, k.few);
+      counted = omega (arith, fewer, k.counted);
+    }
 
 -- where none leaves
 pub same-kept : (h : Home) (shown : Option Moment) (slots : List Slot) → IsKept h shown → slots ≡ h.slots → IsKept (record h { slots = slots }) shown

@@ -1,3 +1,4 @@
+pub mod AcceptLemmas
 pub mod AskLemmas
 pub mod FreedLemmas
 pub mod IdleLemmas

@@ -1,10 +1,15 @@
 -- What one more item makes of what is kept of the renditions.
-use Rattle.std.proofs.Common.{◌≡◌, ℕ, ◌<◌, List, [], ◌∷◌, ◌++◌, true, false, None, Some, ap, ap₂, sym, ◌∙◌, length, arith}
-use Rattle.std.specs.Prelude.{Result, Ok, Err, OnOk, slice_get, slice_set, nat_lt}
+use Rattle.std.proofs.Common.{◌≡◌, ℕ, zero, suc, ◌+◌, ◌<◌, ◌==◌, List, [], ◌∷◌, ◌++◌, Bool, true, false, ◌&&◌, ◌||◌, cond, Option, None, Some, is_none, refl, ap, ap₂, sym, subst, ◌∙◌, true≢false, filter, map, length, arith}
+use Rattle.std.specs.Prelude.{Result, Ok, Err, OnOk, slice_get, slice_set}
+use Rattle.std.specs.List.{list_any}
 use Rattle.std.proofs.lemmas.Bool.Decides.{nat_tests}
 use Rattle.ll_item.specs.Items.{is_about_ranges, rendition_of}
 use Rattle.ll_item.specs.Settings.{Configuration}
 use Rattle.ll_item.specs.declared.item.Item.{Item}
+use Rattle.ll_item.specs.declared.item.Item.TheVariants as item
+use Rattle.ll_directive.specs.declared.want.Awaited.{Awaited}
+use Rattle.ll_directive.specs.declared.want.Awaited.TheVariants.{Nothing, Segment, Part}
+use Rattle.ll_page.specs.Page.{Moment}
 use Rattle.ll_page.specs.View.{kept, renditions}
 use Rattle.ll_page.specs.declared.rendition.Rendition.{Rendition}
 use Rattle.ll_page.proofs.RenditionLemmas.{rendition-got, renditions-snoc}
@@ -12,6 +17,20 @@ use Rattle.ll_range.specs.Announced.{Announced, announced}
 use Rattle.ll_window.specs.Compact.{Compact}
 use Rattle.ll_window.specs.Segments.{end_time, own}
 use Rattle.ll_window.proofs.StepLemmas.{silent}
+use Rattle.ll_verdict.specs.State.{is_waiting}
+use Rattle.ll_verdict.specs.declared.entry.Slot.{Slot}
+use Rattle.ll_book.specs.Pages.{PagesOf}
+use Rattle.ll_book.specs.Release.{AreThose, Held, given_if, holder, holders_of, part_comes, released, segment_comes, takes}
+use Rattle.ll_book.specs.Waiting.{AreBelow, ticket_in}
+use Rattle.ll_book.specs.declared.release.Release.{Release}
+use Rattle.ll_book.specs.declared.release.Release.TheVariants as release
+use Rattle.ll_book.proofs.Holding.{release-law}
+use Rattle.ll_room.specs.Coming.{IsComing, changed, pages}
+use Rattle.ll_room.specs.Freed.{AreApart, GoOn, HasHolders, HasThose, freed, freed_slots, new_pages, released_with, releases, releases_at, takes_any, with_item}
+use Rattle.ll_room.specs.Full.{event_end, refusal_at}
+use Rattle.ll_room.specs.Home.{Home}
+use Rattle.ll_room.specs.Kept.{IsCurrent, IsKept}
+use Rattle.ll_room.specs.declared.publish.Coming.{Coming}
 
 -- date ranges that take an item, which leaves the window
 pub ranged : {E : Type 0} (c : Configuration) (before : List Item) (i j : Item) (k : Rendition) (a : Announced) (end : ℕ) (r : Result Unit E)
@@ -35,3 +54,229 @@ goes-on c before i rs at old new (Ok x) whole place stands h =
     let is = h c (own (rendition_of i) before) got.1 in
     let within : rendition_of i < length c.renditions = (let e = got.0 in grind (arith, nat_tests)) in
     ap₂ (λ xs q. slice_set xs q new) whole place ∙ ap (slice_set (renditions c before) (rendition_of i)) is ∙ sym (renditions-snoc c before i within)
+
+-- the same for any items before it
+pub goes-on-all : {E : Type 0} (i : Item) (rs : List Rendition) (at : ℕ) (old new : Rendition) (r : Result Unit E) → at ≡ rendition_of i → slice_get rs at ≡ Some old
+    → ((d : Configuration) (its : List Item) → old ≡ kept d its → OnOk r (new ≡ kept d (its ++ i ∷ [])))
+    → OnOk r (GoOn rs (slice_set rs at new) i)
+goes-on-all {E} i rs at old new (Err e) place stands h = tt
+goes-on-all {E} i rs at old new (Ok x) place stands h = λ c before whole. goes-on {E = E} c before i rs at old new (Ok x) whole place stands h
+
+within-got : (rs : List Rendition) (r : ℕ) (k : Rendition) → slice_get rs r ≡ Some k → r < length rs
+within-got [] r k e = absurd (cc)
+within-got (x ∷ rs) zero k e = omega arith
+within-got (x ∷ rs) (suc r) k e = let h = within-got rs r k e in omega (arith, h)
+
+nowhere_by : (rs : List Rendition) (i : Item) (o : Option Rendition) → slice_get rs (rendition_of i) ≡ o → (rendition_of i < length rs → false ≡ true)
+    → refusal_at o i ≡ None → ⊥
+nowhere_by rs i None e past free = true≢false (sym (ap is_none free))
+nowhere_by rs i (Some k) e past free = true≢false (sym (past (within-got rs (rendition_of i) k e)))
+
+-- an item that nothing refuses is of a rendition that is kept
+pub nowhere : (rs : List Rendition) (n at : ℕ) (i : Item) → at ≡ rendition_of i → n ≡ length rs → (at < n → false ≡ true)
+    → refusal_at (slice_get rs (rendition_of i)) i ≡ None → ⊥
+nowhere rs n at i place many past free =
+    nowhere_by rs i (slice_get rs (rendition_of i)) refl (λ h. past (omega (arith, h, place, many))) free
+
+-- the releases take none of these
+
+none_by : (pages : PagesOf) (which : Release) (s : Slot) (ss : List Slot) (b : Bool) → (b || list_any (takes which) ss) ≡ false
+    → (list_any (takes which) ss ≡ false → map (λ s. given_if pages (takes which s) s) ss ≡ ss)
+    → given_if pages b s ∷ map (λ s. given_if pages (takes which s) s) ss ≡ s ∷ ss
+none_by pages which s ss true h ih = absurd (true≢false h)
+none_by pages which s ss false h ih = ap (λ xs. s ∷ xs) (ih h)
+
+none_given : (pages : PagesOf) (which : Release) (ss : List Slot) → list_any (takes which) ss ≡ false → map (λ s. given_if pages (takes which s) s) ss ≡ ss
+none_given pages which [] h = refl
+none_given pages which (s ∷ ss) h = none_by pages which s ss (takes which s) h (none_given pages which ss)
+
+map_same : (ss : List Slot) → map (λ s. s) ss ≡ ss
+map_same [] = refl
+map_same (s ∷ ss) = ap (λ xs. s ∷ xs) (map_same ss)
+
+none_freed : (pages : PagesOf) (which : Option Release) (ss : List Slot) → takes_any which ss ≡ false → map (freed pages which) ss ≡ ss
+none_freed pages None ss h = map_same ss
+none_freed pages (Some which) ss h = none_given pages which ss h
+
+pub silent-slots : (pages : PagesOf) (both : Option Release × Option Release) (ss : List Slot) → takes_any both.0 ss ≡ false → takes_any both.1 ss ≡ false
+    → freed_slots pages both ss ≡ ss
+silent-slots pages both ss h k = ap (map (freed pages both.1)) (none_freed pages both.0 ss h) ∙ none_freed pages both.1 ss k
+
+-- the releases, with holders that were made for them
+
+-- two releases, in turn
+
+abbrev Apart : Release → Release → Type 0
+Apart first second = (s : Slot) → takes first s ≡ true → takes second s ≡ false
+
+apart_by : (a : Awaited) (w e : Bool) (n l : ℕ) → (w && (e && part_comes a n l)) ≡ true → (w && (e && segment_comes a n)) ≡ false
+apart_by Nothing true true n l h = refl
+apart_by Nothing true false n l h = refl
+apart_by Nothing false e n l h = refl
+apart_by (Segment m) true true n l h = absurd (true≢false (sym h))
+apart_by (Segment m) true false n l h = refl
+apart_by (Segment m) false e n l h = refl
+apart_by (Part m p) true true n l h = refl
+apart_by (Part m p) true false n l h = refl
+apart_by (Part m p) false e n l h = refl
+
+its_own : {X : Type 0} (x y : X) → Some x ≡ Some y → x ≡ y
+its_own x y e = cc
+
+none_some : {X : Type 0} (x : X) → None ≡ Some x → ⊥
+none_some x e = true≢false (ap is_none e)
+
+part_apart : (k : Compact) (i : Item) (r n : ℕ) (first second : Release) (s : Slot) → first ≡ release.Part r k.next_number (length k.open_parts)
+    → second ≡ release.Segment r k.next_number → takes first s ≡ true → takes second s ≡ false
+part_apart k i r n first second s e f h =
+    ap (λ w. takes w s) f
+    ∙ apart_by s.entry.wanted.awaited (is_waiting s) (s.entry.wanted.rendition == r) k.next_number (length k.open_parts) (sym (ap (λ w. takes w s) e) ∙ h)
+
+apart_at : (o : Option Rendition) (i : Item) → AreApart (releases_at o i)
+apart_at None i first second s e f h = absurd (none_some first e)
+apart_at (Some k) (item.Part r d b true) first second s e f h = part_apart k.window (item.Part r d b true) r d first second s (sym (its_own _ _ e)) (sym (its_own _ _ f)) h
+apart_at (Some k) (item.Part r d b false) first second s e f h = absurd (none_some second f)
+apart_at (Some k) (item.Break r) first second s e f h = absurd (none_some first e)
+apart_at (Some k) (item.End r) first second s e f h = absurd (none_some second f)
+apart_at (Some k) (item.Range r id attributes) first second s e f h = absurd (none_some first e)
+apart_at (Some k) (item.Unrange r id) first second s e f h = absurd (none_some first e)
+
+second_kept : (pages : PagesOf) (first second : Release) (s : Slot) (b : Bool) → Apart first second → takes first s ≡ b
+    → takes second (given_if pages b s) ≡ takes second s
+second_kept pages first second s true h e = sym (h s e)
+second_kept pages first second s false h e = refl
+
+same_holder : (pages : PagesOf) (b : Bool) (s : Slot) → holder pages (given_if pages b s) ≡ holder pages s
+same_holder pages true s = refl
+same_holder pages false s = refl
+
+pushed : (pages : PagesOf) (x y : Slot) (xs ys : List Slot) (b c : Bool) → b ≡ c → holder pages x ≡ holder pages y
+    → map (holder pages) xs ≡ map (holder pages) ys → map (holder pages) (cond b (x ∷ xs) xs) ≡ map (holder pages) (cond c (y ∷ ys) ys)
+pushed pages x y xs ys b true e h k = ap (λ t. map (holder pages) (cond t (x ∷ xs) xs)) e ∙ ap₂ (λ z zs. z ∷ zs) h k
+pushed pages x y xs ys b false e h k = ap (λ t. map (holder pages) (cond t (x ∷ xs) xs)) e ∙ k
+
+same_holders : (pages : PagesOf) (first second : Release) (ss : List Slot) → Apart first second
+    → holders_of pages second (map (λ s. given_if pages (takes first s) s) ss) ≡ holders_of pages second ss
+same_holders pages first second [] h = refl
+same_holders pages first second (s ∷ ss) h =
+    pushed pages (given_if pages (takes first s) s) s (filter (takes second) (map (λ s. given_if pages (takes first s) s) ss)) (filter (takes second) ss)
+    (takes second (given_if pages (takes first s) s)) (takes second s) (second_kept pages first second s (takes first s) h refl)
+    (same_holder pages (takes first s) s) (same_holders pages first second ss h)
+
+pub has-those : (pages : PagesOf) (which : Option Release) (ss : List Slot) (found : Option Held) → HasHolders pages which ss found → HasThose which found ss
+has-those pages None ss found h = tt
+has-those pages (Some which) ss None h = h
+has-those pages (Some which) ss (Some held) h = subst (λ hs. AreThose which hs ss) (sym h) (release-law.those pages which ss)
+
+released-is : (pages : PagesOf) (which : Option Release) (ss : List Slot) (found : Option Held) → HasHolders pages which ss found
+    → released_with which found ss ≡ map (freed pages which) ss
+released-is pages None ss found h = sym (map_same ss)
+released-is pages (Some which) ss None h = absurd h
+released-is pages (Some which) ss (Some held) h = ap (λ hs. released which hs ss) h ∙ release-law.given pages which ss
+
+has_after : (pages : PagesOf) (first second : Option Release) (ss : List Slot) (found : Option Held) → AreApart (first, second)
+    → HasHolders pages second ss found → HasHolders pages second (map (freed pages first) ss) found
+has_after pages None second ss found apart h = subst (λ xs. HasHolders pages second xs found) (sym (map_same ss)) h
+has_after pages (Some first) None ss found apart h = h
+has_after pages (Some first) (Some second) ss None apart h = h
+has_after pages (Some first) (Some second) ss (Some held) apart h = h ∙ sym (same_holders pages first second ss (λ s. apart first second s refl refl))
+
+-- the second release, after the first
+pub has-those-after : (pages : PagesOf) (both : Option Release × Option Release) (ss new : List Slot) (found more : Option Held) → AreApart both
+    → HasHolders pages both.0 ss found → HasHolders pages both.1 ss more → new ≡ released_with both.0 found ss → HasThose both.1 more new
+has-those-after pages both ss new found more apart h k e =
+    subst (HasThose both.1 more) (sym (e ∙ released-is pages both.0 ss found h))
+    (has-those pages both.1 (map (freed pages both.0) ss) more (has_after pages both.0 both.1 ss more apart k))
+
+pub both-released : (pages : PagesOf) (both : Option Release × Option Release) (ss new : List Slot) (found more : Option Held) → AreApart both
+    → HasHolders pages both.0 ss found → HasHolders pages both.1 ss more → new ≡ released_with both.0 found ss
+    → released_with both.1 more new ≡ freed_slots pages both ss
+both-released pages both ss new found more apart h k e =
+    ap (released_with both.1 more) (e ∙ released-is pages both.0 ss found h)
+    ∙ released-is pages both.1 (map (freed pages both.0) ss) more (has_after pages both.0 both.1 ss more apart k)
+
+pub apart : (h : Home) (i : Item) → AreApart (releases h i)
+apart h i = apart_at (slice_get h.renditions (rendition_of i)) i
+
+-- what a room keeps true of itself after one more item
+
+given_ticket : (pages : PagesOf) (b : Bool) (s : Slot) → (given_if pages b s).entry.ticket ≡ s.entry.ticket
+given_ticket pages true s = refl
+given_ticket pages false s = refl
+
+freed_ticket : (pages : PagesOf) (which : Option Release) (s : Slot) → (freed pages which s).entry.ticket ≡ s.entry.ticket
+freed_ticket pages None s = refl
+freed_ticket pages (Some which) s = given_ticket pages (takes which s) s
+
+freed_tickets : (pages : PagesOf) (which : Option Release) (ss : List Slot) → map ticket_in (map (freed pages which) ss) ≡ map ticket_in ss
+freed_tickets pages which [] = refl
+freed_tickets pages which (s ∷ ss) = ap₂ (λ t ts. t ∷ ts) (freed_ticket pages which s) (freed_tickets pages which ss)
+
+pub same-tickets : (pages : PagesOf) (both : Option Release × Option Release) (ss : List Slot) → map ticket_in (freed_slots pages both ss) ≡ map ticket_in ss
+same-tickets pages both ss = freed_tickets pages both.1 (map (freed pages both.0) ss) ∙ freed_tickets pages both.0 ss
+
+below_by : (n : ℕ) (xs ys : List Slot) → map ticket_in xs ≡ map ticket_in ys → AreBelow n ys → AreBelow n xs
+below_by n [] ys e h = tt
+below_by n (x ∷ xs) [] e h = absurd (cc)
+below_by n (x ∷ xs) (y ∷ ys) e h =
+    let first : x.entry.ticket ≡ y.entry.ticket = cc in
+    let rest : map ticket_in xs ≡ map ticket_in ys = cc in
+    (subst (λ t. t < n) (sym first) h.0, below_by n xs ys rest h.1)
+
+length_tickets : (ss : List Slot) → length (map ticket_in ss) ≡ length ss
+length_tickets [] = refl
+length_tickets (s ∷ ss) = ap suc (length_tickets ss)
+
+pub kept-item : (h : Home) (shown now : Option Moment) (kept : List Rendition) (ss : List Slot) (moment_now : Moment) → h.events < event_end → IsKept h shown
+    → length kept ≡ length h.renditions → map ticket_in ss ≡ map ticket_in h.slots → moment_now ≡ record { settings = h.settings; renditions = kept; count = h.count + 1 }
+    → IsCurrent moment_now now
+    → IsKept (record h { renditions = kept; count = h.count + 1; slots = ss; events = h.events + 1 }) now
+kept-item h shown now kept ss moment_now few k many same is current =
+    let long : length ss ≡ length h.slots = sym (length_tickets ss) ∙ ap length same ∙ length_tickets h.slots in record {
+      current = subst (λ m. IsCurrent m now) is current;
+      target = k.target;
+      each = many ∙ k.each;
+      accepted = omega (arith, k.accepted);
+      asked = omega (arith, k.asked);
+      early = k.early;
+      below = below_by (h.asks + 1) ss h.slots same k.below;
+      few = omega (arith, k.few, long);
+      counted = omega (arith, few, k.few, k.asked, long);
+    }
+
+-- the room after one more item that releases nothing, or of which these are the open requests
+abbrev item_on : List Rendition → List Slot → Home → Home
+item_on kept ss h = record h { renditions = kept; count = h.count + 1; slots = ss; events = h.events + 1 }
+
+pub silent-item : (h now : Home) (kept : List Rendition) (i : Item) → h ≡ now → takes_any (releases now i).0 now.slots ≡ false
+    → takes_any (releases now i).1 now.slots ≡ false → item_on kept h.slots h ≡ with_item now kept i
+silent-item h now kept i e first second =
+    ap (λ (x : Home). item_on kept x.slots x) e
+    ∙ ap (λ ss. item_on kept ss now) (sym (silent-slots (new_pages now kept i) (releases now i) now.slots first second))
+
+pub released-item : (h : Home) (i : Item) (first second : Option Release) (x : Coming) → (first, second) ≡ releases h i → x.rendition ≡ rendition_of i
+    → IsComing h first second x → changed h first second x ≡ with_item h x.renditions.items i
+released-item h i first second x both r is =
+    let made : Moment = record { settings = h.settings; renditions = x.renditions.items; count = h.count + 1 } in
+    let pages_are : pages x ≡ new_pages h x.renditions.items i = ap₂ (λ m q. record { moment = m; rendition = q }) is.shown r in
+    ap₂ (λ p q. item_on x.renditions.items (freed_slots p q h.slots) h) pages_are both
+
+-- the room that takes over what was made is kept true
+pub kept-change : (h : Home) (shown : Option Moment) (first second : Option Release) (x : Coming) (new final : List Slot) → h.events < event_end → IsKept h shown
+    → AreApart (first, second) → IsComing h first second x → new ≡ released_with first x.first h.slots → final ≡ released_with second x.second new
+    → IsKept (item_on x.renditions.items final h) (Some x.shown)
+kept-change h shown first second x new final few k apart is e f =
+    let slots : final ≡ freed_slots (pages x) (first, second) h.slots =
+    f ∙ both-released (pages x) (first, second) h.slots new x.first x.second apart is.has_first is.has_second e in
+    kept-item h shown (Some x.shown) x.renditions.items final x.shown few k is.many (ap (map ticket_in) slots ∙ same-tickets (pages x) (first, second) h.slots)
+    is.shown refl
+
+pub coming-of : (h now : Home) (first second : Option Release) (x : Coming) → h ≡ now → IsComing now first second x → IsComing h first second x
+coming-of h now first second x e is = subst (λ (r : Home). IsComing r first second x) (sym e) is
+
+pub changed-is : (h now : Home) (first second : Option Release) (x : Coming) (new final : List Slot) → h ≡ now → AreApart (first, second)
+    → IsComing h first second x → new ≡ released_with first x.first h.slots → final ≡ released_with second x.second new
+    → item_on x.renditions.items final h ≡ changed now first second x
+changed-is h now first second x new final e apart is f g =
+    ap (λ ss. item_on x.renditions.items ss h) (g ∙ both-released (pages x) (first, second) h.slots new x.first x.second apart is.has_first is.has_second f)
+    ∙ ap (λ (r : Home). changed r first second x) e

@@ -1,5 +1,5 @@
 -- What a room keeps true of itself when requests come.
-use Rattle.std.proofs.Common.{◌≡◌, ℕ, ◌+◌, ◌<◌, ◌≤◌, ◌^◌, List, [], ◌∷◌, ◌++◌, None, true, cond, filter, map, not, false, ◌==◌, refl, ap, ap₂, sym, subst, ◌∙◌, length, length-append, arith}
+use Rattle.std.proofs.Common.{◌≡◌, ℕ, ◌+◌, ◌<◌, ◌≤◌, List, [], ◌∷◌, ◌++◌, None, true, cond, filter, map, not, false, ◌==◌, ap, sym, subst, ◌∙◌, length, length-append, arith}
 use Rattle.std.proofs.lemmas.Bool.Decides.{nat_tests}
 use Rattle.ll_item.specs.Settings.{Configuration}
 use Rattle.ll_page.specs.View.{renditions}
@@ -11,7 +11,7 @@ use Rattle.ll_verdict.specs.declared.entry.Slot.{Slot}
 use Rattle.ll_book.specs.Waiting.{AreBelow, ticket_in}
 use Rattle.ll_room.specs.Full.{event_end}
 use Rattle.ll_room.specs.Home.{Home, less}
-use Rattle.ll_room.specs.Kept.{IsKept, with_answer, with_held}
+use Rattle.ll_room.specs.Kept.{IsKept, with_answer}
 use Rattle.std.specs.Prelude.{Option}
 
 pub below-more : (a b : ℕ) (ss : List Slot) → a ≤ b → AreBelow a ss → AreBelow b ss

@@ -1,5 +1,5 @@
 -- One more event: the room stands for the events before it and this one.
-use Rattle.std.proofs.Common.{◌≡◌, ℕ, List, [], ◌∷◌, ◌++◌, Bool, true, cond, refl, ap, ◌∙◌, sym, filter}
+use Rattle.std.proofs.Common.{◌≡◌, List, [], ◌∷◌, ◌++◌, Bool, true, cond, refl, ap, ◌∙◌, sym, filter}
 use Rattle.ll_item.specs.Settings.{Configuration}
 use Rattle.ll_verdict.specs.Events.{Event}
 use Rattle.ll_verdict.specs.State.{state_of, stays, next}

@@ -7,7 +7,6 @@ use Rattle.ll_verdict.specs.Verdict.{reply_of}
 use Rattle.ll_verdict.specs.declared.reply.Reply.{Reply}
 use Rattle.ll_verdict.specs.declared.reply.Settled.{Settled}
 use Rattle.ll_room.specs.Home.{Home, less}
-use Rattle.ll_room.specs.Mark.{Mark}
 use Rattle.ll_room.specs.Ticket.{Ticket}
 use Rattle.ll_room.specs.declared.asked.Asked.{Asked}
 use Rattle.ll_room.specs.declared.asked.Asked.TheVariants.{Now, Held}

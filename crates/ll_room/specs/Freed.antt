@@ -43,6 +43,10 @@ releases_at (Some kept) i = (first_release kept.window i, second_release kept.wi
 abbrev pub releases : Home → Item → Option Release × Option Release
 releases h i = releases_at (slice_get h.renditions (rendition_of i)) i
 
+-- two releases of which the second takes none that the first takes
+abbrev pub AreApart : Option Release × Option Release → Type 0
+AreApart both = (first second : Release) (s : Slot) → both.0 ≡ Some first → both.1 ≡ Some second → takes first s ≡ true → takes second s ≡ false
+
 -- whether a release, where there is one, takes any of these
 abbrev pub takes_any : Option Release → List Slot → Bool
 takes_any None slots = false

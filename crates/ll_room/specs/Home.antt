@@ -1,5 +1,5 @@
 -- What is kept of a channel in place of its events.
-use Rattle.std.specs.Prelude.{◌≡◌, ℕ, List, Option, filter, find, is_some, length, map, not, ◌==◌}
+use Rattle.std.specs.Prelude.{◌≡◌, ℕ, List, filter, length, map, not, ◌==◌}
 use Rattle.ll_item.specs.Settings.{Configuration}
 use Rattle.ll_page.specs.View.{renditions}
 use Rattle.ll_page.specs.declared.rendition.Rendition.{Rendition}

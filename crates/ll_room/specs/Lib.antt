@@ -1,4 +1,5 @@
 pub mod Answers
+pub mod Coming
 pub mod Freed
 pub mod Full
 pub mod Home

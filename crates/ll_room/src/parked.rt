@@ -1,5 +1,7 @@
-ghost use Rattle.std.specs.Prelude.{◌≡◌};
+ghost use Rattle.std.specs.Prelude.{◌≡◌, IfErr, OnOk, false, true};
+ghost use Rattle.ll_room.specs.Answers.{is_open};
 
+use crate::room::Room;
 use std::marker::Model;
 
 /// The one value that stands for an open request of a room: who holds it is owed the reply. It can't be made twice, nor let go:
@@ -57,5 +59,17 @@ impl Parked {
             channel: _,
             ticket: _,
         } = self;
+    }
+
+    /// Gives it back to its room, where its request is no longer open; any other is handed back.
+    pub fn return_to(self, room: &Room) -> Result<(), Parked>
+        ensures spent { OnOk result ((self.channel ≡ room.now.channel) × (is_open room.now self.ticket ≡ false)) }
+        ensures handed_back { IfErr result (λ p. (p ≡ self) × (p.channel ≡ room.now.channel → is_open room.now p.ticket ≡ true)) }
+    {
+        if self.channel != room.channel() || room.is_open(self.ticket) {
+            return Err(self);
+        }
+        self.spend();
+        Ok(())
     }
 }

@@ -3,9 +3,10 @@ ghost use Rattle.std.specs.Prelude.{◌≡◌, ◌≢◌, ◌+◌, ◌<◌, ◌+
 ghost use Rattle.ll_item.specs.Items.{rendition_of};
 ghost use Rattle.ll_item.specs.declared.item.Item.{Item};
 ghost use Rattle.ll_verdict.specs.Events.{Event, Publish};
-ghost use Rattle.ll_room.specs.Freed.{GoOn, with_item};
+ghost use Rattle.ll_room.specs.Freed.{AreApart, GoOn, with_item};
+ghost use Rattle.ll_room.specs.Coming.{IsComing, changed};
 ghost use Rattle.ll_room.specs.Freed as spec;
-ghost use Rattle.ll_room.specs.Full.{refusal_after, refusal_at, refusal_by};
+ghost use Rattle.ll_room.specs.Full.{event_end, refusal_after, refusal_at, refusal_by};
 ghost use Rattle.ll_room.specs.Home.{IsSame, Stands, tickets};
 ghost use Rattle.ll_room.specs.declared.stamped.Stamp.TheVariants as stamp;
 
@@ -13,7 +14,7 @@ use crate::release::{first_release, holders, release, second_release, takes_any}
 use crate::rendition::{accept, test};
 use crate::room::{EVENT_END, Room};
 use crate::stamped::{Stamp, Stamped};
-use ll_book::{Pages, Release};
+use ll_book::{Holders, Pages, Release};
 use ll_item::Item;
 use ll_page::{Rendition, Shown};
 use ll_verdict::PublishFault;
@@ -34,7 +35,9 @@ impl Room {
         ensures same { IsSame self.old self.new }
         ensures unchanged { OnErr result (self.new ≡ self.old) }
     {
-        self.test(&item)?;
+        if let Err(fault) = self.test(&item) {
+            return Err(fault);
+        }
         match self.accept(item) {
             Ok(accepted) => Ok(accepted),
             Err(AllocError) => Err(PublishFault::Memory),
@@ -66,12 +69,28 @@ impl Room {
     {
         let stamp = Stamp::Publish(item.copy()?);
         let (first, second) = self.releases(&item);
-        if takes_any(&self.book, first) || takes_any(&self.book, second) {
-            self.accept_and_release(item, first, second)?;
-        } else {
-            self.accept_silently(item)?;
-        }
+        self.take_in(item, first, second)?;
         Ok(Stamped::new(self.channel, stamp, self.count))
+    }
+
+    /// Takes an item in, with these releases.
+    fn take_in(
+        &mut self,
+        item: Item,
+        first: Option<Release>,
+        second: Option<Release>,
+    ) -> Result<(), AllocError>
+        requires allowed { refusal_by self.old item ≡ None }
+        requires releases { (first, second) ≡ spec.releases self.old item }
+        ensures goes_on { OnOk result (GoOn self.old.renditions self.new.renditions item) }
+        ensures accepted { OnOk result (self.new ≡ with_item self.old self.new.renditions item) }
+        ensures unchanged { OnErr result (self.new ≡ self.old) }
+    {
+        if takes_any(&self.book, first) || takes_any(&self.book, second) {
+            self.accept_and_release(item, first, second)
+        } else {
+            self.accept_silently(item)
+        }
     }
 
     /// The releases that an item brings.
@@ -103,8 +122,7 @@ impl Room {
         Ok(())
     }
 
-    /// Accepts an item and makes these releases. What will be kept is made first, as a copy, and so are the texts and their holders; what
-    /// comes after that takes no memory.
+    /// Accepts an item and makes these releases.
     fn accept_and_release(
         &mut self,
         item: Item,
@@ -117,21 +135,66 @@ impl Room {
         ensures accepted { OnOk result (self.new ≡ with_item self.old self.new.renditions item) }
         ensures unchanged { OnErr result (self.new ≡ self.old) }
     {
+        let coming = self.prepare(item, first, second)?;
+        self.change(coming, first, second);
+        Ok(())
+    }
+
+    /// Makes all that an item and these releases need, and changes nothing. It fails only where no memory is found.
+    fn prepare(
+        &self,
+        item: Item,
+        first: Option<Release>,
+        second: Option<Release>,
+    ) -> Result<Coming, AllocError>
+        requires { refusal_by self.now item ≡ None }
+        ensures goes_on { IfOk result (λ x. GoOn self.now.renditions x.renditions.items item) }
+        ensures rendition { IfOk result (λ x. x.rendition ≡ rendition_of item) }
+        ensures coming { IfOk result (λ x. IsComing self.now first second x) }
+    {
         let rendition = item.rendition();
         let mut renditions = copied(self.alloc, &self.renditions)?;
         accept_at(&mut renditions, item)?;
         let shown = Shown::of(self.alloc, &self.settings, &renditions, self.count + 1)?;
         let mut pages = Pages::new(shown.again()?, rendition).unwrap();
-        let first_holders = holders(&self.book, self.alloc, first, &mut pages)?;
-        let second_holders = holders(&self.book, self.alloc, second, &mut pages)?;
-        self.renditions = renditions;
-        self.shown = Some(shown);
+        Ok(Coming {
+            rendition,
+            renditions,
+            shown,
+            first: holders(&self.book, self.alloc, first, &mut pages)?,
+            second: holders(&self.book, self.alloc, second, &mut pages)?,
+        })
+    }
+
+    /// Takes over what was made, and makes these releases. It takes no memory.
+    fn change(&mut self, coming: Coming, first: Option<Release>, second: Option<Release>)
+        requires few { self.old.events < event_end }
+        requires apart { AreApart (first, second) }
+        requires coming { IsComing self.old first second coming }
+        ensures { self.new ≡ changed self.old first second coming }
+    {
+        self.renditions = coming.renditions;
+        self.shown = Some(coming.shown);
         self.count += 1;
         self.events += 1;
-        release(&mut self.book, first, first_holders);
-        release(&mut self.book, second, second_holders);
-        Ok(())
+        release(&mut self.book, first, coming.first);
+        release(&mut self.book, second, coming.second);
     }
+}
+
+/// What an item and its releases need, made before anything changes.
+#[derive(Drop)]
+struct Coming {
+    /// The index of the item's rendition.
+    rendition: usize,
+    /// What will be kept of each rendition.
+    renditions: Vec<Rendition>,
+    /// The channel with the item.
+    shown: Shown,
+    /// The holders of the first release.
+    first: Option<Holders>,
+    /// The holders of the second release.
+    second: Option<Holders>,
 }
 
 /// Adds an item to what is kept of its rendition.

@@ -3,6 +3,7 @@ ghost use Rattle.std.specs.Prelude.{◌≡◌, ◌++◌, [], IfOk};
 ghost use Rattle.ll_page.specs.View as view;
 ghost use Rattle.ll_book.specs.Waiting as waiting;
 ghost use Rattle.ll_verdict.specs.State.{state_of};
+ghost use Rattle.ll_room.specs.Answers.{is_open};
 ghost use Rattle.ll_room.specs.Home.{home};
 ghost use Rattle.ll_room.specs.Kept.{moment};
 
@@ -118,6 +119,13 @@ impl Room {
         ensures { result ≡ waiting.first_ready self.now.slots }
     {
         self.book.first_ready()
+    }
+
+    /// Whether a request is open under this ticket.
+    pub(crate) fn is_open(&self, ticket: u64) -> bool
+        ensures { result ≡ is_open self.now ticket }
+    {
+        self.book.find(ticket).is_some()
     }
 
     /// The channel as it is now, as one copy that any number of pages share. It fails only where no memory is found.

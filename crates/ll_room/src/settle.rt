@@ -81,8 +81,9 @@ impl Room {
         if self.events >= EVENT_END {
             return Err(ClockFault::RecordFull);
         }
-        self.time = self.time.max(ms);
-        self.book.expire(self.time);
+        let now = self.time.max(ms);
+        self.time = now;
+        self.book.expire(now);
         self.events += 1;
         Ok(())
     }

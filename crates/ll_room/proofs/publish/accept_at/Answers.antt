@@ -1,18 +1,16 @@
-use Rattle.std.proofs.Common.{rules, ◌≡◌, ◌≢◌, ◌+◌, ◌<◌, ◌++◌, ◌∷◌, [], List, IfOk, IfErr, IsErrOf, OnOk, OnErr, MatchResult, None, Some, length, slice_get, false, ℕ, ◌-◌, ◌*◌, ◌≤◌, ◌/◌, ◌%◌, Bool, true, nat_eq, nat_lt, slice_index_or, slice_set, bit_and, bit_or, Fits, w8, w32, w64, Bor, MutBor}
-use Rattle.ll_item.specs.Items.{rendition_of}
-use Rattle.ll_item.specs.declared.item.Item.{Item}
-use Rattle.ll_verdict.specs.Events.{Event, Publish}
-use Rattle.ll_room.specs.Freed.{GoOn, with_item}
-use Rattle.ll_room.specs.Freed as spec
-use Rattle.ll_room.specs.Full.{refusal_after, refusal_at, refusal_by}
-use Rattle.ll_room.specs.Home.{IsSame, Stands, tickets}
-use Rattle.ll_room.specs.declared.stamped.Stamp.TheVariants as stamp
+-- What is kept of the item's rendition goes on, and so does what is kept of all.
+use Rattle.std.proofs.Common.{refl}
+use Rattle.std.proofs.lemmas.Option.{slice_get_read}
+use Rattle.ll_room.proofs.PublishLemmas.{goes-on-all, nowhere}
 use Rattle.ll_room.proofs.publish.accept_at.Goals as goal
 
--- src/publish.rt:138:1
 pub returns-in-Some-clause-goes_on : goal.returns-in-Some-clause-goes_on
-returns-in-Some-clause-goes_on c = ?
+returns-in-Some-clause-goes_on c =
+    let v = c.args.renditions.now in
+    goes-on-all c.args.item v.items c.rendition.result c.in-Some.kept.now c.accept.new.kept c.accept.result c.rendition.ensures
+    (slice_get_read v.items _ c.rendition.result c.in-Some.kept.now v.ok.0 (c.in-Some.ensures.variant.0 refl) c.in-Some.ensures.value) c.accept.ensures.accepted
 
--- src/publish.rt:138:1
 pub returns-in-None-clause-goes_on : goal.returns-in-None-clause-goes_on
-returns-in-None-clause-goes_on c = ?
+returns-in-None-clause-goes_on c =
+    let v = c.args.renditions.now in
+    absurd (nowhere v.items v.len c.rendition.result c.args.item c.rendition.ensures v.ok.0 c.in-None.ensures.variant.1 c.requires)

@@ -1,14 +1,8 @@
-use Rattle.std.proofs.Common.{rules, ◌≡◌, ◌≢◌, ◌+◌, ◌<◌, ◌++◌, ◌∷◌, [], List, IfOk, IfErr, IsErrOf, OnOk, OnErr, MatchResult, None, Some, length, slice_get, false, ℕ, ◌-◌, ◌*◌, ◌≤◌, ◌/◌, ◌%◌, Bool, true, nat_eq, nat_lt, slice_index_or, slice_set, bit_and, bit_or, Fits, w8, w32, w64, Bor, MutBor}
-use Rattle.ll_item.specs.Items.{rendition_of}
-use Rattle.ll_item.specs.declared.item.Item.{Item}
-use Rattle.ll_verdict.specs.Events.{Event, Publish}
-use Rattle.ll_room.specs.Freed.{GoOn, with_item}
-use Rattle.ll_room.specs.Freed as spec
-use Rattle.ll_room.specs.Full.{refusal_after, refusal_at, refusal_by}
-use Rattle.ll_room.specs.Home.{IsSame, Stands, tickets}
-use Rattle.ll_room.specs.declared.stamped.Stamp.TheVariants as stamp
+-- The releases take no request, so the open requests stay as they are.
+use Rattle.ll_room.specs.contracts.room.Room.{the_view}
+use Rattle.ll_room.proofs.PublishLemmas.{silent-item}
 use Rattle.ll_room.proofs.room.Room.accept_silently.Goals as goal
 
--- src/publish.rt:91:5
 pub returns-clause-accepted : goal.returns-clause-accepted
-returns-clause-accepted c = ?
+returns-clause-accepted c =
+    silent-item (the_view c.self.inside) c.args.self.now c.accept_at.new.renditions.items c.args.item c.self.view_is c.requires.first c.requires.second

@@ -1,6 +1,5 @@
-use Rattle.std.proofs.Common.{◌≡◌, ◌∙◌, ap, sym, subst, map, is_some, true}
-use Rattle.std.specs.List.{list_any}
-use Rattle.ll_book.specs.Waiting.{has_ticket, ticket_in}
+use Rattle.std.proofs.Common.{◌∙◌, ap, sym, subst, map, is_some}
+use Rattle.ll_book.specs.Waiting.{ticket_in}
 use Rattle.ll_room.specs.Home.{Stands, less}
 use Rattle.ll_room.proofs.KeptLemmas.{leave-kept}
 use Rattle.ll_room.proofs.SettleLemmas.{close-stands, done, fewer, not_done, open-found}

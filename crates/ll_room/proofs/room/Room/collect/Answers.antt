@@ -1,5 +1,5 @@
-use Rattle.std.proofs.Common.{◌≡◌, ◌∙◌, ap, sym, subst, map, is_some, Bool, true, None}
-use Rattle.ll_book.specs.Waiting.{found, reply_at, ticket_in, without}
+use Rattle.std.proofs.Common.{◌≡◌, ◌∙◌, ap, sym, subst, map, is_some, true, None}
+use Rattle.ll_book.specs.Waiting.{found, reply_at, ticket_in}
 use Rattle.ll_room.specs.Home.{Stands, less}
 use Rattle.ll_room.proofs.KeptLemmas.{leave-kept, same-kept}
 use Rattle.ll_room.proofs.SettleLemmas.{collect-stands, fewer, open-found, open-ready, same-home, still, stranger, unready}
@@ -33,8 +33,10 @@ returns-clause-answer c =
     let left : c.take.new.self ≡ c.self.inside.book = c.take.ensures.left ∙ unready c.ticket-ticket.result c.self.inside.book none in
     let there = sym (open-found c.ticket-ticket.result c.self.inside.book) ∙ ap (λ ss. is_some (found c.ticket-ticket.result ss)) (sym left) ∙ sym (ap is_some c.find.ensures) in
     let here = sym c.channel.ensures ∙ c.if-channel-self.false in
-    elim c.match-find.branch [ in-Some-find w ↦ w.result-is ∙ still _ c.args.self.now c.args.parked c.ticket-ticket.result c.self.view_is here c.ticket-ticket.ensures none (there ∙ ap is_some w.in-Some-find.is)
-    | in-None w ↦ w.result-is ∙ stranger _ c.args.self.now c.args.parked c.ticket-ticket.result c.self.view_is here c.ticket-ticket.ensures none (there ∙ ap is_some w.in-None.is) ]
+    elim c.match-find.branch [
+      | in-Some-find w ↦ w.result-is ∙ still _ c.args.self.now c.args.parked c.ticket-ticket.result c.self.view_is here c.ticket-ticket.ensures none (there ∙ ap is_some w.in-Some-find.is)
+      | in-None w ↦ w.result-is ∙ stranger _ c.args.self.now c.args.parked c.ticket-ticket.result c.self.view_is here c.ticket-ticket.ensures none (there ∙ ap is_some w.in-None.is)
+    ]
 
 pub returns-clause-nothing : goal.returns-clause-nothing
 returns-clause-nothing c = λ nothing.

@@ -1,0 +1,156 @@
+-- A room that takes one more item stands for its events and that one.
+use Rattle.std.proofs.Common.{◌≡◌, ℕ, zero, suc, ◌+◌, ◌≤◌, List, [], ◌∷◌, ◌++◌, Bool, true, false, cond, nat_lt, Option, Some, None, is_none, refl, ap, ap₂, sym, ◌∙◌, true≢false, filter, map, length, length-append, append-nil, arith}
+use Rattle.std.specs.Prelude.{slice_get, option_map}
+use Rattle.std.proofs.lemmas.Bool.Decides.{nat_tests}
+use Rattle.ll_item.specs.Items.{rendition_of}
+use Rattle.ll_item.specs.Settings.{Configuration}
+use Rattle.ll_item.specs.declared.item.Item.{Item}
+use Rattle.ll_page.specs.View.{kept, renditions}
+use Rattle.ll_page.specs.declared.rendition.Rendition.{Rendition}
+use Rattle.ll_page.proofs.RenditionLemmas.{length-renditions, rendition-got}
+use Rattle.ll_range.specs.Announced as range
+use Rattle.ll_window.specs.Compact.{compact}
+use Rattle.ll_window.specs.Refusal as window
+use Rattle.ll_window.specs.Segments.{ended, own}
+use Rattle.ll_window.specs.declared.window.PushFault.{PushFault}
+use Rattle.ll_window.proofs.StepLemmas.{refusal_told}
+use Rattle.ll_verdict.specs.Accepted.{first_refusal, of_push, of_range, refusal, rendition_refusal}
+use Rattle.ll_verdict.specs.Events.{Event, Publish, items, time, taken}
+use Rattle.ll_verdict.specs.State.{State, state_of, settle, stays, next}
+use Rattle.ll_verdict.specs.Verdict.{page_of}
+use Rattle.ll_verdict.specs.declared.entry.Slot.{Slot}
+use Rattle.ll_verdict.specs.declared.fault.PublishFault.{PublishFault}
+use Rattle.ll_verdict.specs.declared.fault.PublishFault.TheVariants.{NoRendition}
+use Rattle.ll_verdict.specs.declared.wanted.Wanted.{Wanted}
+use Rattle.ll_book.specs.Pages.{PagesOf, page_in}
+use Rattle.ll_room.specs.Freed.{GoOn, first_release, freed_slots, releases_at, second_release, with_item}
+use Rattle.ll_room.specs.Full.{full_by, is_full, refusal_after, refusal_at, refusal_by, refusal_of}
+use Rattle.ll_room.specs.Home.{Home, Stands, home}
+use Rattle.ll_room.proofs.FreedLemmas.{each_freed}
+use Rattle.ll_room.proofs.IdleLemmas.{idle}
+use Rattle.ll_room.proofs.StandLemmas.{all_stay, stands-by}
+
+-- why an item is refused, told by what is kept
+
+past-got : (rs : List Rendition) (r : ℕ) → slice_get rs r ≡ None → nat_lt r (length rs) ≡ false
+past-got [] r e = grind (arith, nat_tests)
+past-got (x ∷ rs) zero e = absurd (true≢false (sym (ap is_none e)))
+past-got (x ∷ rs) (suc r) e = let h = past-got rs r e in grind (arith, nat_tests, h)
+
+its_refusal : (c : Configuration) (own_items : List Item) (i : Item) → refusal_of (kept c own_items) i ≡ rendition_refusal c own_items i
+unfolding rendition_refusal
+its_refusal c own_items i =
+    ap (λ f. first_refusal (option_map of_push f) (option_map of_range (range.refusal c own_items i)))
+    (sym (refusal_told (compact c own_items) own_items i (window.refusal_after (compact c own_items) i) refl refl))
+
+refusal_as : (c : Configuration) (xs : List Item) (i : Item) (o : Option Rendition) → slice_get (renditions c xs) (rendition_of i) ≡ o
+    → refusal_at o i ≡ refusal c xs i
+refusal_as c xs i None e =
+    let past : nat_lt (rendition_of i) (length c.renditions) ≡ false = ap (nat_lt (rendition_of i)) (sym (length-renditions c xs)) ∙ past-got (renditions c xs) (rendition_of i) e in
+    sym (ap (λ b. cond b (rendition_refusal c (own (rendition_of i) xs) i) (Some NoRendition)) past)
+refusal_as c xs i (Some k) e =
+    let got = rendition-got c xs (rendition_of i) k e in
+    ap (λ q. refusal_of q i) got.1 ∙ its_refusal c (own (rendition_of i) xs) i
+    ∙ sym (ap (λ b. cond b (rendition_refusal c (own (rendition_of i) xs) i) (Some NoRendition)) got.0)
+
+refusal-of-home : (channel : ℕ) (c : Configuration) (es : List Event) (i : Item) → refusal_by (home channel c (state_of c es)) i ≡ refusal_after c es i
+refusal-of-home channel c es i =
+    ap (λ f. first_refusal f (full_by (is_full (length es)))) (refusal_as c (items c es) i (slice_get (renditions c (items c es)) (rendition_of i)) refl)
+
+pub refusal-told : (h : Home) (es : List Event) (i : Item) → Stands h es → refusal_by h i ≡ refusal_after h.settings es i
+refusal-told h es i stands = ap (λ x. refusal_by x i) stands ∙ refusal-of-home h.channel h.settings es i
+
+-- an item that nothing refuses
+
+first_none : (f g : Option PublishFault) → first_refusal f g ≡ None → f ≡ None
+first_none None g e = refl
+first_none (Some f) g e = e
+
+none_mapped : (f : Option PushFault) → option_map of_push f ≡ None → f ≡ None
+none_mapped None e = refl
+none_mapped (Some f) e = absurd (true≢false (sym (ap is_none e)))
+
+goes_on : (b : Bool) (f : Option PushFault) → window.refusal_by b f ≡ None → b ≡ false
+goes_on true f e = absurd (true≢false (sym (ap is_none e)))
+goes_on false f e = refl
+
+not_ended : (c : Configuration) (own_items : List Item) (i : Item) → rendition_refusal c own_items i ≡ None → ended own_items ≡ false
+unfolding rendition_refusal
+not_ended c own_items i e = goes_on (ended own_items) (window.refusal_before_end c own_items i) (none_mapped (window.refusal c own_items i) (first_none _ _ e))
+
+accepted_in : (r : ℕ) (n : ℕ) (f : Option PublishFault) (b : Bool) → nat_lt r n ≡ b → cond b f (Some NoRendition) ≡ None → (nat_lt r n ≡ true) × (f ≡ None)
+accepted_in r n f true e h = (e, h)
+accepted_in r n f false e h = absurd (true≢false (sym (ap is_none h)))
+
+taken_is : (c : Configuration) (xs : List Item) (i : Item) → refusal c xs i ≡ None → taken c xs (Publish i) ≡ xs ++ i ∷ []
+taken_is c xs i e = ap (λ f. cond (is_none f) (xs ++ i ∷ []) xs) e
+
+-- the room after it
+
+some_kept : (rs : List Rendition) (r : ℕ) (o : Option Rendition) → slice_get rs r ≡ o → nat_lt r (length rs) ≡ true → (k : Rendition) × (slice_get rs r ≡ Some k)
+some_kept rs r None e h = absurd (true≢false (sym h ∙ past-got rs r e))
+some_kept rs r (Some k) e h = (k, e)
+
+releases_are : (c : Configuration) (xs : List Item) (i : Item) (k : Rendition) → slice_get (renditions c xs) (rendition_of i) ≡ Some k
+    → releases_at (slice_get (renditions c xs) (rendition_of i)) i
+    ≡ (first_release (compact c (own (rendition_of i) xs)) i, second_release (compact c (own (rendition_of i) xs)) i)
+releases_are c xs i k e =
+    ap (λ o. releases_at o i) e ∙ ap (λ (q : Rendition). (first_release q.window i, second_release q.window i)) (rendition-got c xs (rendition_of i) k e).1
+
+abbrev pages_with : Configuration → List Rendition → ℕ → ℕ → PagesOf
+pages_with c kept_now count rendition = record { moment = record { settings = c; renditions = kept_now; count = count }; rendition = rendition }
+
+its_page : (c : Configuration) (xs : List Item) (i : Item) (w : Wanted) → w.rendition ≡ rendition_of i
+    → page_of c (xs ++ i ∷ []) w ≡ page_in (pages_with c (renditions c (xs ++ i ∷ [])) (length xs + 1) (rendition_of i)) w.form
+its_page c xs i w e =
+    ap₂ (λ n r. page_in (pages_with c (renditions c (xs ++ i ∷ [])) n r) w.form) (length-append xs (i ∷ [])) e
+
+abbrev home_on : ℕ → Configuration → State → List Rendition → ℕ → List Slot → Home
+home_on channel c s kept_now count slots = record {
+  channel = channel;
+  settings = c;
+  renditions = kept_now;
+  count = count;
+  time = s.time;
+  asks = s.asks;
+  slots = slots;
+  events = s.events + 1;
+}
+
+-- the open requests after it
+slots_are : (c : Configuration) (es : List Event) (i : Item) → 1 ≤ c.target → refusal c (items c es) i ≡ None
+    → freed_slots (pages_with c (renditions c (items c es ++ i ∷ [])) (length (items c es) + 1) (rendition_of i))
+    (releases_at (slice_get (renditions c (items c es)) (rendition_of i)) i) (state_of c es).slots
+    ≡ map (settle c (items c es ++ i ∷ []) (time es)) (filter (stays (Publish i)) (state_of c es).slots) ++ []
+slots_are c es i low none =
+    let xs = items c es in
+    let r = rendition_of i in
+    let in_channel = accepted_in r (length c.renditions) (rendition_refusal c (own r xs) i) (nat_lt r (length c.renditions)) refl none in
+    let got = some_kept (renditions c xs) r (slice_get (renditions c xs) r) refl (ap (nat_lt r) (length-renditions c xs) ∙ in_channel.0) in
+    let pages = pages_with c (renditions c (xs ++ i ∷ [])) (length xs + 1) r in
+    ap (λ both. freed_slots pages both (state_of c es).slots) (releases_are c xs i got.0 got.1)
+    ∙ sym (each_freed c xs (time es) i pages (state_of c es).slots (not_ended c (own r xs) i in_channel.1) (its_page c xs i) (idle c es low))
+    ∙ ap (map (settle c (xs ++ i ∷ []) (time es))) (sym (all_stay (Publish i) (state_of c es).slots (λ s. refl)))
+    ∙ sym (append-nil (map (settle c (xs ++ i ∷ []) (time es)) (filter (stays (Publish i)) (state_of c es).slots)))
+
+item-next : (channel : ℕ) (c : Configuration) (es : List Event) (i : Item) (kept_now : List Rendition) → 1 ≤ c.target → refusal c (items c es) i ≡ None
+    → kept_now ≡ renditions c (items c es ++ i ∷ [])
+    → with_item (home channel c (state_of c es)) kept_now i ≡ home channel c (next c (state_of c es) (Publish i))
+item-next channel c es i kept_now low none on =
+    let xs = items c es in
+    let s = state_of c es in
+    let releases_now = releases_at (slice_get (renditions c xs) (rendition_of i)) i in
+    ap (λ ks. home_on channel c s ks (length xs + 1) (freed_slots (pages_with c ks (length xs + 1) (rendition_of i)) releases_now s.slots)) on
+    ∙ ap₂ (home_on channel c s (renditions c (xs ++ i ∷ []))) (sym (length-append xs (i ∷ []))) (slots_are c es i low none)
+    ∙ ap (λ ys. home_on channel c s (renditions c ys) (length ys) (map (settle c ys (time es)) (filter (stays (Publish i)) s.slots) ++ [])) (sym (taken_is c xs i none))
+
+pub publish-stands : (h new : Home) (es : List Event) (i : Item) (kept_now : List Rendition) → Stands h es → 1 ≤ h.settings.target → refusal_by h i ≡ None
+    → GoOn h.renditions kept_now i → new ≡ with_item h kept_now i → Stands new (es ++ Publish i ∷ [])
+publish-stands h new es i kept_now stands low free on is =
+    let c = h.settings in
+    let none : refusal c (items c es) i ≡ None = first_none (refusal c (items c es) i) (full_by (is_full (length es))) (sym (refusal-told h es i stands) ∙ free) in
+    let whole : new ≡ home h.channel c (next c (state_of c es) (Publish i)) =
+    is ∙ ap (λ x. with_item x kept_now i) stands
+    ∙ item-next h.channel c es i kept_now low none (on c (items c es) (ap (λ (x : Home). x.renditions) stands)) in
+    stands-by new c es (Publish i) (ap (λ (x : Home). x.settings) whole)
+    (whole ∙ ap (λ n. home n c (next c (state_of c es) (Publish i))) (sym (ap (λ (x : Home). x.channel) whole)))
