@@ -1,4 +1,5 @@
-pub mod TieLemmas
-pub mod StandLemmas
-pub mod DueLemmas
 pub mod ActLemmas
+pub mod CallLemmas
+pub mod DueLemmas
+pub mod StandLemmas
+pub mod TieLemmas

@@ -1,0 +1,97 @@
+-- What the calls are owed.
+use Rattle.std.proofs.Common.{◌≡◌, ℕ, ◌+◌, ◌<◌, ◌≤◌, ◌==◌, ◌&&◌, List, [], ◌∷◌, ◌++◌, Bool, true, false, Option, Some, None, is_some, option_map, length, refl, ap, ap₂, ◌∙◌, sym, subst, true≢false, find, slice_get, slice_set, arith}
+use Rattle.std.proofs.lemmas.Bool.Decides.{nat_tests}
+use Rattle.std.proofs.lemmas.Option.{slice_get_within}
+use Rattle.ll_book.specs.Waiting.{first_ready}
+use Rattle.ll_verdict.specs.Events.{Collect, Close}
+use Rattle.ll_verdict.specs.declared.reply.Reply.{Reply}
+use Rattle.ll_room.specs.Answers as room
+use Rattle.ll_room.specs.Home.{Home, IsSame, less, tickets}
+use Rattle.ll_room.specs.Mark.{Mark}
+use Rattle.ll_room.specs.Ticket.{Ticket}
+use Rattle.ll_room.specs.declared.asked.Collected.TheVariants.{Got}
+use Rattle.ll_held.specs.Waits.{is_under, parked_of, under, without}
+use Rattle.ll_held.specs.declared.wait.Wait.{Wait}
+use Rattle.ll_world.specs.Kept.{AreTied, Kept, Leads, kept_world}
+use Rattle.ll_world.specs.World.{World, close_at, tick}
+use Rattle.ll_world.specs.declared.answer.Answer.{Answer}
+use Rattle.ll_world.specs.declared.answer.Answer.TheVariants.{Replied}
+use Rattle.ll_world.proofs.ActLemmas.{closes, gave_up, gets, ready_waits, ticked}
+use Rattle.ll_world.proofs.DueLemmas.{find_passes}
+use Rattle.ll_world.proofs.StandLemmas.{GoesOn, still_less}
+use Rattle.ll_world.proofs.TieLemmas.{has_room, none_some, some_is}
+
+abbrev pub kept_of : List Home → List Wait → Option ℕ → Kept
+kept_of rooms waits last = record { rooms = rooms; waits = waits; last_id = last }
+
+none_by : {X : Type 0} (xs : List X) (n i : ℕ) (o : Option X) → slice_get xs i ≡ o → n ≡ length xs → (i < n → false ≡ true) → o ≡ None
+none_by xs n i None e l past = refl
+none_by xs n i (Some x) e l past = absurd (true≢false (sym (past (subst (λ m. i < m) (sym l) (slice_get_within xs i x e)))))
+
+pub none_read : {X : Type 0} (xs : List X) (n i : ℕ) → n ≡ length xs → (i < n → false ≡ true) → slice_get xs i ≡ None
+none_read xs n i l past = none_by xs n i (slice_get xs i) refl l past
+
+equal : (a b : ℕ) → (a == b) ≡ true → a ≡ b
+equal a b h = grind (arith, nat_tests, h)
+
+and_left : (a b : Bool) → (a && b) ≡ true → a ≡ true
+and_left true b h = refl
+and_left false b h = h
+
+and_right : (a b : Bool) → (a && b) ≡ true → b ≡ true
+and_right true b h = h
+and_right false b h = absurd (true≢false (sym h))
+
+parked_by : (i t : ℕ) (p : Ticket) (xs : List Wait) (o : Option Wait) → under i t xs ≡ o → Some p ≡ option_map parked_of o → p ≡ record { channel = i; ticket = t }
+parked_by i t p xs None e f = absurd (none_some p (sym f))
+parked_by i t p xs (Some x) e f =
+    let k : is_under i t x ≡ true = find_passes (is_under i t) x xs e in
+    some_is p (parked_of x) f
+    ∙ ap₂ (λ a b. record { channel = a; ticket = b }) (equal x.place i (and_left (x.place == i) (x.ticket == t) k)) (equal x.ticket t (and_right (x.place == i) (x.ticket == t) k))
+
+-- the value that is taken
+pub parked_is : (i t : ℕ) (p : Ticket) (xs : List Wait) → Some p ≡ option_map parked_of (under i t xs) → p ≡ record { channel = i; ticket = t }
+parked_is i t p xs f = parked_by i t p xs (under i t xs) refl f
+
+pub not_lost : (rooms : List Home) (waits : List Wait) (i t : ℕ) (h : Home) → AreTied rooms waits → slice_get rooms i ≡ Some h → first_ready h.slots ≡ Some t → under i t waits ≡ None → ⊥
+not_lost rooms waits i t h tied at ready lost = true≢false (sym (ready_waits rooms waits i t h tied at ready) ∙ ap is_some lost)
+
+pub not_refused : (rooms : List Home) (waits : List Wait) (i t : ℕ) (h : Home) (p : Ticket) → AreTied rooms waits → slice_get rooms i ≡ Some h → first_ready h.slots ≡ Some t
+    → Some p ≡ option_map parked_of (under i t waits) → room.is_got (room.collected h p) ≡ false → ⊥
+not_refused rooms waits i t h p tied at ready value lost = true≢false (sym (gets rooms waits i t h p tied at ready (parked_is i t p waits value)) ∙ lost)
+
+ticket_is : (i t : ℕ) (p : Ticket) (xs : List Wait) → Some p ≡ option_map parked_of (under i t xs) → p.ticket ≡ t
+ticket_is i t p xs value = ap (λ (p : Ticket). p.ticket) (parked_is i t p xs value)
+
+pub tied_told : (rooms : List Home) (waits waits2 : List Wait) (i t : ℕ) (h h2 : Home) (p : Ticket) → AreTied rooms waits → slice_get rooms i ≡ Some h → IsSame h h2 → GoesOn h h2 (Collect p.ticket)
+    → tickets h2 ≡ less p.ticket (tickets h) → Some p ≡ option_map parked_of (under i t waits) → waits2 ≡ without i t waits → AreTied (slice_set rooms i h2) waits2
+tied_told rooms waits waits2 i t h h2 p tied at same goes fewer value left =
+    subst (λ xs. AreTied (slice_set rooms i h2) xs) (ap (λ n. without i n waits) (ticket_is i t p waits value) ∙ sym left)
+    (still_less rooms waits i p.ticket h h2 (Collect p.ticket) tied at same goes fewer)
+
+pub tied_gave_up : (rooms : List Home) (waits waits2 : List Wait) (i t : ℕ) (h h2 : Home) (p : Ticket) → AreTied rooms waits → slice_get rooms i ≡ Some h → IsSame h h2 → GoesOn h h2 (Close p.ticket)
+    → tickets h2 ≡ less p.ticket (tickets h) → Some p ≡ option_map parked_of (under i t waits) → waits2 ≡ without i t waits → AreTied (slice_set rooms i h2) waits2
+tied_gave_up rooms waits waits2 i t h h2 p tied at same goes fewer value left =
+    subst (λ xs. AreTied (slice_set rooms i h2) xs) (ap (λ n. without i n waits) (ticket_is i t p waits value) ∙ sym left)
+    (still_less rooms waits i p.ticket h h2 (Close p.ticket) tied at same goes fewer)
+
+pub told_due : (rooms : List Home) (waits waits2 : List Wait) (last : Option ℕ) (w : World) (i t : ℕ) (h h2 : Home) (p : Ticket) (m : Mark Reply) (v : Reply) (x : Wait)
+    → kept_of rooms waits last ≡ kept_world w → slice_get rooms i ≡ Some h → IsSame h h2 → GoesOn h h2 (Collect p.ticket) → first_ready h.slots ≡ Some t → Some x ≡ under i t waits
+    → Some p ≡ option_map parked_of (under i t waits) → waits2 ≡ without i t waits → Got m ≡ room.collected h p → v ≡ m.value
+    → Leads (kept_of (slice_set rooms i h2) waits2 last) (Some (Replied x.id v)) w (tick i w)
+told_due rooms waits waits2 last w i t h h2 p m v x e at same goes ready found value left handed is =
+    subst (λ v. Leads (kept_of (slice_set rooms i h2) waits2 last) (Some (Replied x.id v)) w (tick i w)) (sym is)
+    (subst (λ xs. Leads (kept_of (slice_set rooms i h2) xs last) (Some (Replied x.id m.value)) w (tick i w)) (sym left)
+    (ticked (kept_of rooms waits last) w i t h h2 p m x e at same goes (ticket_is i t p waits value) ready (sym found) handed))
+
+pub gave_up_one : (rooms : List Home) (waits waits2 : List Wait) (last : Option ℕ) (w : World) (x : Wait) (h h2 : Home) (p : Ticket)
+    → kept_of rooms waits last ≡ kept_world w → slice_get rooms x.place ≡ Some h → IsSame h h2 → GoesOn h h2 (Close p.ticket)
+    → Some p ≡ option_map parked_of (under x.place x.ticket waits) → waits2 ≡ without x.place x.ticket waits
+    → Leads (kept_of (slice_set rooms x.place h2) waits2 last) None w (close_at w x (slice_get w.channels x.place))
+gave_up_one rooms waits waits2 last w x h h2 p e at same goes value left =
+    subst (λ xs. Leads (kept_of (slice_set rooms x.place h2) xs last) None w (close_at w x (slice_get w.channels x.place))) (sym left)
+    (gave_up (kept_of rooms waits last) w x h h2 p e at same goes (ticket_is x.place x.ticket p waits value))
+
+pub not_stranger : (rooms : List Home) (waits : List Wait) (i t : ℕ) (h : Home) (p : Ticket) → AreTied rooms waits → slice_get rooms i ≡ Some h → is_some (under i t waits) ≡ true
+    → Some p ≡ option_map parked_of (under i t waits) → room.is_done (room.closed h p) ≡ false → ⊥
+not_stranger rooms waits i t h p tied at waiting value lost = true≢false (sym (closes rooms waits i t h p tied at waiting (parked_is i t p waits value)) ∙ lost)
