@@ -95,3 +95,13 @@ gave_up_one rooms waits waits2 last w x h h2 p e at same goes value left =
 pub not_stranger : (rooms : List Home) (waits : List Wait) (i t : ℕ) (h : Home) (p : Ticket) → AreTied rooms waits → slice_get rooms i ≡ Some h → is_some (under i t waits) ≡ true
     → Some p ≡ option_map parked_of (under i t waits) → room.is_done (room.closed h p) ≡ false → ⊥
 not_stranger rooms waits i t h p tied at waiting value lost = true≢false (sym (closes rooms waits i t h p tied at waiting (parked_is i t p waits value)) ∙ lost)
+
+waiting_by : (p : Ticket) (o : Option Wait) → Some p ≡ option_map parked_of o → is_some o ≡ true
+waiting_by p None f = absurd (none_some p (sym f))
+waiting_by p (Some x) f = refl
+
+pub waiting_there : (i t : ℕ) (p : Ticket) (waits : List Wait) → Some p ≡ option_map parked_of (under i t waits) → is_some (under i t waits) ≡ true
+waiting_there i t p waits f = waiting_by p (under i t waits) f
+
+pub no_room : (rooms : List Home) (waits : List Wait) (i t : ℕ) (p : Ticket) → AreTied rooms waits → slice_get rooms i ≡ None → Some p ≡ option_map parked_of (under i t waits) → ⊥
+no_room rooms waits i t p tied at f = has_room rooms waits i t tied at (waiting_there i t p waits f)

@@ -99,11 +99,12 @@ impl Rooms {
         let Some(room) = self.rooms.get_mut(place) else {
             return Ok(None);
         };
-        match room.publish(item) {
-            Ok(count) => Ok(Some(Answer::Accepted(count.into_inner()))),
-            Err(PublishFault::Memory) => Err(AllocError),
-            Err(fault) => Ok(Some(Answer::Refused(fault))),
-        }
+        let count = match room.publish(item) {
+            Ok(count) => count.into_inner(),
+            Err(PublishFault::Memory) => return Err(AllocError),
+            Err(fault) => return Ok(Some(Answer::Refused(fault))),
+        };
+        Ok(Some(Answer::Accepted(count)))
     }
 
     /// Makes a request of the channel at this place, whose reply is told under this number: now, or once it is due. It fails only where
@@ -169,10 +170,10 @@ impl Rooms {
         ensures clocked { (w : World) → self.old ≡ kept_world w → Leads self.new result w (world.clock place ms w) }
     {
         let room = self.rooms.get_mut(place)?;
-        match room.clock(ms) {
-            Ok(()) => None,
-            Err(fault) => Some(Answer::ClockRefused(fault)),
+        if let Err(fault) = room.clock(ms) {
+            return Some(Answer::ClockRefused(fault));
         }
+        None
     }
 
     /// Tells the first reply of the channel at this place that is due; none where nothing is due there.

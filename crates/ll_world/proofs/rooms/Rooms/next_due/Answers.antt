@@ -1,4 +1,4 @@
-use Rattle.std.proofs.Common.{◌≡◌, ◌∙◌, ap, refl, subst, sym, slice_get, Some}
+use Rattle.std.proofs.Common.{◌≡◌, ◌∙◌, ap, refl, subst, sym, slice_set}
 use Rattle.std.proofs.lemmas.Option.{slice_get_read}
 use Rattle.ll_room.specs.Answers.{is_got}
 use Rattle.ll_world.specs.Kept.{Leads}
@@ -16,7 +16,7 @@ returns-in_err-room-clause-told c w e =
 pub returns-in_err-ticket-clause-told : goal.returns-in_err-ticket-clause-told
 returns-in_err-ticket-clause-told c w e =
     let v = c.self.inside.rooms in
-    subst (λ a. Leads _ a w (tick c.args.place w)) (sym c.from_residual-in_err-ticket.ensures)
+    subst (λ a. Leads (kept_of (slice_set v.items c.args.place c.in_ok-room.room.now) c.self.inside.held c.self.inside.last_id) a w (tick c.args.place w)) (sym c.from_residual-in_err-ticket.ensures)
     (idle (kept_of v.items c.self.inside.held c.self.inside.last_id) w c.args.place c.in_ok-room.room.now c.in_ok-room.room.now (c.self.view_is ∙ e)
     (slice_get_read v.items _ c.args.place c.in_ok-room.room.now v.ok.0 (c.in_ok-room.ensures.variant.0 refl) c.in_ok-room.ensures.value) refl (sym c.next_ready.ensures ∙ c.in_err-ticket.was))
 
