@@ -1,5 +1,5 @@
 -- What the calls are owed.
-use Rattle.std.proofs.Common.{◌≡◌, ℕ, ◌+◌, ◌<◌, ◌≤◌, ◌==◌, ◌&&◌, List, [], ◌∷◌, ◌++◌, Bool, true, false, Option, Some, None, is_some, option_map, length, refl, ap, ap₂, ◌∙◌, sym, subst, true≢false, find, slice_get, slice_set, arith}
+use Rattle.std.proofs.Common.{◌≡◌, ℕ, ◌+◌, ◌<◌, ◌≤◌, ◌^◌, ◌==◌, ◌&&◌, List, [], ◌∷◌, ◌++◌, Bool, true, false, Option, Some, None, is_some, option_map, length, refl, ap, ap₂, ◌∙◌, sym, subst, true≢false, find, slice_get, slice_set, arith}
 use Rattle.std.proofs.lemmas.Bool.Decides.{nat_tests}
 use Rattle.std.proofs.lemmas.Option.{slice_get_within}
 use Rattle.ll_book.specs.Waiting.{first_ready}
@@ -9,14 +9,17 @@ use Rattle.ll_room.specs.Answers as room
 use Rattle.ll_room.specs.Home.{Home, IsSame, less, tickets}
 use Rattle.ll_room.specs.Mark.{Mark}
 use Rattle.ll_room.specs.Ticket.{Ticket}
+use Rattle.ll_room.specs.Full.{event_end}
 use Rattle.ll_room.specs.declared.asked.Collected.TheVariants.{Got}
+use Rattle.ll_room.specs.declared.fault.ClockFault.{ClockFault}
+use Rattle.ll_room.specs.declared.fault.ClockFault.TheVariants.{ClockRange, RecordFull}
 use Rattle.ll_held.specs.Waits.{is_under, parked_of, under, without}
 use Rattle.ll_held.specs.declared.wait.Wait.{Wait}
 use Rattle.ll_world.specs.Kept.{AreTied, Kept, Leads, kept_world}
-use Rattle.ll_world.specs.World.{World, close_at, tick}
+use Rattle.ll_world.specs.World.{World, clock, close_at, tick}
 use Rattle.ll_world.specs.declared.answer.Answer.{Answer}
-use Rattle.ll_world.specs.declared.answer.Answer.TheVariants.{Replied}
-use Rattle.ll_world.proofs.ActLemmas.{closes, gave_up, gets, ready_waits, ticked}
+use Rattle.ll_world.specs.declared.answer.Answer.TheVariants.{ClockRefused, Replied}
+use Rattle.ll_world.proofs.ActLemmas.{clock_full, clock_range, closes, gave_up, gets, ready_waits, ticked}
 use Rattle.ll_world.proofs.DueLemmas.{find_passes}
 use Rattle.ll_world.proofs.StandLemmas.{GoesOn, still_less}
 use Rattle.ll_world.proofs.TieLemmas.{has_room, none_some, some_is}
@@ -105,3 +108,12 @@ waiting_there i t p waits f = waiting_by p (under i t waits) f
 
 pub no_room : (rooms : List Home) (waits : List Wait) (i t : ℕ) (p : Ticket) → AreTied rooms waits → slice_get rooms i ≡ None → Some p ≡ option_map parked_of (under i t waits) → ⊥
 no_room rooms waits i t p tied at f = has_room rooms waits i t tied at (waiting_there i t p waits f)
+
+abbrev pub count_is : Mark ℕ → ℕ
+count_is m = m.value
+
+pub clock_refused : (old : Kept) (w : World) (i ms : ℕ) (f : ClockFault) (h h2 : Home) → old ≡ kept_world w → slice_get old.rooms i ≡ Some h → h2 ≡ h
+    → (f ≡ ClockRange → 2 ^ 60 < ms) → (f ≡ RecordFull → (ms ≤ 2 ^ 60) × (event_end ≤ h.events))
+    → Leads (kept_of (slice_set old.rooms i h2) old.waits old.last_id) (Some (ClockRefused f)) w (clock i ms w)
+clock_refused old w i ms ClockRange h h2 e at u range full = clock_range old w i ms h h2 e at u (range refl)
+clock_refused old w i ms RecordFull h h2 e at u range full = clock_full old w i ms h h2 e at u (full refl).0 (full refl).1
