@@ -147,7 +147,7 @@ reply_by : (h : Home) (want : WantValue) (o : Option Reply) → reply_in (room.a
 reply_by h want None = refl
 reply_by h want (Some r) = refl
 
-abbrev Answered : Home → WantValue → Asked → Type 0
+abbrev pub Answered : Home → WantValue → Asked → Type 0
 Answered h want a = (events : List Event) → Stands h events → a ≡ room.asked h want (at_once h.settings (held h.settings events) events want)
 
 reply_here : (i : ℕ) (c : Channel) (h : Home) (want : WantValue) (a : Asked) → h ≡ home_at i c → Answered h want a

@@ -1,14 +1,17 @@
 -- What the calls are owed.
-use Rattle.std.proofs.Common.{◌≡◌, ℕ, ◌+◌, ◌<◌, ◌≤◌, ◌^◌, ◌==◌, ◌&&◌, List, [], ◌∷◌, ◌++◌, Bool, true, false, Option, Some, None, is_some, option_map, length, refl, ap, ap₂, ◌∙◌, sym, subst, true≢false, find, slice_get, slice_set, arith}
+use Rattle.std.proofs.Common.{◌≡◌, ℕ, ◌+◌, ◌<◌, ◌≤◌, ◌^◌, ◌==◌, ◌&&◌, List, [], ◌∷◌, ◌++◌, Bool, true, false, if◌then◌else◌, Option, Some, None, is_some, option_map, length, refl, ap, ap₂, ◌∙◌, sym, subst, true≢false, find, slice_get, slice_set, arith}
+use Rattle.std.specs.Set.{remove_key}
 use Rattle.std.proofs.lemmas.Bool.Decides.{nat_tests}
 use Rattle.std.proofs.lemmas.Option.{slice_get_within}
 use Rattle.ll_book.specs.Waiting.{first_ready}
-use Rattle.ll_verdict.specs.Events.{Collect, Close}
+use Rattle.ll_verdict.specs.Events.{Ask, Collect, Close}
+use Rattle.ll_directive.specs.Targets.{WantValue}
 use Rattle.ll_verdict.specs.declared.reply.Reply.{Reply}
 use Rattle.ll_room.specs.Answers as room
 use Rattle.ll_room.specs.Home.{Home, IsSame, less, tickets}
 use Rattle.ll_room.specs.Mark.{Mark}
 use Rattle.ll_room.specs.Ticket.{Ticket}
+use Rattle.ll_room.specs.declared.asked.Asked.TheVariants.{Held}
 use Rattle.ll_room.specs.Full.{event_end}
 use Rattle.ll_room.specs.declared.asked.Collected.TheVariants.{Got}
 use Rattle.ll_room.specs.declared.fault.ClockFault.{ClockFault}
@@ -16,13 +19,13 @@ use Rattle.ll_room.specs.declared.fault.ClockFault.TheVariants.{ClockRange, Reco
 use Rattle.ll_held.specs.Waits.{is_under, parked_of, under, without}
 use Rattle.ll_held.specs.declared.wait.Wait.{Wait}
 use Rattle.ll_world.specs.Kept.{AreTied, Kept, Leads, kept_world}
-use Rattle.ll_world.specs.World.{World, clock, close_at, tick}
+use Rattle.ll_world.specs.World.{World, ask, clock, close_at, tick}
 use Rattle.ll_world.specs.declared.answer.Answer.{Answer}
 use Rattle.ll_world.specs.declared.answer.Answer.TheVariants.{ClockRefused, Replied}
-use Rattle.ll_world.proofs.ActLemmas.{clock_full, clock_range, closes, gave_up, gets, ready_waits, ticked}
+use Rattle.ll_world.proofs.ActLemmas.{Answered, asked_held, ask_nowhere, held_is, clock_full, clock_range, closes, gave_up, gets, ready_waits, ticked}
 use Rattle.ll_world.proofs.DueLemmas.{find_passes}
-use Rattle.ll_world.proofs.StandLemmas.{GoesOn, still_less}
-use Rattle.ll_world.proofs.TieLemmas.{has_room, none_some, some_is}
+use Rattle.ll_world.proofs.StandLemmas.{GoesOn, still_less, still_more}
+use Rattle.ll_world.proofs.TieLemmas.{get_set, has_room, same_test, none_some, some_is}
 
 abbrev pub kept_of : List Home → List Wait → Option ℕ → Kept
 kept_of rooms waits last = record { rooms = rooms; waits = waits; last_id = last }
@@ -117,3 +120,34 @@ pub clock_refused : (old : Kept) (w : World) (i ms : ℕ) (f : ClockFault) (h h2
     → Leads (kept_of (slice_set old.rooms i h2) old.waits old.last_id) (Some (ClockRefused f)) w (clock i ms w)
 clock_refused old w i ms ClockRange h h2 e at u range full = clock_range old w i ms h h2 e at u (range refl)
 clock_refused old w i ms RecordFull h h2 e at u range full = clock_full old w i ms h h2 e at u (full refl).0 (full refl).1
+
+pub none_left : (xs : List Wait) → None ≡ slice_get xs 0 → xs ≡ []
+none_left [] h = refl
+none_left (x ∷ xs) h = absurd (none_some x h)
+
+shorter_by : (q : Wait → Bool) (x : Wait) (b : Bool) (xs : List Wait) → is_some (if b then Some x else find q xs) ≡ true → (is_some (find q xs) ≡ true → length (remove_key q xs) < length xs)
+    → length (if b then xs else x ∷ remove_key q xs) < length (x ∷ xs)
+shorter_by q x true xs h ih = omega arith
+shorter_by q x false xs h ih = let k : length (remove_key q xs) < length xs = ih h in omega (arith, k)
+
+shorter : (q : Wait → Bool) (xs : List Wait) → is_some (find q xs) ≡ true → length (remove_key q xs) < length xs
+shorter q [] h = absurd (true≢false (sym h))
+shorter q (x ∷ xs) h = shorter_by q x (q x) xs h (shorter q xs)
+
+pub smaller : (xs ys : List Wait) (x : Wait) → ys ≡ without x.place x.ticket xs → is_some (under x.place x.ticket xs) ≡ true → length ys < length xs
+smaller xs ys x e h = subst (λ zs. length zs < length xs) (sym e) (shorter (is_under x.place x.ticket) xs h)
+
+pub tied_held : (rooms : List Home) (waits waits2 : List Wait) (i id : ℕ) (want : WantValue) (p : Ticket) (h h2 : Home) → AreTied rooms waits → slice_get rooms i ≡ Some h → IsSame h h2
+    → GoesOn h h2 (Ask want) → Answered h want (Held p) → tickets h2 ≡ tickets h ++ p.ticket ∷ [] → less p.ticket (tickets h2) ≡ tickets h
+    → waits2 ≡ waits ++ (record { id = id; place = p.channel; ticket = p.ticket }) ∷ [] → AreTied (slice_set rooms i h2) waits2
+tied_held rooms waits waits2 i id want p h h2 tied at same goes answer more back left =
+    subst (λ xs. AreTied (slice_set rooms i h2) xs) (sym left)
+    (subst (λ n. AreTied (slice_set rooms i h2) (waits ++ (record { id = id; place = n; ticket = p.ticket }) ∷ [])) (sym (ap (λ (p : Ticket). p.channel) (held_is rooms waits i h want p tied at answer)))
+    (still_more rooms waits (record { id = id; place = i; ticket = p.ticket }) h h2 (Ask want) tied at same goes more back))
+
+pub held_leads : (rooms : List Home) (waits waits2 : List Wait) (last : Option ℕ) (w : World) (id i : ℕ) (want : WantValue) (p : Ticket) (h h2 : Home) → kept_of rooms waits last ≡ kept_world w → AreTied rooms waits
+    → slice_get rooms i ≡ Some h → IsSame h h2 → GoesOn h h2 (Ask want) → Answered h want (Held p) → h.events < event_end
+    → waits2 ≡ waits ++ (record { id = id; place = p.channel; ticket = p.ticket }) ∷ [] → Leads (kept_of (slice_set rooms i h2) waits2 (Some id)) None w (ask id i want w)
+held_leads rooms waits waits2 last w id i want p h h2 e tied at same goes answer few left =
+    subst (λ xs. Leads (kept_of (slice_set rooms i h2) xs (Some id)) None w (ask id i want w)) (sym left)
+    (asked_held (kept_of rooms waits last) w id i want p h h2 e tied at same goes answer few)

@@ -182,7 +182,7 @@ tickets_more j (y ∷ xs) x = more_by j x y (y.place == j) (filter (is_in j) xs)
 
 -- ---- a room changes
 
-get_set : {X : Type 0} (xs : List X) (i : ℕ) (x y : X) → slice_get xs i ≡ Some x → slice_get (slice_set xs i y) i ≡ Some y
+pub get_set : {X : Type 0} (xs : List X) (i : ℕ) (x y : X) → slice_get xs i ≡ Some x → slice_get (slice_set xs i y) i ≡ Some y
 get_set [] i x y h = absurd (none_some x h)
 get_set (z ∷ xs) zero x y h = refl
 get_set (z ∷ xs) (suc i) x y h = get_set xs i x y h

@@ -101,8 +101,12 @@ impl Rooms {
         };
         let count = match room.publish(item) {
             Ok(count) => count.into_inner(),
-            Err(PublishFault::Memory) => return Err(AllocError),
-            Err(fault) => return Ok(Some(Answer::Refused(fault))),
+            Err(fault) => {
+                if fault == PublishFault::Memory {
+                    return Err(AllocError);
+                }
+                return Ok(Some(Answer::Refused(fault)));
+            }
         };
         Ok(Some(Answer::Accepted(count)))
     }

@@ -1,4 +1,4 @@
-use Rattle.std.proofs.Common.{◌∙◌, refl, subst, sym}
+use Rattle.std.proofs.Common.{◌∙◌, Err, ap, refl, subst, sym}
 use Rattle.std.proofs.lemmas.Option.{slice_get_read}
 use Rattle.ll_verdict.specs.Events.{Clock}
 use Rattle.ll_world.specs.Kept.{Leads}
@@ -22,7 +22,7 @@ returns-in-Err c = record {
       let v = c.self.inside.rooms in
       clock_refused (kept_of v.items c.self.inside.held c.self.inside.last_id) w c.args.place c.args.ms c.in-Err.fault c.in_ok-room.room.now c.clock.new.self (c.self.view_is ∙ e)
       (slice_get_read v.items _ c.args.place c.in_ok-room.room.now v.ok.0 (c.in_ok-room.ensures.variant.0 refl) c.in_ok-room.ensures.value)
-      c.in-Err.ensures.unchanged c.in-Err.ensures.range c.in-Err.ensures.full;
+      c.in-Err.ensures.unchanged (λ k. c.in-Err.ensures.range (ap Err k)) (λ k. c.in-Err.ensures.full (ap Err k));
 }
 
 pub invariant_of-self-2 : goal.invariant_of-self-2
