@@ -340,7 +340,7 @@ found_too : {X : Type 0} (p q : X → Bool) (x : X) (xs : List X) → find p xs 
 found_too p q x [] h k = absurd (none_some x h)
 found_too p q x (y ∷ xs) h k = this_found p q x y (p y) (q y) (find p xs) (find q xs) refl h k (λ f. found_too p q x xs f k)
 
-own_test : (x : Wait) → is_under x.place x.ticket x ≡ true
+pub own_test : (x : Wait) → is_under x.place x.ticket x ≡ true
 own_test x = ap₂ (λ a b. a && b) (same_test x.place) (same_test x.ticket)
 
 -- a request that is found by its number waits under its ticket

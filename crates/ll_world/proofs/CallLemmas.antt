@@ -22,9 +22,9 @@ use Rattle.ll_world.specs.Kept.{AreTied, Kept, Leads, kept_world}
 use Rattle.ll_world.specs.World.{World, ask, clock, close_at, tick}
 use Rattle.ll_world.specs.declared.answer.Answer.{Answer}
 use Rattle.ll_world.specs.declared.answer.Answer.TheVariants.{ClockRefused, Replied}
-use Rattle.ll_world.proofs.ActLemmas.{Answered, asked_held, ask_nowhere, held_is, clock_full, clock_range, closes, gave_up, gets, ready_waits, ticked}
+use Rattle.ll_world.proofs.ActLemmas.{Answered, own_test, asked_held, ask_nowhere, held_is, clock_full, clock_range, closes, gave_up, gets, ready_waits, ticked}
 use Rattle.ll_world.proofs.DueLemmas.{find_passes}
-use Rattle.ll_world.proofs.StandLemmas.{GoesOn, still_less, still_more}
+use Rattle.ll_world.proofs.StandLemmas.{GoesOn, still_back, still_less, still_more}
 use Rattle.ll_world.proofs.TieLemmas.{get_set, has_room, same_test, none_some, some_is}
 
 abbrev pub kept_of : List Home → List Wait → Option ℕ → Kept
@@ -151,3 +151,28 @@ pub held_leads : (rooms : List Home) (waits waits2 : List Wait) (last : Option �
 held_leads rooms waits waits2 last w id i want p h h2 e tied at same goes answer few left =
     subst (λ xs. Leads (kept_of (slice_set rooms i h2) xs (Some id)) None w (ask id i want w)) (sym left)
     (asked_held (kept_of rooms waits last) w id i want p h h2 e tied at same goes answer few)
+
+last_by : (y : Wait) (b : Bool) (o : Option Wait) → is_some o ≡ true → is_some (if b then Some y else o) ≡ true
+last_by y true o h = refl
+last_by y false o h = h
+
+last_waits : (xs : List Wait) (x : Wait) → is_some (under x.place x.ticket (xs ++ x ∷ [])) ≡ true
+last_waits [] x = ap (λ b. is_some (if b then Some x else None)) (own_test x)
+last_waits (y ∷ xs) x = last_by y (is_under x.place x.ticket y) (under x.place x.ticket (xs ++ x ∷ [])) (last_waits xs x)
+
+-- the newest request is open
+pub newest_closes : (rooms : List Home) (waits : List Wait) (i id : ℕ) (want : WantValue) (p q : Ticket) (h h2 : Home) → AreTied rooms waits → slice_get rooms i ≡ Some h → IsSame h h2
+    → GoesOn h h2 (Ask want) → Answered h want (Held p) → tickets h2 ≡ tickets h ++ p.ticket ∷ [] → less p.ticket (tickets h2) ≡ tickets h → q ≡ p
+    → room.is_done (room.closed h2 q) ≡ false → ⊥
+newest_closes rooms waits i id want p q h h2 tied at same goes answer more back e lost =
+    true≢false (sym (closes (slice_set rooms i h2) (waits ++ (record { id = id; place = i; ticket = p.ticket }) ∷ []) i p.ticket h2 q
+    (still_more rooms waits (record { id = id; place = i; ticket = p.ticket }) h h2 (Ask want) tied at same goes more back) (get_set rooms i h h2 at)
+    (last_waits waits (record { id = id; place = i; ticket = p.ticket }))
+    (e ∙ ap (λ n. record { channel = n; ticket = p.ticket }) (ap (λ (p : Ticket). p.channel) (held_is rooms waits i h want p tied at answer)))) ∙ lost)
+
+pub tied_back : (rooms : List Home) (waits waits2 : List Wait) (i : ℕ) (want : WantValue) (p q : Ticket) (h h2 h3 : Home) → AreTied rooms waits → slice_get rooms i ≡ Some h → IsSame h h2
+    → GoesOn h h2 (Ask want) → IsSame h2 h3 → GoesOn h2 h3 (Close q.ticket) → tickets h3 ≡ less q.ticket (tickets h2) → less p.ticket (tickets h2) ≡ tickets h → q ≡ p → waits2 ≡ waits
+    → AreTied (slice_set rooms i h3) waits2
+tied_back rooms waits waits2 i want p q h h2 h3 tied at same goes same2 goes2 fewer back e left =
+    subst (λ xs. AreTied (slice_set rooms i h3) xs) (sym left)
+    (still_back rooms waits i h h2 h3 (Ask want) (Close q.ticket) tied at same goes same2 goes2 (fewer ∙ ap (λ (p : Ticket). less p.ticket (tickets h2)) e ∙ back))

@@ -70,7 +70,22 @@ pub changed : (rooms : List Home) (cs : List Channel) (i : ℕ) (h h2 : Home) (c
 changed rooms cs i h h2 c e are is same goes =
     ap₂ (λ rs k. slice_set rs i k) are (moved i c h h2 e is same goes ∙ ap (λ m. home_at m (with_event e c)) (sym (no_more i))) ∙ homes_set 0 cs i (with_event e c)
 
+pub changed_twice : (rooms : List Home) (cs : List Channel) (i : ℕ) (h h2 h3 : Home) (c : Channel) (e f : Event) → rooms ≡ homes_from 0 cs → h ≡ home_at i c → IsSame h h2 → GoesOn h h2 e
+    → IsSame h2 h3 → GoesOn h2 h3 f → slice_set rooms i h3 ≡ homes_from 0 (slice_set cs i (with_event f (with_event e c)))
+changed_twice rooms cs i h h2 h3 c e f are is same goes same2 goes2 =
+    ap₂ (λ rs k. slice_set rs i k) are
+    (moved i (with_event e c) h2 h3 f (moved i c h h2 e is same goes) same2 goes2 ∙ ap (λ m. home_at m (with_event f (with_event e c))) (sym (no_more i)))
+    ∙ homes_set 0 cs i (with_event f (with_event e c))
+
 -- ---- the tie goes on
+
+-- a room to which one came that leaves again
+pub still_back : (rooms : List Home) (waits : List Wait) (i : ℕ) (h h2 h3 : Home) (e f : Event) → AreTied rooms waits → slice_get rooms i ≡ Some h → IsSame h h2 → GoesOn h h2 e
+    → IsSame h2 h3 → GoesOn h2 h3 f → tickets h3 ≡ tickets h → AreTied (slice_set rooms i h3) waits
+still_back rooms waits i h h2 h3 e f tied at same goes same2 goes2 k =
+    channel_of rooms tied.channels i h tied.rooms_are at (λ d. AreTied (slice_set rooms i h3) waits)
+    (λ c is. tied_same rooms waits i h h3 (slice_set tied.channels i (with_event f (with_event e c))) tied at
+    (changed_twice rooms tied.channels i h h2 h3 c e f tied.rooms_are is same goes same2 goes2) k)
 
 pub still_same : (rooms : List Home) (waits : List Wait) (i : ℕ) (h h2 : Home) (e : Event) → AreTied rooms waits → slice_get rooms i ≡ Some h → IsSame h h2 → GoesOn h h2 e
     → tickets h2 ≡ tickets h → AreTied (slice_set rooms i h2) waits

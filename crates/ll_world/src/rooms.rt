@@ -102,10 +102,8 @@ impl Rooms {
         let count = match room.publish(item) {
             Ok(count) => count.into_inner(),
             Err(fault) => {
-                if fault == PublishFault::Memory {
-                    return Err(AllocError);
-                }
-                return Ok(Some(Answer::Refused(fault)));
+                let answer = refused(fault)?;
+                return Ok(Some(answer));
             }
         };
         Ok(Some(Answer::Accepted(count)))
@@ -217,4 +215,14 @@ impl Rooms {
             }
         }
     }
+}
+
+/// The answer to an item that is refused; a channel that found no memory has no answer.
+fn refused(fault: PublishFault) -> Result<Answer, AllocError>
+    ensures { IfOk result (λ a. (fault ≢ PublishFault.Memory) × (a ≡ Answer.Refused fault)) }
+{
+    if fault == PublishFault::Memory {
+        return Err(AllocError);
+    }
+    Ok(Answer::Refused(fault))
 }

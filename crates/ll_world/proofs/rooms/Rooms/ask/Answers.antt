@@ -1,6 +1,6 @@
-use Rattle.std.proofs.Common.{◌∙◌, Err, Some, ap, refl, slice_set, subst, sym}
+use Rattle.std.proofs.Common.{◌∙◌, ◌++◌, Err, Some, ap, refl, slice_set, subst, sym}
 use Rattle.std.proofs.lemmas.Option.{slice_get_read}
-use Rattle.ll_room.specs.Answers.{others}
+use Rattle.ll_room.specs.Answers.{is_done, new_tickets, others}
 use Rattle.ll_room.specs.Home.{tickets}
 use Rattle.ll_verdict.specs.Events.{Ask}
 use Rattle.ll_world.specs.Kept.{Leads}
@@ -8,7 +8,7 @@ use Rattle.ll_world.specs.World.{ask}
 use Rattle.ll_world.specs.declared.answer.Answer.TheVariants.{Replied}
 use Rattle.ll_world.proofs.ActLemmas.{ask_nowhere, asked_full, asked_now}
 use Rattle.ll_world.proofs.StandLemmas.{still_same}
-use Rattle.ll_world.proofs.CallLemmas.{held_leads, kept_of, none_read, tied_held}
+use Rattle.ll_world.proofs.CallLemmas.{held_leads, kept_of, newest_closes, none_read, tied_back, tied_held}
 use Rattle.ll_world.proofs.rooms.Rooms.ask.Goals as goal
 
 pub returns-in_default : goal.returns-in_default
@@ -30,13 +30,21 @@ invariant_of-self-in-Ok c =
     let v = c.self.inside.rooms in
     tied_held v.items c.self.inside.held c.put.new.self c.args.place c.args.id c.args.want c.in-Ok-Held.parked c.in-Some.room.now c.ask.new.self c.self.invariant
     (slice_get_read v.items _ c.args.place c.in-Some.room.now v.ok.0 (c.in-Some.ensures.variant.0 refl) c.in-Some.ensures.value)
-    c.in-Ok-Held.ensures.same c.in-Ok-Held.ensures.asked (λ events st. sym c.in-Ok-Held.field-0-is ∙ c.in-Ok-Held.ensures.answer events st) c.in-Ok-Held.ensures.opened c.in-Ok-Held.ensures.newest c.in-Ok.ensures.put
+    c.in-Ok-Held.ensures.same c.in-Ok-Held.ensures.asked (λ events st. sym c.in-Ok-Held.field-0-is ∙ c.in-Ok-Held.ensures.answer events st) (c.in-Ok-Held.ensures.opened ∙ ap (λ a. tickets c.in-Some.room.now ++ new_tickets a) c.in-Ok-Held.field-0-is) (ap (λ a. others a (tickets c.ask.new.self)) (sym c.in-Ok-Held.field-0-is) ∙ c.in-Ok-Held.ensures.newest) c.in-Ok.ensures.put
 
 pub unreachable-requires : goal.unreachable-requires
-unreachable-requires c = ?
+unreachable-requires c =
+    let v = c.self.inside.rooms in
+    newest_closes v.items c.self.inside.held c.args.place c.args.id c.args.want c.in-Ok-Held.parked c.in-Err.parked c.in-Some.room.now c.ask.new.self c.self.invariant
+    (slice_get_read v.items _ c.args.place c.in-Some.room.now v.ok.0 (c.in-Some.ensures.variant.0 refl) c.in-Some.ensures.value)
+    c.in-Ok-Held.ensures.same c.in-Ok-Held.ensures.asked (λ events st. sym c.in-Ok-Held.field-0-is ∙ c.in-Ok-Held.ensures.answer events st) (c.in-Ok-Held.ensures.opened ∙ ap (λ a. tickets c.in-Some.room.now ++ new_tickets a) c.in-Ok-Held.field-0-is) (ap (λ a. others a (tickets c.ask.new.self)) (sym c.in-Ok-Held.field-0-is) ∙ c.in-Ok-Held.ensures.newest) c.in-Err.ensures.handed_back.0 (ap is_done (sym c.in-Stranger.ensures.answer))
 
 pub invariant_of-self-in-Err : goal.invariant_of-self-in-Err
-invariant_of-self-in-Err c = ?
+invariant_of-self-in-Err c =
+    let v = c.self.inside.rooms in
+    tied_back v.items c.self.inside.held c.put.new.self c.args.place c.args.want c.in-Ok-Held.parked c.in-Err.parked c.in-Some.room.now c.ask.new.self c.close.new.self c.self.invariant
+    (slice_get_read v.items _ c.args.place c.in-Some.room.now v.ok.0 (c.in-Some.ensures.variant.0 refl) c.in-Some.ensures.value)
+    c.in-Ok-Held.ensures.same c.in-Ok-Held.ensures.asked c.in-Done.ensures.same (c.in-Done.ensures.given_up refl) (c.in-Done.ensures.fewer refl) (ap (λ a. others a (tickets c.ask.new.self)) (sym c.in-Ok-Held.field-0-is) ∙ c.in-Ok-Held.ensures.newest) c.in-Err.ensures.handed_back.0 c.in-Err.ensures.handed_back.1
 
 pub returns-in-Ok-Now : goal.returns-in-Ok-Now
 returns-in-Ok-Now c = record {
