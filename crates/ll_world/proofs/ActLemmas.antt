@@ -1,33 +1,31 @@
 -- What an act does is what the definition says.
-use Rattle.std.proofs.Common.{◌≡◌, ℕ, zero, suc, ◌+◌, ◌<◌, ◌≤◌, ◌^◌, ◌==◌, ◌&&◌, List, [], ◌∷◌, ◌++◌, Bool, true, false, cond, if◌then◌else◌, Option, Some, None, is_none, is_some, option_map, nat_le, length, refl, ap, ap₂, ◌∙◌, sym, subst, true≢false, find, slice_get, slice_set, arith}
+use Rattle.std.proofs.Common.{◌≡◌, ℕ, zero, suc, ◌+◌, ◌<◌, ◌≤◌, ◌^◌, ◌==◌, ◌&&◌, List, [], ◌∷◌, ◌++◌, Bool, true, false, cond, if◌then◌else◌, Option, Some, None, is_some, option_map, nat_le, length, refl, ap, ap₂, ◌∙◌, sym, subst, true≢false, find, slice_get, slice_set, arith}
 use Rattle.std.proofs.lemmas.Bool.Decides.{nat_tests}
 use Rattle.ll_book.specs.Waiting.{first_ready, reply_at, ticket_in}
 use Rattle.ll_directive.specs.Targets.{WantValue}
 use Rattle.ll_item.specs.Settings.{Configuration}
 use Rattle.ll_item.specs.declared.item.Item.{Item}
-use Rattle.ll_verdict.specs.Events.{Event, Publish, Ask, Collect, Close, Clock, items}
+use Rattle.ll_verdict.specs.Events.{Event, Publish, Ask, Collect, Close, Clock}
 use Rattle.ll_verdict.specs.State.{slot_of, state_of}
-use Rattle.ll_verdict.specs.Verdict.{Request, at_once, held, reply, reply_of}
+use Rattle.ll_verdict.specs.Verdict.{Request, at_once, held, reply_of}
 use Rattle.ll_verdict.specs.declared.fault.PublishFault.{PublishFault}
 use Rattle.ll_verdict.specs.declared.reply.Reply.{Reply}
 use Rattle.ll_verdict.specs.declared.reply.Settled.{Settled}
 use Rattle.ll_room.specs.Answers as room
 use Rattle.ll_room.specs.Full.{event_end, is_full, refusal_after}
-use Rattle.ll_room.specs.Home.{Home, IsSame, Stands, home, less, tickets}
+use Rattle.ll_room.specs.Home.{Home, IsSame, Stands, home, tickets}
 use Rattle.ll_room.specs.Mark.{Mark}
 use Rattle.ll_room.specs.Ticket.{Ticket}
 use Rattle.ll_room.specs.declared.asked.Asked.{Asked}
 use Rattle.ll_room.specs.declared.asked.Asked.TheVariants.{Now, Held}
-use Rattle.ll_room.specs.declared.asked.Closed.{Closed}
 use Rattle.ll_room.specs.declared.asked.Closed.TheVariants as given_up
 use Rattle.ll_room.specs.declared.asked.Collected.{Collected}
 use Rattle.ll_room.specs.declared.asked.Collected.TheVariants.{Got, Still, Stranger}
-use Rattle.ll_room.specs.declared.fault.ClockFault.{ClockFault}
 use Rattle.ll_room.specs.declared.fault.ClockFault.TheVariants.{ClockRange, RecordFull}
 use Rattle.ll_held.specs.Waits.{has_id, is_under, under, with_id, without}
 use Rattle.ll_held.specs.declared.wait.Wait.{Wait}
-use Rattle.ll_world.specs.Kept.{AreDistinct, AreTied, Kept, Leads, home_at, homes_from, kept_world, open_in, tickets_at}
-use Rattle.ll_world.specs.World.{Channel, World, with_event, happens, says, waits_less, told, told_to, tick, tick_at, tick_of, first_due, offer, offer_at, offered, ask, ask_at, asked, asked_if, asked_under, close, close_at, close_of, clock, clock_at, clocked, clock_refusal, declare}
+use Rattle.ll_world.specs.Kept.{AreTied, Kept, Leads, home_at, homes_from, kept_world, open_in}
+use Rattle.ll_world.specs.World.{Channel, World, with_event, happens, waits_less, told, told_to, tick, tick_at, tick_of, first_due, offer, offer_at, offered, ask, ask_at, asked, asked_if, asked_under, close, close_at, close_of, clock, clock_at, clocked, declare}
 use Rattle.ll_world.specs.declared.answer.Answer.TheVariants.{Accepted, Refused, ClockRefused, Replied, Unavailable}
 use Rattle.ll_world.proofs.DueLemmas.{first_is, reply_is, ready_open, ready_reply}
 use Rattle.ll_world.proofs.StandLemmas.{GoesOn, changed, channel_of, homes_more, leads, no_channel, no_more, number_is, stands_for, stays}

@@ -1,5 +1,5 @@
 -- What the calls are owed.
-use Rattle.std.proofs.Common.{◌≡◌, ℕ, ◌+◌, ◌<◌, ◌≤◌, ◌^◌, ◌==◌, ◌&&◌, List, [], ◌∷◌, ◌++◌, Bool, true, false, if◌then◌else◌, Option, Some, None, is_some, option_map, length, refl, ap, ap₂, ◌∙◌, sym, subst, true≢false, find, slice_get, slice_set, arith}
+use Rattle.std.proofs.Common.{◌≡◌, ℕ, ◌<◌, ◌≤◌, ◌^◌, ◌==◌, ◌&&◌, List, [], ◌∷◌, ◌++◌, Bool, true, false, if◌then◌else◌, Option, Some, None, is_some, option_map, length, refl, ap, ap₂, ◌∙◌, sym, subst, true≢false, find, slice_get, slice_set, arith}
 use Rattle.std.specs.Set.{remove_key}
 use Rattle.std.proofs.lemmas.Bool.Decides.{nat_tests}
 use Rattle.std.proofs.lemmas.Option.{slice_get_within}
@@ -20,12 +20,11 @@ use Rattle.ll_held.specs.Waits.{is_under, parked_of, under, without}
 use Rattle.ll_held.specs.declared.wait.Wait.{Wait}
 use Rattle.ll_world.specs.Kept.{AreTied, Kept, Leads, kept_world}
 use Rattle.ll_world.specs.World.{World, ask, clock, close_at, tick}
-use Rattle.ll_world.specs.declared.answer.Answer.{Answer}
 use Rattle.ll_world.specs.declared.answer.Answer.TheVariants.{ClockRefused, Replied}
-use Rattle.ll_world.proofs.ActLemmas.{Answered, own_test, asked_held, ask_nowhere, held_is, clock_full, clock_range, closes, gave_up, gets, ready_waits, ticked}
+use Rattle.ll_world.proofs.ActLemmas.{Answered, own_test, asked_held, held_is, clock_full, clock_range, closes, gave_up, gets, ready_waits, ticked}
 use Rattle.ll_world.proofs.DueLemmas.{find_passes}
 use Rattle.ll_world.proofs.StandLemmas.{GoesOn, still_back, still_less, still_more}
-use Rattle.ll_world.proofs.TieLemmas.{get_set, has_room, same_test, none_some, some_is}
+use Rattle.ll_world.proofs.TieLemmas.{get_set, has_room, none_some, some_is}
 
 abbrev pub kept_of : List Home → List Wait → Option ℕ → Kept
 kept_of rooms waits last = record { rooms = rooms; waits = waits; last_id = last }

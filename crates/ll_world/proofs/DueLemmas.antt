@@ -1,14 +1,13 @@
 -- The reply that is due first, in a room and in its events.
-use Rattle.std.proofs.Common.{◌≡◌, ℕ, ◌==◌, ◌&&◌, ◌||◌, List, [], ◌∷◌, Bool, true, false, not, cond, Option, Some, None, is_none, is_some, option_and_then, option_map, refl, ap, ap₂, ◌∙◌, sym, true≢false, find, filter, map, arith}
+use Rattle.std.proofs.Common.{◌≡◌, ℕ, ◌==◌, ◌&&◌, ◌||◌, List, [], ◌∷◌, Bool, true, false, not, cond, Option, Some, None, is_some, option_and_then, option_map, refl, ap, ap₂, ◌∙◌, sym, find, filter, map}
 use Rattle.std.specs.List.{list_any}
-use Rattle.std.proofs.lemmas.Bool.Decides.{nat_tests}
-use Rattle.ll_book.specs.Waiting.{first_ready, has_ticket, is_ready, is_ready_at, reply_at, settled_in, ticket_in}
+use Rattle.ll_book.specs.Waiting.{first_ready, has_ticket, is_ready, reply_at, settled_in, ticket_in}
 use Rattle.ll_item.specs.Settings.{Configuration}
 use Rattle.ll_verdict.specs.Events.{Event}
 use Rattle.ll_verdict.specs.State.{gone, slot_of, state_of}
 use Rattle.ll_verdict.specs.Verdict.{Request, held, reply}
 use Rattle.ll_verdict.specs.declared.entry.Slot.{Slot}
-use Rattle.ll_world.specs.World.{first_due, is_due}
+use Rattle.ll_world.specs.World.{first_due}
 use Rattle.ll_world.proofs.TieLemmas.{none_some, same_test, some_is}
 
 find_by : {X Y : Type 0} (f : X → Y) (q : Y → Bool) (x : X) (a b : Bool) (o : Option X) (ys : List Y) → q (f x) ≡ b → find q ys ≡ option_map f o

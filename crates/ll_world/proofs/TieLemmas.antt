@@ -1,14 +1,12 @@
 -- The open requests of the rooms, and the requests that wait.
-use Rattle.std.proofs.Common.{◌≡◌, ℕ, zero, suc, ◌+◌, ◌<◌, ◌==◌, ◌&&◌, ◌||◌, List, [], ◌∷◌, ◌++◌, Bool, true, false, not, cond, if◌then◌else◌, Option, Some, None, is_none, is_some, option_map, refl, ap, ap₂, ◌∙◌, sym, subst, true≢false, find, filter, map, length, slice_get, slice_set, arith}
+use Rattle.std.proofs.Common.{◌≡◌, ℕ, zero, suc, ◌==◌, ◌&&◌, ◌||◌, List, [], ◌∷◌, ◌++◌, Bool, true, false, not, cond, if◌then◌else◌, Option, Some, None, is_none, is_some, refl, ap, ap₂, ◌∙◌, sym, subst, true≢false, filter, map, slice_get, slice_set, arith}
 use Rattle.std.specs.List.{list_any}
-use Rattle.std.specs.Set.{remove_key}
 use Rattle.std.proofs.lemmas.Bool.Decides.{nat_tests}
-use Rattle.std.proofs.lemmas.Option.{none-some}
 use Rattle.ll_book.specs.Waiting.{has_ticket, ticket_in}
 use Rattle.ll_verdict.specs.declared.entry.Slot.{Slot}
 use Rattle.ll_room.specs.Answers.{is_open}
 use Rattle.ll_room.specs.Home.{Home, less, tickets}
-use Rattle.ll_held.specs.Waits.{is_under, under, without}
+use Rattle.ll_held.specs.Waits.{under, without}
 use Rattle.ll_held.specs.declared.wait.Wait.{Wait}
 use Rattle.ll_world.specs.World.{Channel}
 use Rattle.ll_world.specs.Kept.{AreDistinct, AreTied, homes_from, is_in, open_in, ticket_of, tickets_at}

@@ -1,5 +1,5 @@
 //! The rooms of the channels of a script, and the requests that wait in them.
-ghost use Rattle.std.specs.Prelude.{◌≡◌, ◌<◌, ◌++◌, ◌∷◌, [], ℕ, None, Some, true, IfOk, OnErr, OnOk, MatchOption, is_some, length, slice_get};
+ghost use Rattle.std.specs.Prelude.{◌≢◌, ◌≡◌, ◌<◌, ◌++◌, ◌∷◌, [], ℕ, None, Some, true, IfOk, OnErr, OnOk, MatchOption, is_some, length, slice_get};
 ghost use Rattle.ll_world.specs.Kept.{Leads, kept_world};
 ghost use Rattle.ll_world.specs.World as world;
 ghost use Rattle.ll_world.specs.World.{World, start};

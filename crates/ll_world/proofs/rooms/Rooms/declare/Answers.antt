@@ -1,4 +1,4 @@
-use Rattle.std.proofs.Common.{◌≡◌, ◌∙◌, [], None, ap, subst, sym}
+use Rattle.std.proofs.Common.{◌∙◌, [], None, ap, subst, sym}
 use Rattle.ll_verdict.specs.State.{state_of}
 use Rattle.ll_room.specs.Home.{home}
 use Rattle.ll_world.specs.Kept.{AreTied, Leads}

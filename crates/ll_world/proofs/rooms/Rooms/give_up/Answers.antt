@@ -1,7 +1,7 @@
-use Rattle.std.proofs.Common.{◌≡◌, ◌∙◌, ap, refl, sym}
+use Rattle.std.proofs.Common.{◌∙◌, ap, refl, sym}
 use Rattle.std.proofs.lemmas.Option.{slice_get_read}
 use Rattle.ll_room.specs.Answers.{is_done}
-use Rattle.ll_world.proofs.CallLemmas.{gave_up_one, kept_of, no_room, none_read, not_stranger, tied_gave_up, waiting_there}
+use Rattle.ll_world.proofs.CallLemmas.{gave_up_one, no_room, none_read, not_stranger, tied_gave_up, waiting_there}
 use Rattle.ll_world.proofs.rooms.Rooms.give_up.Goals as goal
 
 pub unreachable-requires-in_default-get_mut : goal.unreachable-requires-in_default-get_mut

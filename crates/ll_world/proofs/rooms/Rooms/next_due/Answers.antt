@@ -1,4 +1,4 @@
-use Rattle.std.proofs.Common.{◌≡◌, ◌∙◌, ap, refl, subst, sym, slice_set}
+use Rattle.std.proofs.Common.{◌∙◌, ap, refl, subst, sym, slice_set}
 use Rattle.std.proofs.lemmas.Option.{slice_get_read}
 use Rattle.ll_room.specs.Answers.{is_got}
 use Rattle.ll_world.specs.Kept.{Leads}

@@ -1,4 +1,4 @@
-use Rattle.std.proofs.Common.{◌∙◌, ◌+◌, Some, ap, refl, slice_set, subst, sym}
+use Rattle.std.proofs.Common.{◌∙◌, Some, ap, refl, slice_set, subst, sym}
 use Rattle.std.proofs.lemmas.Option.{slice_get_read}
 use Rattle.ll_verdict.specs.Events.{Publish}
 use Rattle.ll_world.specs.Kept.{Leads}
@@ -17,10 +17,10 @@ pub returns-in-Err : goal.returns-in-Err
 returns-in-Err c = record {
   offered = λ w e.
       let v = c.self.inside.rooms in
-      subst (λ a. Leads (kept_of (slice_set v.items c.args.place c.publish.new.self) c.self.inside.held c.self.inside.last_id) (Some a) w (offer c.args.place c.args.item w)) (sym c.in_ok-answer.ensures.1)
+      subst (λ a. Leads (kept_of (slice_set v.items c.args.place c.publish.new.self) c.self.inside.held c.self.inside.last_id) (Some a) w (offer c.args.place c.args.item w)) (sym c.in_ok-answer-in-Err.ensures.1)
       (refused (kept_of v.items c.self.inside.held c.self.inside.last_id) w c.args.place c.args.item c.in-Err.fault c.in-Some.room.now c.publish.new.self (c.self.view_is ∙ e)
       (slice_get_read v.items _ c.args.place c.in-Some.room.now v.ok.0 (c.in-Some.ensures.variant.0 refl) c.in-Some.ensures.value)
-      c.in-Err.ensures.unchanged (λ events st. c.in-Err.ensures.refused events st c.in_ok-answer.ensures.0));
+      c.in-Err.ensures.unchanged (λ events st. c.in-Err.ensures.refused events st c.in_ok-answer-in-Err.ensures.0));
   unchanged = tt;
 }
 
