@@ -78,10 +78,10 @@ accepted old w i item n h h2 e at same goes k =
     channel_of old.rooms w.channels i h (rooms_of old w e) at
     (λ d. Leads (record { rooms = slice_set old.rooms i h2; waits = old.waits; last_id = old.last_id }) (Some (Accepted n)) w (offer_at w i item d))
     (λ c is. subst (λ o. Leads (record { rooms = slice_set old.rooms i h2; waits = old.waits; last_id = old.last_id }) (Some (Accepted n)) w (offered w i c item o))
-        (sym (ap (λ s. refusal_after s c.events item) (sym (settings_of i c h is)) ∙ (goes c.events (stands_for i c h is)).0))
-        (leads (slice_set old.rooms i h2) old.waits old.last_id (Some (Accepted n)) w (offered w i c item None)
-        (changed old.rooms w.channels i h h2 c (Publish item) (rooms_of old w e) is same (λ events st. (goes events st).1)) (waits_of old w e) (last_of old w e)
-        (ap (λ m. w.answers ++ Accepted m ∷ []) (sym (k ∙ ap (λ (h : Home). h.count + 1) is)))))
+    (sym (ap (λ s. refusal_after s c.events item) (sym (settings_of i c h is)) ∙ (goes c.events (stands_for i c h is)).0))
+    (leads (slice_set old.rooms i h2) old.waits old.last_id (Some (Accepted n)) w (offered w i c item None)
+    (changed old.rooms w.channels i h h2 c (Publish item) (rooms_of old w e) is same (λ events st. (goes events st).1)) (waits_of old w e) (last_of old w e)
+    (ap (λ m. w.answers ++ Accepted m ∷ []) (sym (k ∙ ap (λ (h : Home). h.count + 1) is)))))
 
 pub refused : (old : Kept) (w : World) (i : ℕ) (item : Item) (f : PublishFault) (h h2 : Home) → old ≡ kept_world w → slice_get old.rooms i ≡ Some h → h2 ≡ h
     → ((events : List Event) → Stands h events → refusal_after h.settings events item ≡ Some f)
@@ -90,9 +90,9 @@ refused old w i item f h h2 e at u why =
     channel_of old.rooms w.channels i h (rooms_of old w e) at
     (λ d. Leads (record { rooms = slice_set old.rooms i h2; waits = old.waits; last_id = old.last_id }) (Some (Refused f)) w (offer_at w i item d))
     (λ c is. subst (λ o. Leads (record { rooms = slice_set old.rooms i h2; waits = old.waits; last_id = old.last_id }) (Some (Refused f)) w (offered w i c item o))
-        (sym (ap (λ s. refusal_after s c.events item) (sym (settings_of i c h is)) ∙ why c.events (stands_for i c h is)))
-        (leads (slice_set old.rooms i h2) old.waits old.last_id (Some (Refused f)) w (offered w i c item (Some f))
-        (unset old.rooms i h h2 at u ∙ rooms_of old w e) (waits_of old w e) (last_of old w e) refl))
+    (sym (ap (λ s. refusal_after s c.events item) (sym (settings_of i c h is)) ∙ why c.events (stands_for i c h is)))
+    (leads (slice_set old.rooms i h2) old.waits old.last_id (Some (Refused f)) w (offered w i c item (Some f))
+    (unset old.rooms i h h2 at u ∙ rooms_of old w e) (waits_of old w e) (last_of old w e) refl))
 
 -- ---- the clock
 
@@ -109,10 +109,10 @@ clocked_on old w i ms h h2 e at same goes near few =
     channel_of old.rooms w.channels i h (rooms_of old w e) at
     (λ d. Leads (record { rooms = slice_set old.rooms i h2; waits = old.waits; last_id = old.last_id }) None w (clock_at w i ms d))
     (λ c is. subst (λ o. Leads (record { rooms = slice_set old.rooms i h2; waits = old.waits; last_id = old.last_id }) None w (clocked w i c ms o))
-        (sym (ap₂ (λ a b. if a then (if b then Some RecordFull else None) else Some ClockRange) (in_range (2 ^ 60) ms near)
-        (ap (λ (h : Home). is_full h.events) (sym is) ∙ out_of_range h.events event_end few)))
-        (leads (slice_set old.rooms i h2) old.waits old.last_id None w (clocked w i c ms None)
-        (changed old.rooms w.channels i h h2 c (Clock ms) (rooms_of old w e) is same goes) (waits_of old w e) (last_of old w e) (stays old w e).answers))
+    (sym (ap₂ (λ a b. if a then (if b then Some RecordFull else None) else Some ClockRange) (in_range (2 ^ 60) ms near)
+    (ap (λ (h : Home). is_full h.events) (sym is) ∙ out_of_range h.events event_end few)))
+    (leads (slice_set old.rooms i h2) old.waits old.last_id None w (clocked w i c ms None)
+    (changed old.rooms w.channels i h h2 c (Clock ms) (rooms_of old w e) is same goes) (waits_of old w e) (last_of old w e) (stays old w e).answers))
 
 pub clock_range : (old : Kept) (w : World) (i ms : ℕ) (h h2 : Home) → old ≡ kept_world w → slice_get old.rooms i ≡ Some h → h2 ≡ h → 2 ^ 60 < ms
     → Leads (record { rooms = slice_set old.rooms i h2; waits = old.waits; last_id = old.last_id }) (Some (ClockRefused ClockRange)) w (clock i ms w)
@@ -120,9 +120,9 @@ clock_range old w i ms h h2 e at u past =
     channel_of old.rooms w.channels i h (rooms_of old w e) at
     (λ d. Leads (record { rooms = slice_set old.rooms i h2; waits = old.waits; last_id = old.last_id }) (Some (ClockRefused ClockRange)) w (clock_at w i ms d))
     (λ c is. subst (λ o. Leads (record { rooms = slice_set old.rooms i h2; waits = old.waits; last_id = old.last_id }) (Some (ClockRefused ClockRange)) w (clocked w i c ms o))
-        (sym (ap (λ a. if a then (if is_full (length c.events) then Some RecordFull else None) else Some ClockRange) (out_of_range (2 ^ 60) ms past)))
-        (leads (slice_set old.rooms i h2) old.waits old.last_id (Some (ClockRefused ClockRange)) w (clocked w i c ms (Some ClockRange))
-        (unset old.rooms i h h2 at u ∙ rooms_of old w e) (waits_of old w e) (last_of old w e) refl))
+    (sym (ap (λ a. if a then (if is_full (length c.events) then Some RecordFull else None) else Some ClockRange) (out_of_range (2 ^ 60) ms past)))
+    (leads (slice_set old.rooms i h2) old.waits old.last_id (Some (ClockRefused ClockRange)) w (clocked w i c ms (Some ClockRange))
+    (unset old.rooms i h h2 at u ∙ rooms_of old w e) (waits_of old w e) (last_of old w e) refl))
 
 pub clock_full : (old : Kept) (w : World) (i ms : ℕ) (h h2 : Home) → old ≡ kept_world w → slice_get old.rooms i ≡ Some h → h2 ≡ h → ms ≤ 2 ^ 60 → event_end ≤ h.events
     → Leads (record { rooms = slice_set old.rooms i h2; waits = old.waits; last_id = old.last_id }) (Some (ClockRefused RecordFull)) w (clock i ms w)
@@ -130,10 +130,10 @@ clock_full old w i ms h h2 e at u near full =
     channel_of old.rooms w.channels i h (rooms_of old w e) at
     (λ d. Leads (record { rooms = slice_set old.rooms i h2; waits = old.waits; last_id = old.last_id }) (Some (ClockRefused RecordFull)) w (clock_at w i ms d))
     (λ c is. subst (λ o. Leads (record { rooms = slice_set old.rooms i h2; waits = old.waits; last_id = old.last_id }) (Some (ClockRefused RecordFull)) w (clocked w i c ms o))
-        (sym (ap₂ (λ a b. if a then (if b then Some RecordFull else None) else Some ClockRange) (in_range (2 ^ 60) ms near)
-        (ap (λ (h : Home). is_full h.events) (sym is) ∙ in_range h.events event_end full)))
-        (leads (slice_set old.rooms i h2) old.waits old.last_id (Some (ClockRefused RecordFull)) w (clocked w i c ms (Some RecordFull))
-        (unset old.rooms i h h2 at u ∙ rooms_of old w e) (waits_of old w e) (last_of old w e) refl))
+    (sym (ap₂ (λ a b. if a then (if b then Some RecordFull else None) else Some ClockRange) (in_range (2 ^ 60) ms near)
+    (ap (λ (h : Home). is_full h.events) (sym is) ∙ in_range h.events event_end full)))
+    (leads (slice_set old.rooms i h2) old.waits old.last_id (Some (ClockRefused RecordFull)) w (clocked w i c ms (Some RecordFull))
+    (unset old.rooms i h h2 at u ∙ rooms_of old w e) (waits_of old w e) (last_of old w e) refl))
 
 -- ---- a request
 
@@ -180,11 +180,11 @@ asked_now old w id i want m h h2 e at same goes answer few =
     channel_of old.rooms w.channels i h (rooms_of old w e) at
     (λ d. Leads (record { rooms = slice_set old.rooms i h2; waits = old.waits; last_id = Some id }) (Some (Replied id m.value)) w (ask_at w id i want d))
     (λ c is. subst (λ b. Leads (record { rooms = slice_set old.rooms i h2; waits = old.waits; last_id = Some id }) (Some (Replied id m.value)) w (asked_if b (asked_under w id) id i c want))
-        (sym (not_full i c h is few))
-        (subst (λ o. Leads (record { rooms = slice_set old.rooms i h2; waits = old.waits; last_id = Some id }) (Some (Replied id m.value)) w (asked (asked_under w id) id i c want o))
-        (sym (reply_here i c h want (Now m) is answer))
-        (leads (slice_set old.rooms i h2) old.waits (Some id) (Some (Replied id m.value)) w (asked (asked_under w id) id i c want (Some m.value))
-        (changed old.rooms w.channels i h h2 c (Ask want) (rooms_of old w e) is same goes) (waits_of old w e) refl refl)))
+    (sym (not_full i c h is few))
+    (subst (λ o. Leads (record { rooms = slice_set old.rooms i h2; waits = old.waits; last_id = Some id }) (Some (Replied id m.value)) w (asked (asked_under w id) id i c want o))
+    (sym (reply_here i c h want (Now m) is answer))
+    (leads (slice_set old.rooms i h2) old.waits (Some id) (Some (Replied id m.value)) w (asked (asked_under w id) id i c want (Some m.value))
+    (changed old.rooms w.channels i h h2 c (Ask want) (rooms_of old w e) is same goes) (waits_of old w e) refl refl)))
 
 pub asked_held : (old : Kept) (w : World) (id i : ℕ) (want : WantValue) (p : Ticket) (h h2 : Home) → old ≡ kept_world w → AreTied old.rooms old.waits → slice_get old.rooms i ≡ Some h → IsSame h h2
     → GoesOn h h2 (Ask want) → Answered h want (Held p) → h.events < event_end
@@ -193,14 +193,14 @@ asked_held old w id i want p h h2 e tied at same goes answer few =
     channel_of old.rooms w.channels i h (rooms_of old w e) at
     (λ d. Leads (record { rooms = slice_set old.rooms i h2; waits = old.waits ++ (record { id = id; place = p.channel; ticket = p.ticket }) ∷ []; last_id = Some id }) None w (ask_at w id i want d))
     (λ c is. subst (λ b. Leads (record { rooms = slice_set old.rooms i h2; waits = old.waits ++ (record { id = id; place = p.channel; ticket = p.ticket }) ∷ []; last_id = Some id }) None w (asked_if b (asked_under w id) id i c want))
-        (sym (not_full i c h is few))
-        (subst (λ o. Leads (record { rooms = slice_set old.rooms i h2; waits = old.waits ++ (record { id = id; place = p.channel; ticket = p.ticket }) ∷ []; last_id = Some id }) None w (asked (asked_under w id) id i c want o))
-        (sym (reply_here i c h want (Held p) is answer))
-        (leads (slice_set old.rooms i h2) (old.waits ++ (record { id = id; place = p.channel; ticket = p.ticket }) ∷ []) (Some id) None w (asked (asked_under w id) id i c want None)
-        (changed old.rooms w.channels i h h2 c (Ask want) (rooms_of old w e) is same goes)
-        (ap₂ (λ (xs : List Wait) (p : Ticket). xs ++ (record { id = id; place = p.channel; ticket = p.ticket }) ∷ []) (waits_of old w e)
-        (held_is old.rooms old.waits i h want p tied at answer ∙ ap (λ (h : Home). record { channel = i; ticket = h.asks + 1 }) is))
-        refl (stays old w e).answers)))
+    (sym (not_full i c h is few))
+    (subst (λ o. Leads (record { rooms = slice_set old.rooms i h2; waits = old.waits ++ (record { id = id; place = p.channel; ticket = p.ticket }) ∷ []; last_id = Some id }) None w (asked (asked_under w id) id i c want o))
+    (sym (reply_here i c h want (Held p) is answer))
+    (leads (slice_set old.rooms i h2) (old.waits ++ (record { id = id; place = p.channel; ticket = p.ticket }) ∷ []) (Some id) None w (asked (asked_under w id) id i c want None)
+    (changed old.rooms w.channels i h h2 c (Ask want) (rooms_of old w e) is same goes)
+    (ap₂ (λ (xs : List Wait) (p : Ticket). xs ++ (record { id = id; place = p.channel; ticket = p.ticket }) ∷ []) (waits_of old w e)
+    (held_is old.rooms old.waits i h want p tied at answer ∙ ap (λ (h : Home). record { channel = i; ticket = h.asks + 1 }) is))
+    refl (stays old w e).answers)))
 
 pub asked_full : (old : Kept) (w : World) (id i : ℕ) (want : WantValue) (h h2 : Home) → old ≡ kept_world w → slice_get old.rooms i ≡ Some h → h2 ≡ h → event_end ≤ h.events
     → Leads (record { rooms = slice_set old.rooms i h2; waits = old.waits; last_id = Some id }) (Some (Unavailable id)) w (ask id i want w)
@@ -208,9 +208,9 @@ asked_full old w id i want h h2 e at u full =
     channel_of old.rooms w.channels i h (rooms_of old w e) at
     (λ d. Leads (record { rooms = slice_set old.rooms i h2; waits = old.waits; last_id = Some id }) (Some (Unavailable id)) w (ask_at w id i want d))
     (λ c is. subst (λ b. Leads (record { rooms = slice_set old.rooms i h2; waits = old.waits; last_id = Some id }) (Some (Unavailable id)) w (asked_if b (asked_under w id) id i c want))
-        (sym (ap (λ (h : Home). is_full h.events) (sym is) ∙ in_range h.events event_end full))
-        (leads (slice_set old.rooms i h2) old.waits (Some id) (Some (Unavailable id)) w (asked_if true (asked_under w id) id i c want)
-        (unset old.rooms i h h2 at u ∙ rooms_of old w e) (waits_of old w e) refl refl))
+    (sym (ap (λ (h : Home). is_full h.events) (sym is) ∙ in_range h.events event_end full))
+    (leads (slice_set old.rooms i h2) old.waits (Some id) (Some (Unavailable id)) w (asked_if true (asked_under w id) id i c want)
+    (unset old.rooms i h h2 at u ∙ rooms_of old w e) (waits_of old w e) refl refl))
 
 -- ---- a reply that is due
 
@@ -267,11 +267,11 @@ told_there old w i t c h h2 x s r e is same goes found there due k =
     subst (λ o. Leads (record { rooms = slice_set old.rooms i h2; waits = without i t old.waits; last_id = old.last_id }) (Some (Replied x.id (reply_of s))) w (told_to w i c r o))
     (sym (ap₂ (λ n xs. under i n xs) k (sym (waits_of old w e)) ∙ found))
     (subst (λ o. Leads (record { rooms = slice_set old.rooms i h2; waits = without i t old.waits; last_id = old.last_id }) (Some (Replied x.id (reply_of s))) w
-        (waits_less (told (happens w i c (Collect r.ticket)) x.id o) i r.ticket))
-        (sym (sym (reply_is c.settings c.events r due) ∙ ap₂ (λ n (h : Home). reply_at n h.slots) k (sym is) ∙ there))
-        (leads (slice_set old.rooms i h2) (without i t old.waits) old.last_id (Some (Replied x.id (reply_of s))) w (waits_less (told (happens w i c (Collect r.ticket)) x.id (Some s)) i r.ticket)
-        (changed old.rooms w.channels i h h2 c (Collect t) (rooms_of old w e) is same goes ∙ ap (λ n. homes_from 0 (slice_set w.channels i (with_event (Collect n) c))) (sym k))
-        (ap₂ (λ n xs. without i n xs) (sym k) (waits_of old w e)) (last_of old w e) refl))
+    (waits_less (told (happens w i c (Collect r.ticket)) x.id o) i r.ticket))
+    (sym (sym (reply_is c.settings c.events r due) ∙ ap₂ (λ n (h : Home). reply_at n h.slots) k (sym is) ∙ there))
+    (leads (slice_set old.rooms i h2) (without i t old.waits) old.last_id (Some (Replied x.id (reply_of s))) w (waits_less (told (happens w i c (Collect r.ticket)) x.id (Some s)) i r.ticket)
+    (changed old.rooms w.channels i h h2 c (Collect t) (rooms_of old w e) is same goes ∙ ap (λ n. homes_from 0 (slice_set w.channels i (with_event (Collect n) c))) (sym k))
+    (ap₂ (λ n xs. without i n xs) (sym k) (waits_of old w e)) (last_of old w e) refl))
 
 -- the reply of a channel that is due first is told
 pub ticked : (old : Kept) (w : World) (i t : ℕ) (h h2 : Home) (p : Ticket) (m : Mark Reply) (x : Wait) → old ≡ kept_world w → slice_get old.rooms i ≡ Some h → IsSame h h2
@@ -281,8 +281,8 @@ ticked old w i t h h2 p m x e at same goes pt ready found handed =
     channel_of old.rooms w.channels i h (rooms_of old w e) at
     (λ d. Leads (record { rooms = slice_set old.rooms i h2; waits = without i t old.waits; last_id = old.last_id }) (Some (Replied x.id m.value)) w (tick_at w i d))
     (λ c is. due_by i t c h (first_due c.settings c.events) is ready refl
-        (λ o. Leads (record { rooms = slice_set old.rooms i h2; waits = without i t old.waits; last_id = old.last_id }) (Some (Replied x.id m.value)) w (tick_of w i c o))
-        (λ r due k. by_reply c is r due k (reply_at t h.slots) refl (ap (λ n. option_map reply_of (reply_at n h.slots)) (sym pt) ∙ handed_is h p m handed)))
+    (λ o. Leads (record { rooms = slice_set old.rooms i h2; waits = without i t old.waits; last_id = old.last_id }) (Some (Replied x.id m.value)) w (tick_of w i c o))
+    (λ r due k. by_reply c is r due k (reply_at t h.slots) refl (ap (λ n. option_map reply_of (reply_at n h.slots)) (sym pt) ∙ handed_is h p m handed)))
   where
     by_reply : (c : Channel) → h ≡ home_at i c → (r : Request) → first_due c.settings c.events ≡ Some r → r.ticket ≡ t → (o : Option Settled) → reply_at t h.slots ≡ o → option_map reply_of o ≡ Some m.value
         → Leads (record { rooms = slice_set old.rooms i h2; waits = without i t old.waits; last_id = old.last_id }) (Some (Replied x.id m.value)) w (told_to w i c r (under i r.ticket w.waits))
@@ -304,8 +304,8 @@ idle old w i h h2 e at u none =
     channel_of old.rooms w.channels i h (rooms_of old w e) at
     (λ d. Leads (record { rooms = slice_set old.rooms i h2; waits = old.waits; last_id = old.last_id }) None w (tick_at w i d))
     (λ c is. idle_by c.settings c.events (first_due c.settings c.events) refl (ap (λ (h : Home). first_ready h.slots) (sym is) ∙ none)
-        (λ o. Leads (record { rooms = slice_set old.rooms i h2; waits = old.waits; last_id = old.last_id }) None w (tick_of w i c o))
-        (leads (slice_set old.rooms i h2) old.waits old.last_id None w w (unset old.rooms i h h2 at u ∙ rooms_of old w e) (waits_of old w e) (last_of old w e) (stays old w e).answers))
+    (λ o. Leads (record { rooms = slice_set old.rooms i h2; waits = old.waits; last_id = old.last_id }) None w (tick_of w i c o))
+    (leads (slice_set old.rooms i h2) old.waits old.last_id None w w (unset old.rooms i h h2 at u ∙ rooms_of old w e) (waits_of old w e) (last_of old w e) (stays old w e).answers))
 
 -- ---- a request is given up
 
@@ -323,8 +323,8 @@ gave_up old w x h h2 p e at same goes pt =
     channel_of old.rooms w.channels x.place h (rooms_of old w e) at
     (λ d. Leads (record { rooms = slice_set old.rooms x.place h2; waits = without x.place x.ticket old.waits; last_id = old.last_id }) None w (close_at w x d))
     (λ c is. leads (slice_set old.rooms x.place h2) (without x.place x.ticket old.waits) old.last_id None w (close_at w x (Some c))
-        (changed old.rooms w.channels x.place h h2 c (Close x.ticket) (rooms_of old w e) is same (subst (λ n. GoesOn h h2 (Close n)) pt goes))
-        (ap (λ xs. without x.place x.ticket xs) (waits_of old w e)) (last_of old w e) (stays old w e).answers)
+    (changed old.rooms w.channels x.place h h2 c (Close x.ticket) (rooms_of old w e) is same (subst (λ n. GoesOn h h2 (Close n)) pt goes))
+    (ap (λ xs. without x.place x.ticket xs) (waits_of old w e)) (last_of old w e) (stays old w e).answers)
 
 some_found : {X : Type 0} (q : X → Bool) (x y : X) (b : Bool) (o : Option X) → is_some o ≡ true → is_some (cond b (Some y) o) ≡ true
 some_found q x y true o h = refl

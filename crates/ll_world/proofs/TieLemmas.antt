@@ -206,6 +206,7 @@ tied_at rooms waits waits2 i h h2 cs tied at are others here once = record {
     opens j true f =
         subst (λ j. tickets_at j waits2 ≡ open_in (slice_get (slice_set rooms i h2) j)) (sym (equal j i f)) (here ∙ ap open_in (sym (get_set rooms i h h2 at)))
     opens j false f = others j f ∙ tied.opened j ∙ ap open_in (sym (get_other rooms i j h2 f))
+
     stand_once : (j : ℕ) (b : Bool) → (j == i) ≡ b → AreDistinct (tickets_at j waits2)
     stand_once j true f = subst (λ j. AreDistinct (tickets_at j waits2)) (sym (equal j i f)) (subst AreDistinct (sym here) once)
     stand_once j false f = subst AreDistinct (sym (others j f)) (tied.distinct j)
