@@ -1,7 +1,9 @@
 ghost use Rattle.std.specs.Prelude.{◌≡◌};
-ghost use Rattle.ll_replay.specs.Answers.{refusal_code, refusal_name};
+ghost use Rattle.ll_script.specs.Answers.{refusal_code, refusal_name};
 
-/// Why a publisher's line or a request is refused.
+use ll_verdict::PublishFault;
+
+/// Why a publisher's line is refused.
 #[derive(Clone, Copy, Debug, PartialEq, Eq)]
 pub enum Refusal {
     /// The rendition is none of the channel's.
@@ -35,6 +37,30 @@ pub enum Refusal {
     UnknownChannel,
 }
 
+impl From<PublishFault> for Refusal {
+    ghost use Rattle.std.specs.Prelude.{◌≡◌};
+    ghost use Rattle.ll_script.specs.Answers.{refusal_of};
+
+    ghost from_gives = { λ fault refusal. refusal ≡ refusal_of fault };
+
+    fn from(fault: PublishFault) -> Refusal {
+        match fault {
+            PublishFault::NoRendition => Refusal::NoRendition,
+            PublishFault::Ended => Refusal::Ended,
+            PublishFault::BadDuration => Refusal::BadDuration,
+            PublishFault::TooLong => Refusal::TooLong,
+            PublishFault::OpenSegment => Refusal::OpenSegment,
+            PublishFault::CountEnd => Refusal::CountEnd,
+            PublishFault::TimeEnd => Refusal::TimeEnd,
+            PublishFault::IdTaken => Refusal::IdTaken,
+            PublishFault::BadAttribute => Refusal::BadAttribute,
+            PublishFault::IdUnknown => Refusal::IdUnknown,
+            PublishFault::RecordFull => Refusal::RecordFull,
+            PublishFault::Memory => Refusal::Memory,
+        }
+    }
+}
+
 impl Refusal {
     /// The number that a publisher reads.
     pub fn code(self) -> u64
@@ -58,7 +84,7 @@ impl Refusal {
         }
     }
 
-    /// The name that publishers and players read.
+    /// The name that a publisher reads.
     pub fn name(self) -> &'static str
         ensures { result.now ≡ refusal_name self }
     {

@@ -1,0 +1,6 @@
+pub mod Answers
+pub mod Lines
+pub mod Places
+pub mod Reads
+pub use Rattle.ll_directive.specs.Targets
+pub use Rattle.ll_page.specs.Page
