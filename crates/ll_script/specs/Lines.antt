@@ -1,5 +1,5 @@
 -- What the lines of a script mean.
-use Rattle.std.specs.Prelude.{◌≢◌, ℕ, ◌+◌, ◌^◌, List, [], ◌∷◌, Bool, true, ◌&&◌, ◌==◌, Option, Some, None, Result, Ok, Err, if◌then◌else◌, is_none, option_and_then, option_map, nat_le, nat_lt, bytes_eq, codes, ⊤}
+use Rattle.std.specs.Prelude.{◌≢◌, ℕ, ◌+◌, ◌^◌, List, [], ◌∷◌, Bool, true, ◌&&◌, ◌==◌, Option, Some, None, Result, Ok, Err, if◌then◌else◌, is_none, option_map, nat_le, nat_lt, bytes_eq, codes, ⊤}
 use Rattle.std.specs.List.{list_any, before_first, after_first}
 use Rattle.std.specs.Str.{is_utf8}
 use Rattle.ll_attr.specs.Numbers.{number_in}

@@ -183,12 +183,7 @@ fn get_words(last: Option<u64>, text: &str) -> Option<(u64, &str)>
 }
 
 /// What a request of this number for this target makes happen.
-fn read_ask(
-    alloc: Global,
-    declared: &Declared,
-    id: u64,
-    target: &str,
-) -> Result<Acts, LineFault>
+fn read_ask(alloc: Global, declared: &Declared, id: u64, target: &str) -> Result<Acts, LineFault>
     ensures { IsRead declared.now (Some (spec.ask declared.now id (want_in target.now) ∷ [])) result }
 {
     match read_target(alloc, target.as_bytes()) {

@@ -1,6 +1,6 @@
 -- A settings line is cut twice, and its second word is the name.
-use Rattle.ll_replay.proofs.SettingsLemmas.{not-of_one, not-of_two, second-is}
-use Rattle.ll_replay.proofs.reading.second_word.Goals as goal
+use Rattle.ll_script.proofs.SettingsLemmas.{not-of_one, not-of_two, second-is}
+use Rattle.ll_script.proofs.reading.second_word.Goals as goal
 
 pub returns-in_err-rest : goal.returns-in_err-rest
 returns-in_err-rest c = λ cf e. absurd (not-of_one c.args.line.now _ cf c.in_err-rest.ensures.parts e)

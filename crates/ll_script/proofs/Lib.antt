@@ -1,0 +1,3 @@
+pub mod NameLemmas
+pub mod ReadingLemmas
+pub mod SettingsLemmas
