@@ -2,5 +2,6 @@ pub mod Answers
 pub mod Lines
 pub mod Places
 pub mod Reads
+pub mod Worked
 pub use Rattle.ll_directive.specs.Targets
 pub use Rattle.ll_page.specs.Page

@@ -30,10 +30,10 @@ pub fn no_line(alloc: Global, reason: Refusal) -> Result<String, AllocError>
 }
 
 /// A reading of the clock is refused.
-pub fn clock_line(alloc: Global, reason: ClockRefusal) -> Result<String, AllocError>
-    ensures { IfOk result (λ t. string_bytes t ≡ spec.clock_line reason) }
+pub fn clock_line(alloc: Global, refusal: ClockRefusal) -> Result<String, AllocError>
+    ensures { IfOk result (λ t. string_bytes t ≡ spec.clock_line refusal) }
 {
-    refusal_line(alloc, reason.code(), reason.name())
+    refusal_line(alloc, refusal.code(), refusal.name())
 }
 
 /// A request gets the reply of its channel: a playlist or delta update after its length, or a status and a name that say why there is
@@ -58,10 +58,10 @@ pub fn fault_line(alloc: Global, id: u64, fault: TargetFault) -> Result<String, 
 }
 
 /// A request is no event of its channel, which can't take it now.
-pub fn unasked_line(alloc: Global, id: u64, reason: AskRefusal) -> Result<String, AllocError>
-    ensures { IfOk result (λ t. string_bytes t ≡ spec.unasked_line id reason) }
+pub fn unasked_line(alloc: Global, id: u64, refusal: AskRefusal) -> Result<String, AllocError>
+    ensures { IfOk result (λ t. string_bytes t ≡ spec.unasked_line id refusal) }
 {
-    named_reply(alloc, id, 503, reason.name())
+    named_reply(alloc, id, 503, refusal.name())
 }
 
 /// A line that refuses.

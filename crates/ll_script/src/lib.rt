@@ -6,6 +6,7 @@ mod answers;
 mod ask;
 mod clock;
 mod declared;
+mod laws;
 mod reading;
 mod refusal;
 
@@ -14,5 +15,6 @@ pub use answers::{clock_line, fault_line, no_line, ok_line, reply_lines, unasked
 pub use ask::AskRefusal;
 pub use clock::ClockRefusal;
 pub use declared::Declared;
+pub use laws::worked_lines;
 pub use reading::{LineFault, read_line};
 pub use refusal::Refusal;
