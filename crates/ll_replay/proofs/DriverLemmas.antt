@@ -1,5 +1,5 @@
 -- What a driver says of a step of the world, and of one step after another.
-use Rattle.std.proofs.Common.{◌≡◌, ℕ, zero, suc, ◌+◌, ◌≤◌, List, [], ◌∷◌, ◌++◌, Option, Some, None, refl, ap, sym, ◌∙◌, subst, append_assoc, append-nil, arith}
+use Rattle.std.proofs.Common.{◌≡◌, ℕ, zero, suc, ◌+◌, ◌-◌, ◌≤◌, List, [], ◌∷◌, ◌++◌, Option, Some, None, refl, ap, sym, ◌∙◌, subst, append_assoc, append-nil, arith}
 use Rattle.std.specs.Prelude.{IfErr, OnErr, OnOk, Result, Ok, Err, String}
 use Rattle.std.specs.declared.alloc.Global.{Global}
 use Rattle.std.specs.Io.KnownBytes.{Appends}
@@ -66,9 +66,14 @@ cut-later base written w v u fault.Read a c = c
 cut-later base written w v u fault.Endless a c = c
 
 -- where a tick changes nothing, no further one does
+
+still_more : (place n d m : ℕ) (w : World) → m ≡ d + n → tick place (repeat (tick place) n w) ≡ repeat (tick place) n w
+    → repeat (tick place) m w ≡ repeat (tick place) n w
+still_more place n zero m w e still = let same : m ≡ n = omega (arith, e) in ap (λ k. repeat (tick place) k w) same
+still_more place n (suc d) zero w e still = absurd (omega (arith, e))
+still_more place n (suc d) (suc k) w e still =
+    let less : k ≡ d + n = omega (arith, e) in ap (tick place) (still_more place n d k w less still) ∙ still
+
 pub ticks-still : (place n m : ℕ) (w : World) → n ≤ m → tick place (repeat (tick place) n w) ≡ repeat (tick place) n w
     → repeat (tick place) m w ≡ repeat (tick place) n w
-ticks-still place n m w le still = by_more m le
-  where
-    by_more : (m : ℕ) → n ≤ m → repeat (tick place) m w ≡ repeat (tick place) n w
-    by_more m le = {! induction on m: m ≡ n, or m ≡ suc k with n ≤ k: ap (tick place) (by_more k ..) ∙ still !}
+ticks-still place n m w le still = still_more place n (m - n) m w (omega (arith, le)) still
