@@ -81,7 +81,7 @@ impl Rooms {
         Some(room.settings())
     }
 
-    /// Adds a channel with no events behind the others. It fails only where no memory is found.
+    /// Adds a channel with no events after the others. It fails only where no memory is found.
     pub fn declare(&mut self, settings: Settings) -> Result<(), AllocError>
         ensures declared { (w : World) → self.old ≡ kept_world w → OnOk result (Leads self.new None w (world.declare settings w)) }
         ensures unchanged { OnErr result (self.new ≡ self.old) }
