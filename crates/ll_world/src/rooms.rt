@@ -3,7 +3,7 @@ ghost use Rattle.std.specs.Prelude.{◌≢◌, ◌≡◌, ◌<◌, ◌++◌, ◌
 ghost use Rattle.ll_world.specs.Kept.{Leads, kept_world};
 ghost use Rattle.ll_world.specs.World as world;
 ghost use Rattle.ll_world.specs.World.{World, start};
-ghost use Rattle.ll_held.specs.Waits.{under, without};
+ghost use Rattle.ll_held.specs.Waits.{under, with_id, without};
 
 use crate::answer::Answer;
 use ll_directive::Want;
@@ -64,6 +64,13 @@ impl Rooms {
         ensures { result ≡ length self.now.rooms }
     {
         self.rooms.len()
+    }
+
+    /// How many requests wait.
+    pub fn waiting(&self) -> usize
+        ensures { result ≡ length self.now.waits }
+    {
+        self.held.count()
     }
 
     /// The last number of a request.
@@ -140,12 +147,17 @@ impl Rooms {
         }
     }
 
-    /// Gives the request under this number up, where it waits: it gets no reply.
-    pub fn close(&mut self, id: u64)
+    /// Gives the request under this number up, where it waits: it gets no reply. Answers whether it waited.
+    pub fn close(&mut self, id: u64) -> bool
+        ensures waited { result ≡ is_some (with_id id self.old.waits) }
         ensures closed { (w : World) → self.old ≡ kept_world w → Leads self.new None w (world.close id w) }
     {
-        if let Some(wait) = self.held.of(id) {
-            self.give_up(wait);
+        match self.held.of(id) {
+            Some(wait) => {
+                self.give_up(wait);
+                true
+            }
+            None => false,
         }
     }
 
