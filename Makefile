@@ -26,6 +26,7 @@ refused-memory: kit
 bench: kit
 	@$(HERE)bench/replay.sh
 	@$(HERE)bench/apply.sh
+	@$(HERE)bench/waiting.sh
 
 .PHONY: kit
 kit:

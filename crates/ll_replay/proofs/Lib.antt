@@ -1,11 +1,6 @@
-pub mod ChannelLemmas
 pub mod DriverLemmas
 pub mod LineLemmas
-pub mod PlaceLemmas
-pub mod PublishLemmas
-pub mod ReadingLemmas
 pub mod RunLemmas
-pub mod SettingsLemmas
 pub mod StreamLemmas
 pub mod TakeLemmas
 pub mod WorkedExamples

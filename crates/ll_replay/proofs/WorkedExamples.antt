@@ -9,11 +9,11 @@ use Rattle.ll_time.specs.Times.{time_of, digits_2, digits_3, digits_4}
 use Rattle.ll_item.specs.Settings.{configuration_of}
 use Rattle.ll_line.specs.Text.{line_text}
 use Rattle.ll_line.specs.Uris.{segment_uri, part_uri, map_uri, report_uri}
-use Rattle.ll_replay.specs.Answers.{ok_line, no_line, text_reply, unavailable_reply}
-use Rattle.ll_replay.specs.Events.{rendition_refusal}
+use Rattle.ll_script.specs.Answers.{named_reply, ok_line, refusal_line, text_reply}
+use Rattle.ll_verdict.specs.Accepted.{rendition_refusal}
 use Rattle.ll_replay.specs.World.{line}
 use Rattle.ll_replay.specs.Worked.{WorkedScript}
 
 pub worked : WorkedScript
-unfolding line_text segment_uri part_uri map_uri report_uri seconds digits configuration_of nth_date time_of digits_2 digits_3 digits_4 ok_line no_line text_reply unavailable_reply rendition_refusal line is_utf8 chars encode_utf8
+unfolding line_text segment_uri part_uri map_uri report_uri seconds digits configuration_of nth_date time_of digits_2 digits_3 digits_4 ok_line refusal_line text_reply named_reply rendition_refusal line is_utf8 chars encode_utf8
 worked = record { at_once = refl; later = refl; refusals = refl; same_text = refl; same_ending = refl }

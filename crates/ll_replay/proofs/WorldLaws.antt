@@ -1,17 +1,15 @@
 -- What every line does to a script: an ended one stays as it is, text is only added, an act ends nothing, and a line that is too
 -- long does.
-use Rattle.std.proofs.Common.{◌≡◌, ℕ, ◌+◌, ◌<◌, ◌≤◌, List, ◌++◌, [], ◌∷◌, Bool, true, false, cond, Option, Some, None, length, refl, sym, ap, ◌∙◌, append-nil, append_assoc, nat_lt, arith}
-use Rattle.std.specs.Prelude.{slice_get}
+use Rattle.std.proofs.Common.{◌≡◌, ℕ, zero, suc, ◌+◌, ◌<◌, ◌≤◌, List, ◌++◌, [], ◌∷◌, Bool, true, false, cond, Option, Some, None, length, refl, sym, ap, ◌∙◌, append-nil, append_assoc, nat_lt, arith}
+use Rattle.std.specs.Prelude.{flat_map}
 use Rattle.std.proofs.lemmas.Bool.Decides.{nat_tests}
-use Rattle.ll_item.specs.declared.item.Item.{Item}
-use Rattle.ll_replay.specs.declared.act.Want.{Want}
-use Rattle.ll_replay.specs.Answers.{no_line, ok_line, text_reply, unavailable_reply}
-use Rattle.ll_replay.specs.Events.{items, refusal, full_by}
-use Rattle.ll_replay.specs.Lines.{acts}
-use Rattle.ll_replay.specs.declared.act.Act.{Act}
-use Rattle.ll_replay.specs.declared.act.Act.TheVariants.{Declare, Offer, Refuse, Get}
-use Rattle.ll_replay.specs.declared.refusal.Refusal.{Refusal}
-use Rattle.ll_replay.specs.World.{World, Channel, Ending, LineTooLong, act, acted, counted, get_at, got, line, line_by, offer_at, offered, read_by, all_settings, wanted_text}
+use Rattle.ll_script.specs.Answers.{clock_line, fault_line, no_line}
+use Rattle.ll_script.specs.Lines.{acts}
+use Rattle.ll_script.specs.declared.act.Act.{Act}
+use Rattle.ll_script.specs.declared.act.Act.TheVariants.{Declare, Offer, Refuse, Ask, Answer, Close, Clock, RefuseClock}
+use Rattle.ll_script.specs.declared.clock.ClockRefusal.TheVariants as refused
+use Rattle.ll_world.specs.World as rooms
+use Rattle.ll_replay.specs.World.{World, Ending, LineTooLong, act, acted, all_settings, counted, done, heard, line, line_by, read_by, rest, spelled, tick}
 
 -- a world that says more and ends as the first
 abbrev pub Follows : World → World → Type 0
@@ -20,39 +18,48 @@ Follows w v = (more : List ℕ) × (v.text ≡ w.text ++ more) × (v.ending ≡ 
 follows_itself : (w v : World) → v.text ≡ w.text → v.ending ≡ w.ending → Follows w v
 follows_itself w v t e = ([], t ∙ sym (append-nil w.text), e)
 
-follows_both : (u v w : World) → Follows u v → Follows v w → Follows u w
+pub follows_both : (u v w : World) → Follows u v → Follows v w → Follows u w
 follows_both u v w a b = (a.0 ++ b.0, b.1 ∙ ap (λ t. t ++ b.0) a.1 ∙ append_assoc u.text a.0 b.0, b.2 ∙ a.2)
 
-offered-follows : (w : World) (place : ℕ) (c : Channel) (i : Item) (o : Option Refusal) → Follows w (offered w place c i o)
-offered-follows w place c i None = (ok_line (length (items c.events) + 1), refl, refl)
-offered-follows w place c i (Some reason) = (no_line reason, refl, refl)
-
-offer_at-follows : (w : World) (place : ℕ) (i : Item) (o : Option Channel) → Follows w (offer_at w place i o)
-offer_at-follows w place i None = follows_itself w w refl refl
-offer_at-follows w place i (Some c) = offered-follows w place c i (refusal c.settings c.events i)
-
-got-follows : (w : World) (id place : ℕ) (c : Channel) (want : Want) (o : Option Refusal) → Follows w (got w id place c want o)
-got-follows w id place c want None = (text_reply id (wanted_text c.settings (items c.events) want), refl, refl)
-got-follows w id place c want (Some reason) = (unavailable_reply id reason, refl, refl)
-
-chosen : (b : Bool) (w u : World) → Follows w u → Follows w (cond b u w)
-chosen true w u a = a
-chosen false w u a = follows_itself w w refl refl
-
-get_at-follows : (w : World) (id place : ℕ) (want : Want) (o : Option Channel) → Follows w (get_at w id place want o)
-get_at-follows w id place want None = follows_itself w w refl refl
-get_at-follows w id place want (Some c) =
-    chosen (nat_lt want.rendition (length c.settings.renditions)) w (got w id place c want (full_by c.events)) (got-follows w id place c want (full_by c.events))
+-- what the rooms answered is written
+heard-follows : (w : World) (v : rooms.World) → Follows w (heard w v)
+heard-follows w v = (flat_map spelled v.answers, refl, refl)
 
 pub act-follows : (w : World) (a : Act) → Follows w (act w a)
-act-follows w (Declare settings) = follows_itself w (act w (Declare settings)) refl refl
+act-follows w (Declare settings) = heard-follows w (rooms.declare settings w.rooms)
+act-follows w (Offer place item) = heard-follows w (rooms.offer place item w.rooms)
 act-follows w (Refuse reason) = (no_line reason, refl, refl)
-act-follows w (Offer place i) = offer_at-follows w place i (slice_get w.channels place)
-act-follows w (Get id place want) = get_at-follows w id place want (slice_get w.channels place)
+act-follows w (Ask id place want) = (flat_map spelled (rooms.ask id place want w.rooms).answers, refl, refl)
+act-follows w (Answer id reason) = (fault_line id reason, refl, refl)
+act-follows w (Close id) = heard-follows w (rooms.close id w.rooms)
+act-follows w (Clock place ms) = heard-follows w (rooms.clock place ms w.rooms)
+act-follows w RefuseClock = (clock_line refused.ClockRange, refl, refl)
+
+pub tick-follows : (place : ℕ) (w : World) → Follows w (tick place w)
+tick-follows place w = heard-follows w (rooms.tick place w.rooms)
+
+pub ticks-follow : (place n : ℕ) (w : World) → Follows w (rooms.repeat (tick place) n w)
+ticks-follow place zero w = follows_itself w w refl refl
+ticks-follow place (suc n) w =
+    follows_both w (rooms.repeat (tick place) n w) (tick place (rooms.repeat (tick place) n w)) (ticks-follow place n w)
+    (tick-follows place (rooms.repeat (tick place) n w))
+
+pub rest-follows : (w : World) (a : Act) → Follows w (rest a w)
+rest-follows w (Declare settings) = follows_itself w w refl refl
+rest-follows w (Offer place item) = ticks-follow place (length w.rooms.waits) w
+rest-follows w (Refuse reason) = follows_itself w w refl refl
+rest-follows w (Ask id place want) = follows_itself w w refl refl
+rest-follows w (Answer id reason) = follows_itself w w refl refl
+rest-follows w (Close id) = follows_itself w w refl refl
+rest-follows w (Clock place ms) = ticks-follow place (length w.rooms.waits) w
+rest-follows w RefuseClock = follows_itself w w refl refl
+
+pub done-follows : (w : World) (a : Act) → Follows w (done w a)
+done-follows w a = follows_both w (act w a) (done w a) (act-follows w a) (rest-follows (act w a) a)
 
 pub acted-follows : (w : World) (list : List Act) → Follows w (acted w (Some list))
 acted-follows w [] = follows_itself w w refl refl
-acted-follows w (a ∷ list) = follows_both w (act w a) (acted (act w a) (Some list)) (act-follows w a) (acted-follows (act w a) list)
+acted-follows w (a ∷ list) = follows_both w (done w a) (acted (done w a) (Some list)) (done-follows w a) (acted-follows (done w a) list)
 
 abbrev Adds : World → World → Type 0
 Adds w v = (more : List ℕ) × (v.text ≡ w.text ++ more)

@@ -1,8 +1,5 @@
-pub mod Answers
 pub mod Cuts
-pub mod Events
 pub mod Kept
-pub mod Lines
 pub mod Stream
 pub mod Uses
 pub mod Worked

@@ -1,24 +1,21 @@
 -- What a script comes to, line by line.
-use Rattle.std.specs.Prelude.{ℕ, ◌+◌, ◌-◌, ◌^◌, List, [], ◌∷◌, ◌++◌, Bool, true, false, Option, Some, None, length, fold, map, min, nat_lt, if◌then◌else◌, slice_get, slice_set, sum_by}
+use Rattle.std.specs.Prelude.{ℕ, zero, suc, ◌+◌, ◌-◌, ◌^◌, List, [], ◌∷◌, ◌++◌, Bool, true, false, Option, Some, None, length, filter, flat_map, fold, map, min, nat_lt, sum_by}
 use Rattle.ll_item.specs.Settings.{Configuration}
-use Rattle.ll_item.specs.declared.item.Item.{Item}
-use Rattle.ll_page.specs.Delta.{delta_text}
-use Rattle.ll_page.specs.Full.{full_text}
-use Rattle.ll_page.specs.View.{Seen, seen}
-use Rattle.ll_page.specs.declared.skip_kind.SkipKind.{SkipKind}
-use Rattle.ll_replay.specs.Answers.{ok_line, no_line, text_reply, unavailable_reply}
-use Rattle.ll_replay.specs.Events.{Event, Publish, Ask, items, refusal, full_by}
-use Rattle.ll_replay.specs.Lines.{acts}
-use Rattle.ll_replay.specs.declared.act.Act.{Act}
-use Rattle.ll_replay.specs.declared.act.Act.TheVariants.{Declare, Offer, Refuse, Get}
-use Rattle.ll_replay.specs.declared.act.Want.{Want}
+use Rattle.ll_room.specs.declared.fault.ClockFault.{ClockFault}
+use Rattle.ll_room.specs.declared.fault.ClockFault.TheVariants as fault
+use Rattle.ll_script.specs.Answers.{clock_line, fault_line, no_line, ok_line, refusal_of, reply_lines, unasked_line}
+use Rattle.ll_script.specs.Lines.{acts}
+use Rattle.ll_script.specs.declared.act.Act.{Act}
+use Rattle.ll_script.specs.declared.act.Act.TheVariants.{Declare, Offer, Refuse, Ask, Answer, Close, Clock, RefuseClock}
+use Rattle.ll_script.specs.declared.ask.AskRefusal.TheVariants as unasked
+use Rattle.ll_script.specs.declared.clock.ClockRefusal.{ClockRefusal}
+use Rattle.ll_script.specs.declared.clock.ClockRefusal.TheVariants as refused
+use Rattle.ll_verdict.specs.Events as event
+use Rattle.ll_verdict.specs.Events.{Event}
+use Rattle.ll_world.specs.World as rooms
+use Rattle.ll_world.specs.declared.answer.Answer as answer
+use Rattle.ll_world.specs.declared.answer.Answer.TheVariants as said
 use Rattle.ll_replay.specs.declared.outcome.Summary.{Summary}
-use Rattle.ll_replay.specs.declared.refusal.Refusal.{Refusal}
-
-pub record Channel : Type 0 where
-  pub settings : Configuration
-  -- all events since its start
-  pub events : List Event
 
 -- what ends a script before its last line: the number of the line, from 1
 pub data Ending : Type 0 where
@@ -26,7 +23,8 @@ pub data Ending : Type 0 where
   LineTooLong : ℕ → Ending
 
 pub record World : Type 0 where
-  pub channels : List Channel
+  -- the channels, and the requests that wait in them; what they answered is written
+  pub rooms : rooms.World
   -- how many lines were read
   pub lines : ℕ
   -- the last number of a request
@@ -38,65 +36,92 @@ pub record World : Type 0 where
   pub ending : Option Ending
 
 abbrev pub start : World
-start = record { channels = []; lines = 0; last_id = None; replies = 0; text = []; ending = None }
+start = record { rooms = rooms.start; lines = 0; last_id = None; replies = 0; text = []; ending = None }
 
-abbrev pub with_event : Event → Channel → Channel
-with_event event channel = record { settings = channel.settings; events = channel.events ++ event ∷ [] }
+-- ---- answers
+
+abbrev pub clock_refusal : ClockFault → ClockRefusal
+clock_refusal fault.ClockRange = refused.ClockRange
+clock_refusal fault.RecordFull = refused.RecordFull
+
+-- the lines of an answer
+abbrev pub spelled : answer.Answer → List ℕ
+spelled (said.Accepted count) = ok_line count
+spelled (said.Refused reason) = no_line (refusal_of reason)
+spelled (said.ClockRefused reason) = clock_line (clock_refusal reason)
+spelled (said.Replied id reply) = reply_lines id reply
+spelled (said.Unavailable id) = unasked_line id unasked.RecordFull
+
+-- whether it answers a request
+abbrev pub is_reply : answer.Answer → Bool
+is_reply (said.Accepted count) = false
+is_reply (said.Refused reason) = false
+is_reply (said.ClockRefused reason) = false
+is_reply (said.Replied id reply) = true
+is_reply (said.Unavailable id) = true
+
+abbrev pub reply_count : List answer.Answer → ℕ
+reply_count answers = length (filter is_reply answers)
+
+abbrev pub silent : rooms.World → rooms.World
+silent v = record v { answers = [] }
+
+-- what the rooms have come to, and what they answered is written
+abbrev pub heard : World → rooms.World → World
+heard w v = record w { rooms = silent v; replies = w.replies + reply_count v.answers; text = w.text ++ flat_map spelled v.answers }
 
 abbrev pub says : World → List ℕ → World
 says w text = record w { text = w.text ++ text }
 
-abbrev pub happens : World → ℕ → Channel → Event → World
-happens w place channel event = record w { channels = slice_set w.channels place (with_event event channel) }
+abbrev pub asked_under : World → ℕ → World
+asked_under w id = record w { last_id = Some id }
 
--- an item is accepted or refused
-abbrev pub offered : World → ℕ → Channel → Item → Option Refusal → World
-offered w place channel item (Some reason) = says w (no_line reason)
-offered w place channel item None = says (happens w place channel (Publish item)) (ok_line (length (items channel.events) + 1))
-
+-- a request that is no event of any channel
 abbrev pub replied : World → ℕ → List ℕ → World
 replied w id text = record w { text = w.text ++ text; replies = w.replies + 1; last_id = Some id }
 
--- the full playlist of what is seen, or a delta update
-abbrev pub seen_text : Seen → Option SkipKind → List ℕ
-seen_text v None = full_text v
-seen_text v (Some kind) = delta_text kind v
-
--- the text that is wanted, after these items of its channel
-abbrev pub wanted_text : Configuration → List Item → Want → List ℕ
-wanted_text c items want = seen_text (seen c items want.rendition) want.skip
-
--- a request gets its text, which is that after all items so far
-abbrev pub got : World → ℕ → ℕ → Channel → Want → Option Refusal → World
-got w id place channel want (Some reason) = replied w id (unavailable_reply id reason)
-got w id place channel want None =
-    replied (happens w place channel (Ask want)) id (text_reply id (wanted_text channel.settings (items channel.events) want))
-
-abbrev pub offer_at : World → ℕ → Item → Option Channel → World
-offer_at w place item None = w
-offer_at w place item (Some channel) = offered w place channel item (refusal channel.settings channel.events item)
-
-abbrev pub get_at : World → ℕ → ℕ → Want → Option Channel → World
-get_at w id place want None = w
-get_at w id place want (Some channel) =
-    if nat_lt want.rendition (length channel.settings.renditions) then got w id place channel want (full_by channel.events) else w
+-- ---- acts
 
 abbrev pub act : World → Act → World
-act w (Declare settings) = record w { channels = w.channels ++ (record { settings = settings; events = [] }) ∷ [] }
+act w (Declare settings) = heard w (rooms.declare settings w.rooms)
+act w (Offer place item) = heard w (rooms.offer place item w.rooms)
 act w (Refuse reason) = says w (no_line reason)
-act w (Offer place item) = offer_at w place item (slice_get w.channels place)
-act w (Get id place want) = get_at w id place want (slice_get w.channels place)
+act w (Ask id place want) = asked_under (heard w (rooms.ask id place want w.rooms)) id
+act w (Answer id reason) = replied w id (fault_line id reason)
+act w (Close id) = heard w (rooms.close id w.rooms)
+act w (Clock place ms) = heard w (rooms.clock place ms w.rooms)
+act w RefuseClock = says w (clock_line refused.ClockRange)
 
--- what happens by itself after an act: nothing, as no request waits
-abbrev pub rest : World → World
-rest w = w
+-- of the replies of the channel at this place that are due, the one asked for first is written
+abbrev pub tick : ℕ → World → World
+tick place w = heard w (rooms.tick place w.rooms)
+
+-- all replies of the channel at this place that are due are written: no more than requests wait
+abbrev pub rest_at : ℕ → World → World
+rest_at place w = rooms.repeat (tick place) (length w.rooms.waits) w
+
+-- What happens by itself after an act: the replies that it made due are written. Only an item and a reading of the clock make any due.
+abbrev pub rest : Act → World → World
+rest (Declare settings) w = w
+rest (Offer place item) w = rest_at place w
+rest (Refuse reason) w = w
+rest (Ask id place want) w = w
+rest (Answer id reason) w = w
+rest (Close id) w = w
+rest (Clock place ms) w = rest_at place w
+rest RefuseClock w = w
+
+abbrev pub done : World → Act → World
+done w a = rest a (act w a)
+
+-- ---- lines
 
 abbrev pub all_settings : World → List Configuration
-all_settings w = map (λ (c : Channel). c.settings) w.channels
+all_settings w = map (λ (c : rooms.Channel). c.settings) w.rooms.channels
 
 abbrev pub acted : World → Option (List Act) → World
 acted w None = record w { ending = Some (BadLine w.lines) }
-acted w (Some list) = fold (λ v a. rest (act v a)) w list
+acted w (Some list) = fold done w list
 
 abbrev pub counted : World → World
 counted w = record w { lines = w.lines + 1 }
@@ -117,12 +142,25 @@ line_by None w text = read_by (nat_lt longest_line (length text)) w text
 unfoldable pub line : World → List ℕ → World
 line w text = line_by w.ending w text
 
--- all accepted events, and the replies; both count up to 2^64 - 1
+-- ---- the summary
+
+-- whether an event is one that a line brings, and no reply that is handed out
+abbrev pub is_brought : Event → Bool
+is_brought (event.Publish item) = true
+is_brought (event.Ask want) = true
+is_brought (event.Collect ticket) = false
+is_brought (event.Close ticket) = true
+is_brought (event.Clock ms) = true
+
+-- all events that lines brought, and the replies; both count up to 2^64 - 1
 abbrev pub count_end : ℕ
 count_end = 2 ^ 64 - 1
 
+abbrev pub brought : rooms.Channel → ℕ
+brought c = length (filter is_brought c.events)
+
 abbrev pub summary_of : World → Summary
 summary_of w = record {
-  events = min (sum_by (λ (c : Channel). length c.events) w.channels) count_end;
+  events = min (sum_by brought w.rooms.channels) count_end;
   replies = min w.replies count_end;
 }

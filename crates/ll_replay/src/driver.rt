@@ -1,35 +1,35 @@
 //! Takes the lines of a script, one after another.
-ghost use Rattle.std.specs.Prelude.{◌≡◌, ◌≢◌, ◌<◌, ◌≤◌, ◌+◌, ◌-◌, ◌^◌, ◌++◌, ℕ, List, Option, Some, IfOk, MatchOption, OnOk, OnErr, IfErr, IsErrOf, length, slice_get, slice_set, string_bytes};
+ghost use Rattle.std.specs.Prelude.{◌≡◌, ◌<◌, ◌≤◌, ◌+◌, ◌-◌, ◌^◌, ◌++◌, ℕ, List, Option, None, Some, IfOk, OnOk, OnErr, IfErr, IsErrOf, length, string_bytes};
 ghost use Rattle.std.specs.Io.KnownBytes.{Appends};
-ghost use Rattle.ll_replay.specs.World.{World, start, line, summary_of, wanted_text};
+ghost use Rattle.ll_script.specs.Lines.{TellsNoMemory, listed};
+ghost use Rattle.ll_world.specs.declared.answer.Answer as answer;
+ghost use Rattle.ll_replay.specs.World.{World, start, line, summary_of};
 ghost use Rattle.ll_replay.specs.World as world;
-ghost use Rattle.ll_replay.specs.Events.{items, refusal, full_by};
-ghost use Rattle.ll_replay.specs.Events as events;
-ghost use Rattle.ll_replay.specs.Answers as answers;
-ghost use Rattle.ll_replay.specs.Answers.{told};
-ghost use Rattle.ll_replay.specs.Kept.{Stands, kept_world, kept_channel};
+ghost use Rattle.ll_replay.specs.Kept.{Stands, kept_world, told};
 ghost use Rattle.ll_replay.specs.Cuts.{IsCutBetween};
 ghost use Rattle.ll_replay.specs.Stream.{AppendsPrefix};
 
-use crate::act::{Act, Want};
-use crate::answers::{no_line, ok_line, text_reply, unavailable_reply};
-use crate::channels::Channels;
 use crate::device::{Failed, Writer, write_all};
 use crate::outcome::{RunFault, Summary};
-use crate::reading::{Unread, read_line};
-use crate::refusal::Refusal;
-use ll_item::Item;
+use ll_directive::{TargetFault, Want};
+use ll_item::{Item, Settings};
+use ll_room::ClockFault;
+use ll_script::{
+    Act, Acts, AskRefusal, ClockRefusal, Declared, LineFault, Refusal, clock_line, fault_line,
+    no_line, ok_line, read_line, reply_lines, unasked_line,
+};
+use ll_world::{Answer, Rooms};
 use std::alloc::{AllocError, Global};
 use std::marker::Model;
 
 /// The most bytes of a line, without its end.
 pub(crate) const LONGEST_LINE: usize = 65_536;
 
-/// The channels of a script, and what was counted.
-#[derive(Drop)]
+/// The channels of a script with the requests that wait in them, and what was counted. It must be finished.
 pub(crate) struct Driver {
     alloc: Global,
-    channels: Channels,
+    rooms: Rooms,
+    declared: Declared,
     lines: u64,
     last_id: Option<u64>,
     events: u64,
@@ -41,7 +41,7 @@ impl Model for Driver {
 
     ghost Value = { Kept };
 
-    ghost view = { λ d. record { channels = d.channels; lines = d.lines; last_id = d.last_id; events = d.events; replies = d.replies } };
+    ghost view = { λ d. record { rooms = d.rooms; declared = d.declared; lines = d.lines; last_id = d.last_id; events = d.events; replies = d.replies } };
 }
 
 impl Driver {
@@ -52,7 +52,8 @@ impl Driver {
     {
         Driver {
             alloc,
-            channels: Channels::new(alloc),
+            rooms: Rooms::new(alloc),
+            declared: Declared::new(alloc),
             lines: 0,
             last_id: None,
             events: 0,
@@ -97,12 +98,90 @@ impl Driver {
             return Err(RunFault::LineTooLong { line });
         }
         self.lines = line;
-        match read_line(self.alloc, &self.channels, self.last_id, text) {
-            Ok(None) => Ok(()),
-            Ok(Some(act)) => self.act(act, writer),
-            Err(Unread::BadLine) => Err(RunFault::BadLine { line }),
-            Err(Unread::Memory) => Err(RunFault::Memory),
+        match read_line(self.alloc, &self.declared, self.last_id, text) {
+            Ok(acts) => self.acts(acts, writer),
+            Err(LineFault::BadLine) => Err(RunFault::BadLine { line }),
+            Err(LineFault::Memory) => Err(RunFault::Memory),
         }
+    }
+
+    /// Does what a line makes happen, one act after another.
+    fn acts<W: Writer>(&mut self, acts: Acts, writer: &mut W) -> Result<(), RunFault>
+        requires { TellsNoMemory acts }
+        ensures ok { OnOk result ((w : World) (base : Option (List ℕ)) → Stands self.old base (W.written writer.old) w
+            → Stands self.new base (W.written writer.new) (world.acted w (Some (listed self.old.declared acts)))) }
+        ensures lines { OnOk result (self.new.lines ≡ self.old.lines) }
+        ensures cut { IfErr result (λ f. (w : World) (base : Option (List ℕ)) → Stands self.old base (W.written writer.old) w
+            → IsCutBetween base (W.written writer.new) w (world.acted w (Some (listed self.old.declared acts))) f) }
+        ensures steady { OnOk result (W.failures writer.new ≡ W.failures writer.old) }
+        ensures write_failed { IsErrOf result RunFault.Write → W.failures writer.old < W.failures writer.new }
+    {
+        match acts {
+            Acts::None => Ok(()),
+            Acts::One(act) => self.done(act, writer),
+            Acts::Clock(ms) => self.clocks(ms, writer),
+        }
+    }
+
+    /// A reading of the clock for each channel, in order of declaration; each is told of all that it made due before the next.
+    fn clocks<W: Writer>(&mut self, ms: u64, writer: &mut W) -> Result<(), RunFault>
+    {
+        for place in 0..self.declared.len() {
+            self.done(Act::Clock { place, ms }, writer)?;
+        }
+        Ok(())
+    }
+
+    /// Does an act, writes its answer, and then the replies that it made due.
+    fn done<W: Writer>(&mut self, act: Act, writer: &mut W) -> Result<(), RunFault>
+        ensures ok { OnOk result ((w : World) (base : Option (List ℕ)) → Stands self.old base (W.written writer.old) w
+            → Stands self.new base (W.written writer.new) (world.done w act)) }
+        ensures lines { OnOk result (self.new.lines ≡ self.old.lines) }
+        ensures cut { IfErr result (λ f. (w : World) (base : Option (List ℕ)) → Stands self.old base (W.written writer.old) w
+            → IsCutBetween base (W.written writer.new) w (world.done w act) f) }
+        ensures steady { OnOk result (W.failures writer.new ≡ W.failures writer.old) }
+        ensures write_failed { IsErrOf result RunFault.Write → W.failures writer.old < W.failures writer.new }
+    {
+        let due = makes_due(&act);
+        self.act(act, writer)?;
+        match due {
+            Some(place) => self.rest(place, writer),
+            None => Ok(()),
+        }
+    }
+
+    /// Writes the replies of the channel at this place that are due, in order of asking.
+    fn rest<W: Writer>(&mut self, place: usize, writer: &mut W) -> Result<(), RunFault>
+        ensures ok { OnOk result ((w : World) (base : Option (List ℕ)) → Stands self.old base (W.written writer.old) w
+            → Stands self.new base (W.written writer.new) (world.rest_at place w)) }
+        ensures lines { OnOk result (self.new.lines ≡ self.old.lines) }
+        ensures cut { IfErr result (λ f. (w : World) (base : Option (List ℕ)) → Stands self.old base (W.written writer.old) w
+            → IsCutBetween base (W.written writer.new) w (world.rest_at place w) f) }
+        ensures steady { OnOk result (W.failures writer.new ≡ W.failures writer.old) }
+        ensures write_failed { IsErrOf result RunFault.Write → W.failures writer.old < W.failures writer.new }
+    {
+        for _ in 0..self.rooms.waiting() {
+            match self.tick(place) {
+                Ok(Some(reply)) => say(Some(reply), writer)?,
+                Ok(None) => return Ok(()),
+                Err(AllocError) => return Err(RunFault::Memory),
+            }
+        }
+        Ok(())
+    }
+
+    /// The first reply of the channel at this place that is due, where one is.
+    fn tick(&mut self, place: usize) -> Result<Option<String>, AllocError>
+        ensures ok { (w : World) → self.old ≡ kept_world w → IfOk result (λ a.
+            (self.new ≡ kept_world (world.tick place w)) × ((world.tick place w).text ≡ w.text ++ told a)) }
+        ensures still { (w : World) → self.old ≡ kept_world w → IfOk result (λ a. a ≡ None → world.tick place w ≡ w) }
+        ensures lines { OnOk result (self.new.lines ≡ self.old.lines) }
+    {
+        let Some(answer) = self.rooms.next_due(place) else {
+            return Ok(None);
+        };
+        self.replies = self.replies.saturating_add(1);
+        Ok(Some(spell(self.alloc, answer)?))
     }
 
     /// Does what a line makes happen, and writes its answer.
@@ -128,78 +207,134 @@ impl Driver {
         ensures lines { OnOk result (self.new.lines ≡ self.old.lines) }
     {
         match act {
-            Act::Declare(settings) => {
-                self.channels.declare(self.alloc, settings)?;
-                Ok(None)
-            }
+            Act::Declare(settings) => self.declare(settings),
             Act::Offer { place, item } => self.offer(place, item),
             Act::Refuse(reason) => Ok(Some(no_line(self.alloc, reason)?)),
-            Act::Get { id, place, want } => self.get(id, place, want),
+            Act::Ask { id, place, want } => self.ask(id, place, want),
+            Act::Answer { id, fault } => self.answer(id, fault),
+            Act::Close(id) => {
+                self.close(id);
+                Ok(None)
+            }
+            Act::Clock { place, ms } => self.clock(place, ms),
+            Act::RefuseClock => Ok(Some(clock_line(self.alloc, ClockRefusal::ClockRange)?)),
         }
+    }
+
+    /// Adds a channel.
+    fn declare(&mut self, settings: Settings) -> Result<Option<String>, AllocError>
+    {
+        let copy = settings.copy(self.alloc)?;
+        self.rooms.declare(settings)?;
+        self.declared.declare(self.alloc, copy)?;
+        Ok(None)
     }
 
     /// What an item for the channel at this place is answered.
     fn offer(&mut self, place: usize, item: Item) -> Result<Option<String>, AllocError>
-        ensures ok { (w : World) → self.old ≡ kept_world w → IfOk result (λ a.
-            (self.new ≡ kept_world (world.act w (Act.Offer place item))) × ((world.act w (Act.Offer place item)).text ≡ w.text ++ told a)) }
-        ensures lines { OnOk result (self.new.lines ≡ self.old.lines) }
     {
-        if place >= self.channels.len() {
+        let Some(answer) = self.rooms.offer(place, item)? else {
             return Ok(None);
+        };
+        if let Answer::Accepted(_) = answer {
+            self.events = self.events.saturating_add(1);
         }
-        match self.channels.publish_at(place, item) {
-            Ok(count) => {
+        Ok(Some(spell(self.alloc, answer)?))
+    }
+
+    /// What a request to the channel at this place is answered at once.
+    fn ask(&mut self, id: u64, place: usize, want: Want) -> Result<Option<String>, AllocError>
+    {
+        let answer = self.rooms.ask(id, place, want)?;
+        self.last_id = Some(id);
+        match answer {
+            None => {
                 self.events = self.events.saturating_add(1);
-                Ok(Some(ok_line(self.alloc, count)?))
+                Ok(None)
             }
-            Err(reason) => Ok(Some(refused(self.alloc, reason)?)),
+            Some(answer) => {
+                if let Answer::Replied(..) = answer {
+                    self.events = self.events.saturating_add(1);
+                }
+                self.replies = self.replies.saturating_add(1);
+                Ok(Some(spell(self.alloc, answer)?))
+            }
         }
     }
 
-    /// What a request to the channel at this place is answered.
-    fn get(&mut self, id: u64, place: usize, want: Want) -> Result<Option<String>, AllocError>
-        ensures ok { (w : World) → self.old ≡ kept_world w → IfOk result (λ a.
-            (self.new ≡ kept_world (world.act w (Act.Get id place want))) × ((world.act w (Act.Get id place want)).text ≡ w.text ++ told a)) }
-        ensures lines { OnOk result (self.new.lines ≡ self.old.lines) }
+    /// The reply to a request that is no event of any channel.
+    fn answer(&mut self, id: u64, fault: TargetFault) -> Result<Option<String>, AllocError>
     {
-        if place >= self.channels.len() {
-            return Ok(None);
+        self.last_id = Some(id);
+        self.replies = self.replies.saturating_add(1);
+        Ok(Some(fault_line(self.alloc, id, fault)?))
+    }
+
+    /// Gives a request up, where it waits.
+    fn close(&mut self, id: u64)
+    {
+        if self.rooms.close(id) {
+            self.events = self.events.saturating_add(1);
         }
-        match self.channels.ask_at(self.alloc, place, want) {
-            Ok(None) => Ok(None),
-            Ok(Some(text)) => {
+    }
+
+    /// What a reading of the clock of the channel at this place is answered.
+    fn clock(&mut self, place: usize, ms: u64) -> Result<Option<String>, AllocError>
+    {
+        match self.rooms.clock(place, ms) {
+            Some(refused) => Ok(Some(spell(self.alloc, refused)?)),
+            None => {
                 self.events = self.events.saturating_add(1);
-                self.last_id = Some(id);
-                self.replies = self.replies.saturating_add(1);
-                Ok(Some(text_reply(self.alloc, id, text.as_str())?))
-            }
-            Err(reason) => {
-                self.last_id = Some(id);
-                self.replies = self.replies.saturating_add(1);
-                Ok(Some(unavailable(self.alloc, id, reason)?))
+                Ok(None)
             }
         }
+    }
+
+    /// Gives all requests up that still wait; they get no reply.
+    pub(crate) fn finish(self) {
+        let Driver {
+            alloc: _,
+            rooms,
+            declared: _,
+            lines: _,
+            last_id: _,
+            events: _,
+            replies: _,
+        } = self;
+        rooms.finish();
     }
 }
 
-/// The answer to an item that is refused; a channel that found no memory ends the run.
-fn refused(alloc: Global, reason: Refusal) -> Result<String, AllocError>
-    ensures { IfOk result (λ t. (reason ≢ Refusal.Memory) × (string_bytes t ≡ answers.no_line reason)) }
+/// The place of the channel in which an act may make replies due.
+fn makes_due(act: &Act) -> Option<usize>
 {
-    if reason == Refusal::Memory {
-        return Err(AllocError);
+    match act {
+        Act::Offer { place, .. } | Act::Clock { place, .. } => Some(*place),
+        _ => None,
     }
-    no_line(alloc, reason)
 }
 
-/// The reply to a request that is refused; a channel that found no memory ends the run.
-fn unavailable(alloc: Global, id: u64, reason: Refusal) -> Result<String, AllocError>
-    ensures { IfOk result (λ t. (reason ≢ Refusal.Memory) × (string_bytes t ≡ answers.unavailable_reply id reason)) }
+/// The lines of an answer.
+fn spell(alloc: Global, answer: Answer) -> Result<String, AllocError>
+    ensures { IfOk result (λ t. string_bytes t ≡ world.spelled answer) }
 {
-    if reason == Refusal::Memory {
-        return Err(AllocError);
+    match answer {
+        Answer::Accepted(count) => ok_line(alloc, count),
+        Answer::Refused(reason) => no_line(alloc, Refusal::from(reason)),
+        Answer::ClockRefused(reason) => clock_line(alloc, clock_refusal(reason)),
+        Answer::Replied(id, reply) => reply_lines(alloc, id, &reply),
+        Answer::Unavailable(id) => unasked_line(alloc, id, AskRefusal::RecordFull),
     }
-    unavailable_reply(alloc, id, reason)
+}
+
+/// Why a reading is refused, by its name in answers.
+fn clock_refusal(fault: ClockFault) -> ClockRefusal
+    ensures { result ≡ world.clock_refusal fault }
+{
+    match fault {
+        ClockFault::ClockRange => ClockRefusal::ClockRange,
+        ClockFault::RecordFull => ClockRefusal::RecordFull,
+    }
 }
 
 /// Writes an answer, where there is one.

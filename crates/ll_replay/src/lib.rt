@@ -1,23 +1,16 @@
 //! Scripts of channels, run from a reader to a writer: what is published, what is asked for, and every answer.
 #![tactic(auto)]
 
-mod act;
-mod answers;
-mod channel;
-mod channels;
 mod counted;
 mod device;
 mod driver;
 mod laws;
 mod outcome;
-mod reading;
-mod refusal;
-mod rendition;
 mod stream;
 
 pub use counted::{CountedReader, CountedWriter, Uses};
 pub use device::{Failed, Reader, Writer};
 pub use laws::worked_script;
 pub use outcome::{RunFault, Summary};
-pub use refusal::Refusal;
+pub use ll_script::Refusal;
 pub use stream::run;

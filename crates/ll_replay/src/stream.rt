@@ -20,8 +20,7 @@ const ROOM: usize = LONGEST_LINE + 1;
 const MOST_READS: u64 = 1 << 32;
 
 /// A script in the midst of its bytes: what drives its lines, and the bytes since the last LF, with room for the longest line and a CR.
-/// Keeping a byte takes no memory, so that a line's fault is told whatever memory there is.
-#[derive(Drop)]
+/// Keeping a byte takes no memory, so that a line's fault is told whatever memory there is. It must be closed.
 struct Stream {
     driver: Driver,
     line: ArrayVec<u8, ROOM>,
@@ -124,14 +123,22 @@ impl Stream {
         }
         Ok(self.driver.summary())
     }
+
+    /// Gives all requests up that still wait; they get no reply.
+    fn close(self) {
+        let Stream { driver, line: _ } = self;
+        driver.finish();
+    }
 }
 
 /// Reads to the end, and takes each piece; one clause says what each fault means.
 fn read_all<R: Reader, W: Writer>(
-    alloc: Global,
+    stream: &mut Stream,
     reader: &mut R,
     writer: &mut W,
 ) -> Result<Summary, RunFault>
+    requires fresh { (base : Option (List ℕ)) → StandsFor stream.old.line.items stream.old.driver base base [] }
+    requires lines { stream.old.driver.lines ≡ 0 }
     ensures whole { IfOk result (λ summary. (input : List ℕ) → R.left reader.old ≡ Some input
         → IsWhole (W.written writer.old) (W.written writer.new) input summary) }
     ensures stopped { IfErr result (IsStopped (R.left reader.old) (R.left reader.new) (W.written writer.old) (W.written writer.new)) }
@@ -140,7 +147,6 @@ fn read_all<R: Reader, W: Writer>(
         (R.reads reader.new ≡ R.reads reader.old + 2 ^ 32)) }
     ensures few_reads { R.reads reader.new ≤ R.reads reader.old + 2 ^ 32 }
 {
-    let mut stream = Stream::new(alloc);
     let mut piece = [0u8; PIECE];
     for _ in 0..MOST_READS {
         let count = match reader.read(&mut piece) {
@@ -182,5 +188,8 @@ pub fn run<R: Reader, W: Writer>(
     ensures few_reads { R.reads reader.new ≤ R.reads reader.old + 2 ^ 32 }
     ensures endless { IsErrOf result RunFault.Endless → R.reads reader.new ≡ R.reads reader.old + 2 ^ 32 }
 {
-    read_all(alloc, reader, writer)
+    let mut stream = Stream::new(alloc);
+    let outcome = read_all(&mut stream, reader, writer);
+    stream.close();
+    outcome
 }

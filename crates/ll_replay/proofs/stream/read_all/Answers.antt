@@ -11,7 +11,7 @@ loop-init g c = record {
   read = refl;
   write = refl;
   lines = omega arith;
-  stands = ([], c.new-stream.ensures.stands _, Consumes-nil _);
+  stands = ([], c.requires.fresh _, Consumes-nil _);
 }
 
 pub returns-in-Err-clause-stopped : goal.returns-in-Err-clause-stopped

@@ -1,9 +1,0 @@
--- What is kept of each rendition is made in turn.
-use Rattle.std.proofs.Common.{◌≡◌, ◌++◌, [], drop}
-use Rattle.ll_page.specs.View.{renditions, renditions_from}
-use Rattle.ll_replay.proofs.channel.no_items.Given as goal
-
--- those so far and those of the names that are left are all of them
-abbrev pub invariant-loop-name : goal.invariant-loop-name
-invariant-loop-name l =
-    l.renditions.items ++ renditions_from l.settings [] l.name-index (drop l.name-index l.names) ≡ renditions l.settings []

@@ -1,0 +1,4 @@
+pub mod NameLemmas
+pub mod ReadingLemmas
+pub mod SettingsLemmas
+pub mod WorkedExamples

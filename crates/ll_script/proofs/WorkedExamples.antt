@@ -1,0 +1,36 @@
+-- The definitions, computed: each side of these equations comes to the same value.
+use Rattle.std.proofs.Common.{refl}
+use Rattle.std.specs.Char.{encode_utf8}
+use Rattle.std.specs.Fmt.{digits}
+use Rattle.std.specs.Str.{is_utf8, chars}
+use Rattle.form_urlencoded.specs.Form.{raw_pairs, split}
+use Rattle.percent_encoding.specs.Percent.{percent_decode}
+use Rattle.ll_item.specs.Settings.{configuration_of}
+use Rattle.ll_script.specs.Answers.{named_reply, ok_line, refusal_line}
+use Rattle.ll_script.specs.Worked.{WorkedAnswers, WorkedLines}
+
+pub lines : WorkedLines
+unfolding is_utf8 chars encode_utf8 raw_pairs split percent_decode configuration_of
+lines = record {
+  waits = refl;
+  any_rendition = refl;
+  no_channel = refl;
+  no_playlist = refl;
+  part_alone = refl;
+  same_number = refl;
+  three_words = refl;
+  given_up = refl;
+  long_number = refl;
+  time = refl;
+  no_channels = refl;
+  last_time = refl;
+  late = refl;
+  too_late = refl;
+  unknown = refl;
+  comment = refl;
+  other = refl;
+}
+
+pub answers : WorkedAnswers
+unfolding digits ok_line refusal_line named_reply
+answers = record { accepted = refl; refused = refl; late = refl; busy = refl; part_alone = refl }

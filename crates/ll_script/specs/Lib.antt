@@ -1,0 +1,7 @@
+pub mod Answers
+pub mod Lines
+pub mod Places
+pub mod Reads
+pub mod Worked
+pub use Rattle.ll_directive.specs.Targets
+pub use Rattle.ll_page.specs.Page

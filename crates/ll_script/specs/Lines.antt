@@ -1,0 +1,137 @@
+-- What the lines of a script mean.
+use Rattle.std.specs.Prelude.{◌≢◌, ℕ, ◌+◌, ◌^◌, List, [], ◌∷◌, Bool, true, ◌&&◌, ◌==◌, Option, Some, None, Result, Ok, Err, if◌then◌else◌, is_none, option_map, nat_le, nat_lt, bytes_eq, codes, ⊤}
+use Rattle.std.specs.List.{list_any, before_first, after_first}
+use Rattle.std.specs.Str.{is_utf8}
+use Rattle.ll_attr.specs.Numbers.{number_in}
+use Rattle.ll_attr.specs.Words.{words, after}
+use Rattle.ll_directive.specs.Targets.{WantValue, want_in}
+use Rattle.ll_directive.specs.declared.fault.TargetFault.{TargetFault}
+use Rattle.ll_directive.specs.declared.fault.TargetFault.TheVariants as target
+use Rattle.ll_item.specs.Items.{item_in}
+use Rattle.ll_item.specs.Settings.{Configuration, settings_in}
+use Rattle.ll_item.specs.declared.item.Item.{Item}
+use Rattle.ll_item.specs.declared.item.ItemFault.{ItemFault}
+use Rattle.ll_item.specs.declared.item.ItemFault.TheVariants as item
+use Rattle.ll_item.specs.declared.settings.SettingsFault.{SettingsFault}
+use Rattle.ll_script.specs.declared.act.Act.{Act}
+use Rattle.ll_script.specs.declared.act.Act.TheVariants.{Declare, Offer, Refuse, Ask, Answer, Close, Clock, RefuseClock}
+use Rattle.ll_script.specs.declared.act.Acts.{Acts}
+use Rattle.ll_script.specs.declared.act.Acts.TheVariants as list
+use Rattle.ll_script.specs.declared.refusal.Refusal.TheVariants as refused
+
+-- the place of the channel of this name, and its settings; the first of these channels has this place
+abbrev pub channel_of_name : List Configuration → ℕ → List ℕ → Option (ℕ × Configuration)
+channel_of_name [] place name = None
+channel_of_name (c ∷ more) place name = if bytes_eq name c.channel then Some (place, c) else channel_of_name more (place + 1) name
+
+-- a comment or an empty line
+abbrev pub is_passed_over : List ℕ → Bool
+is_passed_over [] = true
+is_passed_over (b ∷ bs) = b == 35
+
+-- ---- publishers
+
+abbrev pub item_act : ℕ → Result Item ItemFault → Act
+item_act place (Ok item) = Offer place item
+item_act place (Err item.BadLine) = Refuse refused.BadLine
+item_act place (Err item.NoRendition) = Refuse refused.NoRendition
+item_act place (Err item.BadAttribute) = Refuse refused.BadAttribute
+item_act place (Err item.Memory) = Refuse refused.Memory
+
+abbrev pub offer_to : Option (ℕ × Configuration) → List ℕ → Act
+offer_to None line = Refuse refused.UnknownChannel
+offer_to (Some channel) line = item_act channel.0 (item_in channel.1 line)
+
+-- a publisher's line: a channel's name, a space, an item's line
+abbrev pub offer : List Configuration → List ℕ → Act
+offer channels text =
+    if is_utf8 text && list_any (λ b. b == 32) text
+    then offer_to (channel_of_name channels 0 (before_first (λ b. b == 32) text)) (after_first (λ b. b == 32) text)
+    else Refuse refused.BadLine
+
+-- ---- requests
+
+-- numbers of requests rise
+abbrev pub rises : Option ℕ → ℕ → Bool
+rises None id = true
+rises (Some last) id = nat_lt last id
+
+abbrev pub ask_in : ℕ → WantValue → Option (ℕ × Configuration) → Act
+ask_in id want None = Answer id target.NotFound
+ask_in id want (Some channel) = Ask id channel.0 want
+
+-- a request to the channel that its target names, or its answer where it wants nothing of any channel
+abbrev pub ask : List Configuration → ℕ → Result WantValue TargetFault → Act
+ask channels id (Ok want) = ask_in id want (channel_of_name channels 0 want.channel)
+ask channels id (Err fault) = Answer id fault
+
+abbrev pub get_by : List Configuration → Option ℕ → Option ℕ → List ℕ → Option Act
+get_by channels last None target = None
+get_by channels last (Some id) target = if rises last id then Some (ask channels id (want_in target)) else None
+
+-- `ID TARGET`; numbers have 1 to 9 digits and rise
+abbrev pub get_of : List Configuration → Option ℕ → List (List ℕ) → Option Act
+get_of channels last (id ∷ target ∷ []) = get_by channels last (number_in 9 id) target
+get_of channels last other = None
+
+-- `ID`, of 1 to 9 digits
+abbrev pub close_of : List ℕ → Option Act
+close_of text = option_map (λ id. Close id) (number_in 9 text)
+
+-- ---- the clock
+
+-- a reading for each of these channels; the first has this place
+abbrev pub clocks_from : ℕ → List Configuration → ℕ → List Act
+clocks_from place [] ms = []
+clocks_from place (c ∷ more) ms = Clock place ms ∷ clocks_from (place + 1) more ms
+
+-- a reading above 2^60 is none of any channel
+abbrev pub reading : List Configuration → ℕ → List Act
+reading channels ms = if nat_le ms (2 ^ 60) then clocks_from 0 channels ms else RefuseClock ∷ []
+
+-- `MS`, of 1 to 20 digits and below 2^64
+abbrev pub clock_of : List Configuration → List ℕ → Option (List Act)
+clock_of channels text = option_map (reading channels) (number_in 20 text)
+
+-- ---- lines
+
+-- a channel whose name no other has
+abbrev pub declaration : List Configuration → Result Configuration SettingsFault → Option Act
+declaration channels (Err fault) = None
+declaration channels (Ok c) = if is_none (channel_of_name channels 0 c.channel) then Some (Declare c) else None
+
+abbrev pub alone : Option Act → Option (List Act)
+alone act = option_map (λ a. a ∷ []) act
+
+-- what a line means, where these are what stands after `get `, `close ` and `clock ` in it
+abbrev pub acts_of : List Configuration → Option ℕ → List ℕ → (get close clock : Option (List ℕ)) → Option (List Act)
+acts_of channels last line (Some text) close clock = alone (get_of channels last (words text))
+acts_of channels last line None (Some text) clock = alone (close_of text)
+acts_of channels last line None None (Some text) = clock_of channels text
+acts_of channels last line None None None = alone (declaration channels (settings_in line))
+
+abbrev pub acts_by : List Configuration → Option ℕ → List ℕ → Option (List ℕ) → Option (List Act)
+acts_by channels last line (Some text) = Some (offer channels text ∷ [])
+acts_by channels last line None =
+    if is_utf8 line
+    then acts_of channels last line (after (codes "get ") line) (after (codes "close ") line) (after (codes "clock ") line)
+    else None
+
+-- What a line makes happen, one after another, where these channels are declared and the last request had this number; a line that
+-- no script has in its place means nothing.
+abbrev pub acts : List Configuration → Option ℕ → List ℕ → Option (List Act)
+acts channels last line = if is_passed_over line then Some [] else acts_by channels last line (after (codes "pub ") line)
+
+-- ---- what was read
+
+-- the acts that are meant by what was read of a line
+abbrev pub listed : List Configuration → Acts → List Act
+listed channels list.None = []
+listed channels (list.One act) = act ∷ []
+listed channels (list.Clock ms) = clocks_from 0 channels ms
+
+-- no act tells that memory was not found
+abbrev pub TellsNoMemory : Acts → Type 0
+TellsNoMemory (list.One (Answer id fault)) = fault ≢ target.Memory
+TellsNoMemory (list.One (Refuse reason)) = reason ≢ refused.Memory
+TellsNoMemory other = ⊤

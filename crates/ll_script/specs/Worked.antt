@@ -1,0 +1,53 @@
+-- The definitions at worked lines: what each means, and how answers are spelled.
+use Rattle.std.specs.Prelude.{◌≡◌, List, ℕ, [], ◌∷◌, Some, None, codes}
+use Rattle.ll_directive.specs.Targets.{WantValue}
+use Rattle.ll_directive.specs.declared.fault.TargetFault.TheVariants as target
+use Rattle.ll_directive.specs.declared.want.Awaited.{Awaited}
+use Rattle.ll_directive.specs.declared.want.Awaited.TheVariants as awaited
+use Rattle.ll_directive.specs.declared.want.Skip.TheVariants as skip
+use Rattle.ll_item.specs.Settings.{Configuration}
+use Rattle.ll_script.specs.Answers.{clock_line, fault_line, no_line, ok_line, reply_lines}
+use Rattle.ll_script.specs.Lines.{acts}
+use Rattle.ll_script.specs.declared.act.Act.TheVariants.{Refuse, Ask, Answer, Close, Clock, RefuseClock}
+use Rattle.ll_script.specs.declared.clock.ClockRefusal.TheVariants as clock
+use Rattle.ll_script.specs.declared.refusal.Refusal.TheVariants as refused
+use Rattle.ll_verdict.specs.declared.reply.Reply.TheVariants as reply
+
+abbrev pub named : List ℕ → Configuration
+named name = record { channel = name; target = 4; part_target = 1000000; skip = 24; window = 36; renditions = codes "hi" ∷ []; first = 0; start = 0 }
+
+-- two channels
+abbrev pub both : List Configuration
+both = named (codes "cam") ∷ named (codes "two") ∷ []
+
+-- a request of the second channel for a rendition of this name
+abbrev pub of_two : List ℕ → Awaited → WantValue
+of_two rendition what = record { channel = codes "two"; rendition = rendition; awaited = what; skip = skip.No }
+
+-- what lines mean after the request 6
+pub record WorkedLines : Type 0 where
+  pub waits : acts both (Some 6) (codes "get 7 /two/hi/live.m3u8?_HLS_msn=3&_HLS_part=1") ≡ Some (Ask 7 1 (of_two (codes "hi") (awaited.Part 3 1)) ∷ [])
+  -- whether the channel has the rendition isn't looked at
+  pub any_rendition : acts both (Some 6) (codes "get 7 /two/lo/live.m3u8") ≡ Some (Ask 7 1 (of_two (codes "lo") awaited.Nothing) ∷ [])
+  pub no_channel : acts both (Some 6) (codes "get 7 /three/hi/live.m3u8") ≡ Some (Answer 7 target.NotFound ∷ [])
+  pub no_playlist : acts both (Some 6) (codes "get 7 /two/hi/s0.m4s") ≡ Some (Answer 7 target.NotFound ∷ [])
+  pub part_alone : acts both (Some 6) (codes "get 7 /two/hi/live.m3u8?_HLS_part=1") ≡ Some (Answer 7 target.PartAlone ∷ [])
+  pub same_number : acts both (Some 6) (codes "get 6 /two/hi/live.m3u8") ≡ None
+  pub three_words : acts both (Some 6) (codes "get 7 /two/hi/live.m3u8 now") ≡ None
+  pub given_up : acts both (Some 6) (codes "close 6") ≡ Some (Close 6 ∷ [])
+  pub long_number : acts both (Some 6) (codes "close 1234567890") ≡ None
+  pub time : acts both (Some 6) (codes "clock 12000") ≡ Some (Clock 0 12000 ∷ Clock 1 12000 ∷ [])
+  pub no_channels : acts [] None (codes "clock 12000") ≡ Some []
+  pub last_time : acts both (Some 6) (codes "clock 1152921504606846976") ≡ Some (Clock 0 1152921504606846976 ∷ Clock 1 1152921504606846976 ∷ [])
+  pub late : acts both (Some 6) (codes "clock 1152921504606846977") ≡ Some (RefuseClock ∷ [])
+  pub too_late : acts both (Some 6) (codes "clock 18446744073709551616") ≡ None
+  pub unknown : acts both (Some 6) (codes "pub three end hi") ≡ Some (Refuse refused.UnknownChannel ∷ [])
+  pub comment : acts both (Some 6) (codes "# close 6") ≡ Some []
+  pub other : acts both (Some 6) (codes "wait") ≡ None
+
+pub record WorkedAnswers : Type 0 where
+  pub accepted : ok_line 12 ≡ codes "ok 12\n"
+  pub refused : no_line refused.TooLong ≡ codes "no 4 TooLong\n"
+  pub late : clock_line clock.ClockRange ≡ codes "no 1 ClockRange\n"
+  pub busy : reply_lines 7 reply.Busy ≡ codes "reply 7 503 Busy\n"
+  pub part_alone : fault_line 7 target.PartAlone ≡ codes "reply 7 400 PartAlone\n"

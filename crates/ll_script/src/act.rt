@@ -1,0 +1,35 @@
+use crate::refusal::Refusal;
+use ll_directive::{TargetFault, Want};
+use ll_item::{Item, Settings};
+
+/// One thing that a line of a script makes happen. A channel is named by its place in the order of declaration, from 0.
+#[derive(Drop)]
+pub enum Act {
+    /// A new channel.
+    Declare(Settings),
+    /// An item for a channel.
+    Offer { place: usize, item: Item },
+    /// A publisher's line that names no item of a channel.
+    Refuse(Refusal),
+    /// A request, with its number, to a channel. Whether the channel has the rendition that is wanted isn't looked at.
+    Ask { id: u64, place: usize, want: Want },
+    /// A request that is no event of any channel: its target is malformed, or names no playlist or no channel.
+    Answer { id: u64, fault: TargetFault },
+    /// The request of this number is given up.
+    Close(u64),
+    /// A reading of a channel's clock, in milliseconds.
+    Clock { place: usize, ms: u64 },
+    /// A reading of the clock above 2^60.
+    RefuseClock,
+}
+
+/// What a line of a script makes happen: a list of acts.
+#[derive(Drop)]
+pub enum Acts {
+    /// Nothing.
+    None,
+    /// One act.
+    One(Act),
+    /// A reading of the clock in milliseconds: one act for each declared channel, in order of declaration.
+    Clock(u64),
+}

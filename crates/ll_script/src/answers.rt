@@ -1,0 +1,90 @@
+//! The lines that answer the lines of a script. Each fails only where no memory is found.
+ghost use Rattle.std.specs.Prelude.{◌≡◌, IfOk, string_bytes};
+ghost use Rattle.ll_script.specs.Answers as spec;
+
+use crate::ask::AskRefusal;
+use crate::clock::ClockRefusal;
+use crate::refusal::Refusal;
+use itoa::Buffer;
+use ll_directive::TargetFault;
+use ll_verdict::Reply;
+use std::alloc::{AllocError, Global};
+
+/// An item is accepted, with which the channel has so many.
+#[tactic(auto, unfolding(crate::specs::Answers::ok_line))]
+pub fn ok_line(alloc: Global, count: u64) -> Result<String, AllocError>
+    ensures { IfOk result (λ t. string_bytes t ≡ spec.ok_line count) }
+{
+    let mut digits = Buffer::new();
+    let mut line = String::from_str(alloc, "ok ")?;
+    line.push_str(digits.format(count))?;
+    line.push_str("\n")?;
+    Ok(line)
+}
+
+/// A publisher's line is refused.
+pub fn no_line(alloc: Global, reason: Refusal) -> Result<String, AllocError>
+    ensures { IfOk result (λ t. string_bytes t ≡ spec.no_line reason) }
+{
+    refusal_line(alloc, reason.code(), reason.name())
+}
+
+/// A reading of the clock is refused.
+pub fn clock_line(alloc: Global, refusal: ClockRefusal) -> Result<String, AllocError>
+    ensures { IfOk result (λ t. string_bytes t ≡ spec.clock_line refusal) }
+{
+    refusal_line(alloc, refusal.code(), refusal.name())
+}
+
+/// A request gets the reply of its channel: a playlist or delta update after its length, or a status and a name that say why there is
+/// none.
+pub fn reply_lines(alloc: Global, id: u64, reply: &Reply) -> Result<String, AllocError>
+    ensures { IfOk result (λ t. string_bytes t ≡ spec.reply_lines id reply.now) }
+{
+    match reply {
+        Reply::Text(page) => text_reply(alloc, id, page.text()),
+        Reply::NotFound => named_reply(alloc, id, 404, "NotFound"),
+        Reply::TooFar => named_reply(alloc, id, 400, "TooFar"),
+        Reply::Busy => named_reply(alloc, id, 503, "Busy"),
+        Reply::Timeout => named_reply(alloc, id, 503, "Timeout"),
+    }
+}
+
+/// The target of a request wants nothing.
+pub fn fault_line(alloc: Global, id: u64, fault: TargetFault) -> Result<String, AllocError>
+    ensures { IfOk result (λ t. string_bytes t ≡ spec.fault_line id fault) }
+{
+    named_reply(alloc, id, fault.status(), fault.name())
+}
+
+/// A request is no event of its channel, which can't take it now.
+pub fn unasked_line(alloc: Global, id: u64, refusal: AskRefusal) -> Result<String, AllocError>
+    ensures { IfOk result (λ t. string_bytes t ≡ spec.unasked_line id refusal) }
+{
+    named_reply(alloc, id, 503, refusal.name())
+}
+
+/// A line that refuses.
+#[tactic(auto, unfolding(crate::specs::Answers::refusal_line))]
+fn refusal_line(alloc: Global, code: u64, name: &str) -> Result<String, AllocError>
+    ensures { IfOk result (λ t. string_bytes t ≡ spec.refusal_line code name.now) }
+{
+    format!(in alloc; "no {code} {name}\n")
+}
+
+/// A request gets a text.
+#[tactic(auto, unfolding(crate::specs::Answers::text_reply))]
+fn text_reply(alloc: Global, id: u64, text: &str) -> Result<String, AllocError>
+    ensures { IfOk result (λ t. string_bytes t ≡ spec.text_reply id text.now) }
+{
+    let length = text.len();
+    format!(in alloc; "reply {id} 200 {length}\n{text}")
+}
+
+/// A request gets no text, and a status and a name that say why.
+#[tactic(auto, unfolding(crate::specs::Answers::named_reply))]
+fn named_reply(alloc: Global, id: u64, status: u16, name: &str) -> Result<String, AllocError>
+    ensures { IfOk result (λ t. string_bytes t ≡ spec.named_reply id status name.now) }
+{
+    format!(in alloc; "reply {id} {status} {name}\n")
+}

@@ -1,0 +1,20 @@
+//! What the lines of a script mean, and how its answers are spelled.
+#![tactic(auto)]
+
+mod act;
+mod answers;
+mod ask;
+mod clock;
+mod declared;
+mod laws;
+mod reading;
+mod refusal;
+
+pub use act::{Act, Acts};
+pub use answers::{clock_line, fault_line, no_line, ok_line, reply_lines, unasked_line};
+pub use ask::AskRefusal;
+pub use clock::ClockRefusal;
+pub use declared::Declared;
+pub use laws::worked_lines;
+pub use reading::{LineFault, read_line};
+pub use refusal::Refusal;

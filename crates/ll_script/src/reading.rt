@@ -1,0 +1,254 @@
+//! What the lines of a script mean.
+ghost use Rattle.std.specs.Prelude.{◌≡◌, ◌∷◌, [], codes, IfOk, IsErrOf, IsSome, MatchOption, Ok, None, Some, is_some, false, ℕ, List, Option};
+ghost use Rattle.std.specs.Str.{is_utf8};
+ghost use Rattle.ll_attr.specs.Words.{words};
+ghost use Rattle.ll_attr.specs.Words as words;
+ghost use Rattle.ll_directive.specs.Targets.{want_in};
+ghost use Rattle.ll_item.specs.Items.{item_in};
+ghost use Rattle.ll_item.specs.Settings.{Configuration, settings_in};
+ghost use Rattle.ll_script.specs.Lines.{alone};
+ghost use Rattle.ll_script.specs.Lines as spec;
+ghost use Rattle.ll_script.specs.Reads.{IsRead};
+
+use crate::act::{Act, Acts};
+use crate::declared::Declared;
+use crate::refusal::Refusal;
+use ll_attr::{after, cut, parse_number};
+use ll_directive::{TargetFault, read_target};
+use ll_item::{Item, ItemFault, Settings, SettingsFault};
+use std::alloc::Global;
+use std::str;
+use thiserror::Error;
+
+/// The last reading of a clock that is one of a channel's.
+const LAST_TIME: u64 = 1 << 60;
+
+/// Why a line makes nothing happen.
+#[derive(Clone, Copy, Debug, PartialEq, Eq, Error)]
+pub enum LineFault {
+    /// No script has this line in its place.
+    #[error("BadLine")]
+    BadLine,
+    /// No memory was found.
+    #[error("Memory")]
+    Memory,
+}
+
+/// What a line without its end makes happen, where these channels are declared and the last request had this number: a new channel, an
+/// item, a request, the end of one, or readings of the clock; a comment or an empty line, nothing. Memory is answered only for a line
+/// that has its place.
+pub fn read_line(
+    alloc: Global,
+    declared: &Declared,
+    last: Option<u64>,
+    line: &[u8],
+) -> Result<Acts, LineFault>
+    ensures acts { IfOk result (λ a. spec.acts declared.now last line.now ≡ Some (spec.listed declared.now a)) }
+    ensures bad { IsErrOf result LineFault.BadLine → spec.acts declared.now last line.now ≡ None }
+    ensures memory { IsErrOf result LineFault.Memory → IsSome (spec.acts declared.now last line.now) }
+    ensures tells_no_memory { IfOk result (λ a. spec.TellsNoMemory a) }
+{
+    read_any(alloc, declared, last, line)
+}
+
+/// What a line makes happen.
+fn read_any(
+    alloc: Global,
+    declared: &Declared,
+    last: Option<u64>,
+    line: &[u8],
+) -> Result<Acts, LineFault>
+    ensures { IsRead declared.now (spec.acts declared.now last line.now) result }
+{
+    match str::from_utf8(line) {
+        Ok(text) => read_text(alloc, declared, last, text),
+        Err(_) => read_bytes(line),
+    }
+}
+
+/// What a line makes happen that is no UTF-8.
+fn read_bytes(line: &[u8]) -> Result<Acts, LineFault>
+    requires { is_utf8 line.now ≡ false }
+    ensures { (channels : List Configuration) (last : Option ℕ) → IsRead channels (spec.acts channels last line.now) result }
+{
+    if line.starts_with(b"#") {
+        Ok(Acts::None)
+    } else if line.starts_with(b"pub ") {
+        Ok(Acts::One(Act::Refuse(Refusal::BadLine)))
+    } else {
+        Err(LineFault::BadLine)
+    }
+}
+
+/// What a line of UTF-8 makes happen.
+fn read_text(
+    alloc: Global,
+    declared: &Declared,
+    last: Option<u64>,
+    line: &str,
+) -> Result<Acts, LineFault>
+    ensures { IsRead declared.now (spec.acts declared.now last line.now) result }
+{
+    if line.is_empty() || line.starts_with('#') {
+        return Ok(Acts::None);
+    }
+    match after(line, "pub ") {
+        Some(text) => read_offer(alloc, declared, text),
+        None => read_other(alloc, declared, last, line),
+    }
+}
+
+/// What a line makes happen that is no publisher's.
+fn read_other(
+    alloc: Global,
+    declared: &Declared,
+    last: Option<u64>,
+    line: &str,
+) -> Result<Acts, LineFault>
+    ensures { IsRead declared.now (spec.acts_of declared.now last line.now (words.after (codes "get ") line.now)
+        (words.after (codes "close ") line.now) (words.after (codes "clock ") line.now)) result }
+{
+    if let Some(text) = after(line, "get ") {
+        return read_get(alloc, declared, last, text);
+    }
+    if let Some(text) = after(line, "close ") {
+        return read_close(text);
+    }
+    match after(line, "clock ") {
+        Some(text) => read_clock(text),
+        None => read_declaration(alloc, declared, line),
+    }
+}
+
+/// A publisher's line.
+fn read_offer(alloc: Global, declared: &Declared, text: &str) -> Result<Acts, LineFault>
+    ensures { IsRead declared.now (Some (spec.offer declared.now text.now ∷ [])) result }
+{
+    let Some((name, line)) = text.split_once(' ') else {
+        return Ok(Acts::One(Act::Refuse(Refusal::BadLine)));
+    };
+    let Some((place, settings)) = declared.find(name) else {
+        return Ok(Acts::One(Act::Refuse(Refusal::UnknownChannel)));
+    };
+    read_item(alloc, place, settings, line)
+}
+
+/// What an item's line makes happen in the channel at this place.
+fn read_item(
+    alloc: Global,
+    place: usize,
+    settings: &Settings,
+    line: &str,
+) -> Result<Acts, LineFault>
+    ensures { (channels : List Configuration) → IsRead channels (Some (spec.item_act place (item_in settings.now line.now) ∷ [])) result }
+{
+    match Item::read(alloc, settings, line) {
+        Ok(item) => Ok(Acts::One(Act::Offer { place, item })),
+        Err(ItemFault::BadLine) => Ok(Acts::One(Act::Refuse(Refusal::BadLine))),
+        Err(ItemFault::NoRendition) => Ok(Acts::One(Act::Refuse(Refusal::NoRendition))),
+        Err(ItemFault::BadAttribute) => Ok(Acts::One(Act::Refuse(Refusal::BadAttribute))),
+        Err(ItemFault::Memory) => Err(LineFault::Memory),
+    }
+}
+
+/// A request whose number rises.
+fn read_get(
+    alloc: Global,
+    declared: &Declared,
+    last: Option<u64>,
+    text: &str,
+) -> Result<Acts, LineFault>
+    ensures { IsRead declared.now (alone (spec.get_of declared.now last (words text.now))) result }
+{
+    match get_words(last, text) {
+        Some((id, target)) => read_ask(alloc, declared, id, target),
+        None => Err(LineFault::BadLine),
+    }
+}
+
+/// The number and the target of a request, where the number rises.
+fn get_words(last: Option<u64>, text: &str) -> Option<(u64, &str)>
+    ensures { (channels : List Configuration) → MatchOption result (spec.get_of channels last (words text.now) ≡ None)
+        (λ g. spec.get_of channels last (words text.now) ≡ Some (spec.ask channels g.0 (want_in g.1.now))) }
+{
+    let (id, target) = cut(text, ' ')?;
+    if cut(target, ' ').is_some() {
+        return None;
+    }
+    let id = parse_number(id, 9)?;
+    if last.is_some_and(|last| id <= last) {
+        return None;
+    }
+    Some((id, target))
+}
+
+/// What a request of this number for this target makes happen.
+fn read_ask(alloc: Global, declared: &Declared, id: u64, target: &str) -> Result<Acts, LineFault>
+    ensures { IsRead declared.now (Some (spec.ask declared.now id (want_in target.now) ∷ [])) result }
+{
+    match read_target(alloc, target.as_bytes()) {
+        Ok(want) => match declared.find(want.channel()) {
+            Some((place, _)) => Ok(Acts::One(Act::Ask { id, place, want })),
+            None => Ok(Acts::One(Act::Answer {
+                id,
+                fault: TargetFault::NotFound,
+            })),
+        },
+        Err(TargetFault::Memory) => Err(LineFault::Memory),
+        Err(fault) => Ok(Acts::One(Act::Answer { id, fault })),
+    }
+}
+
+/// The end of a request.
+fn read_close(text: &str) -> Result<Acts, LineFault>
+    ensures { (channels : List Configuration) → IsRead channels (alone (spec.close_of text.now)) result }
+{
+    match parse_number(text, 9) {
+        Some(id) => Ok(Acts::One(Act::Close(id))),
+        None => Err(LineFault::BadLine),
+    }
+}
+
+/// A reading of the clock.
+fn read_clock(text: &str) -> Result<Acts, LineFault>
+    ensures { (channels : List Configuration) → IsRead channels (spec.clock_of channels text.now) result }
+{
+    match parse_number(text, 20) {
+        Some(ms) if ms <= LAST_TIME => Ok(Acts::Clock(ms)),
+        Some(_) => Ok(Acts::One(Act::RefuseClock)),
+        None => Err(LineFault::BadLine),
+    }
+}
+
+/// A new channel, whose name no other has.
+fn read_declaration(alloc: Global, declared: &Declared, line: &str) -> Result<Acts, LineFault>
+    ensures { IsRead declared.now (alone (spec.declaration declared.now (settings_in line.now))) result }
+{
+    if is_declared(declared, line) {
+        return Err(LineFault::BadLine);
+    }
+    match Settings::read(alloc, line) {
+        Ok(settings) => Ok(Acts::One(Act::Declare(settings))),
+        Err(SettingsFault::Memory) => Err(LineFault::Memory),
+        Err(_) => Err(LineFault::BadLine),
+    }
+}
+
+/// Whether a settings line names a channel that is declared. It takes no memory.
+fn is_declared(declared: &Declared, line: &str) -> bool
+    ensures { (c : Configuration) → settings_in line.now ≡ Ok c → result ≡ is_some (spec.channel_of_name declared.now 0 c.channel) }
+{
+    match second_word(line) {
+        Some(name) => declared.find(name).is_some(),
+        None => false,
+    }
+}
+
+/// The second word of a line that has more; in a settings line it is the channel's name.
+fn second_word(line: &str) -> Option<&str>
+    ensures { (c : Configuration) → settings_in line.now ≡ Ok c → MatchOption result ⊥ (λ name. name.now ≡ c.channel) }
+{
+    let (_, rest) = cut(line, ' ')?;
+    let (name, _) = cut(rest, ' ')?;
+    Some(name)
+}

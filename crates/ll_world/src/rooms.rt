@@ -1,0 +1,240 @@
+//! The rooms of the channels of a script, and the requests that wait in them.
+ghost use Rattle.std.specs.Prelude.{◌≢◌, ◌≡◌, ◌<◌, ◌++◌, ◌∷◌, [], ℕ, None, Some, true, IfOk, OnErr, OnOk, MatchOption, is_some, length, slice_get};
+ghost use Rattle.ll_world.specs.Kept.{Leads, kept_world};
+ghost use Rattle.ll_world.specs.World as world;
+ghost use Rattle.ll_world.specs.World.{World, start};
+ghost use Rattle.ll_held.specs.Waits.{under, with_id, without};
+
+use crate::answer::Answer;
+use ll_directive::Want;
+use ll_held::{Held, Wait};
+use ll_item::{Item, Settings};
+use ll_room::{AskFault, Asked, Closed, Collected, Room};
+use ll_verdict::PublishFault;
+use std::alloc::{AllocError, Global};
+use std::marker::Model;
+
+/// The channels of a script, each at a place of its own, and the requests that wait in them. It must be spent.
+pub struct Rooms {
+    alloc: Global,
+    rooms: Vec<Room>,
+    held: Held,
+    last_id: Option<u64>,
+}
+
+impl Model for Rooms {
+    ghost use Rattle.ll_world.specs.Kept.{AreTied, Kept};
+
+    ghost Value = { Kept };
+
+    ghost view = { λ r. record { rooms = r.rooms.items; waits = r.held; last_id = r.last_id } };
+
+    ghost invariant = { λ r. AreTied r.rooms.items r.held };
+}
+
+/// Only one in which no request waits may be let go: a request that is forgotten is a failed proof.
+impl Drop for Rooms {
+    fn drop(self)
+        requires { self.waits ≡ [] }
+    {
+        let Rooms {
+            alloc: _,
+            rooms: _,
+            held: _held,
+            last_id: _,
+        } = self;
+    }
+}
+
+impl Rooms {
+    /// No channels.
+    pub fn new(alloc: Global) -> Rooms
+        ensures { result ≡ kept_world start }
+    {
+        Rooms {
+            alloc,
+            rooms: Vec::new(alloc),
+            held: Held::new(alloc),
+            last_id: None,
+        }
+    }
+
+    /// How many channels there are.
+    pub fn len(&self) -> usize
+        ensures { result ≡ length self.now.rooms }
+    {
+        self.rooms.len()
+    }
+
+    /// How many requests wait.
+    pub fn waiting(&self) -> usize
+        ensures { result ≡ length self.now.waits }
+    {
+        self.held.count()
+    }
+
+    /// The last number of a request.
+    pub fn last_id(&self) -> Option<u64>
+        ensures { result ≡ self.now.last_id }
+    {
+        self.last_id
+    }
+
+    /// The settings of the channel at this place.
+    pub fn settings(&self, place: usize) -> Option<&Settings>
+        ensures { MatchOption result (slice_get self.now.rooms place ≡ None) (λ s. MatchOption (slice_get self.now.rooms place) ⊥ (λ h. s.now ≡ h.settings)) }
+    {
+        let room = self.rooms.get(place)?;
+        Some(room.settings())
+    }
+
+    /// Adds a channel with no events after the others. It fails only where no memory is found.
+    pub fn declare(&mut self, settings: Settings) -> Result<(), AllocError>
+        ensures declared { (w : World) → self.old ≡ kept_world w → OnOk result (Leads self.new None w (world.declare settings w)) }
+        ensures unchanged { OnErr result (self.new ≡ self.old) }
+    {
+        let room = Room::new(self.alloc, self.rooms.len() as u64, settings)?;
+        self.rooms.push(room)?;
+        Ok(())
+    }
+
+    /// Offers an item to the channel at this place. It fails only where no memory is found.
+    pub fn offer(&mut self, place: usize, item: Item) -> Result<Option<Answer>, AllocError>
+        ensures offered { (w : World) → self.old ≡ kept_world w → IfOk result (λ a. Leads self.new a w (world.offer place item w)) }
+        ensures unchanged { OnErr result (self.new ≡ self.old) }
+    {
+        let Some(room) = self.rooms.get_mut(place) else {
+            return Ok(None);
+        };
+        let count = match room.publish(item) {
+            Ok(count) => count.into_inner(),
+            Err(fault) => {
+                let answer = refused(fault)?;
+                return Ok(Some(answer));
+            }
+        };
+        Ok(Some(Answer::Accepted(count)))
+    }
+
+    /// Makes a request of the channel at this place, whose reply is told under this number: now, or once it is due. It fails only where
+    /// no memory is found.
+    pub fn ask(&mut self, id: u64, place: usize, want: Want) -> Result<Option<Answer>, AllocError>
+        ensures asked { (w : World) → self.old ≡ kept_world w → IfOk result (λ a. Leads self.new a w (world.ask id place want w)) }
+    {
+        let Some(room) = self.rooms.get_mut(place) else {
+            return Ok(None);
+        };
+        match room.ask(want) {
+            Ok(Asked::Now(reply)) => {
+                self.last_id = Some(id);
+                Ok(Some(Answer::Replied(id, reply.into_inner())))
+            }
+            Ok(Asked::Held(parked)) => match self.held.put(id, parked) {
+                Ok(()) => {
+                    self.last_id = Some(id);
+                    Ok(None)
+                }
+                Err(parked) => match room.close(parked) {
+                    Closed::Done => Err(AllocError),
+                    Closed::Stranger(_parked) => unreachable!(),
+                },
+            },
+            Err(AskFault::RecordFull) => {
+                self.last_id = Some(id);
+                Ok(Some(Answer::Unavailable(id)))
+            }
+            Err(AskFault::Memory) => Err(AllocError),
+        }
+    }
+
+    /// Gives the request under this number up, where it waits: it gets no reply. Answers whether it waited.
+    pub fn close(&mut self, id: u64) -> bool
+        ensures waited { result ≡ is_some (with_id id self.old.waits) }
+        ensures closed { (w : World) → self.old ≡ kept_world w → Leads self.new None w (world.close id w) }
+    {
+        match self.held.of(id) {
+            Some(wait) => {
+                self.give_up(wait);
+                true
+            }
+            None => false,
+        }
+    }
+
+    /// Gives a request that waits up.
+    fn give_up(&mut self, wait: Wait)
+        requires { is_some (under wait.place wait.ticket self.old.waits) ≡ true }
+        ensures given_up { (w : World) → self.old ≡ kept_world w → Leads self.new None w (world.close_at w wait (slice_get w.channels wait.place)) }
+        ensures left { self.new.waits ≡ without wait.place wait.ticket self.old.waits }
+    {
+        let Some(parked) = self.held.take(wait.place, wait.ticket) else {
+            unreachable!();
+        };
+        let Some(room) = self.rooms.get_mut(wait.place) else {
+            unreachable!();
+        };
+        match room.close(parked) {
+            Closed::Done => {}
+            Closed::Stranger(_parked) => unreachable!(),
+        }
+    }
+
+    /// Tells the channel at this place what its clock shows, in milliseconds.
+    pub fn clock(&mut self, place: usize, ms: u64) -> Option<Answer>
+        ensures clocked { (w : World) → self.old ≡ kept_world w → Leads self.new result w (world.clock place ms w) }
+    {
+        let room = self.rooms.get_mut(place)?;
+        if let Err(fault) = room.clock(ms) {
+            return Some(Answer::ClockRefused(fault));
+        }
+        None
+    }
+
+    /// Tells the first reply of the channel at this place that is due; none where nothing is due there.
+    pub fn next_due(&mut self, place: usize) -> Option<Answer>
+        ensures told { (w : World) → self.old ≡ kept_world w → Leads self.new result w (world.tick place w) }
+        ensures none { result ≡ None → self.new ≡ self.old }
+    {
+        let room = self.rooms.get_mut(place)?;
+        let ticket = room.next_ready()?;
+        let Some(wait) = self.held.under(place, ticket) else {
+            unreachable!();
+        };
+        let Some(parked) = self.held.take(place, ticket) else {
+            unreachable!();
+        };
+        match room.collect(parked) {
+            Collected::Got(reply) => Some(Answer::Replied(wait.id, reply.into_inner())),
+            Collected::Still(_parked) => unreachable!(),
+            Collected::Stranger(_parked) => unreachable!(),
+        }
+    }
+
+    /// Gives all requests up that still wait, and spends what was kept of the channels.
+    pub fn finish(mut self) {
+        loop {
+            match self.held.first() {
+                Some(wait) => self.give_up(wait),
+                None => {
+                    let Rooms {
+                        alloc: _,
+                        rooms: _,
+                        held: _held,
+                        last_id: _,
+                    } = self;
+                    return;
+                }
+            }
+        }
+    }
+}
+
+/// The answer to an item that is refused; a channel that found no memory has no answer.
+fn refused(fault: PublishFault) -> Result<Answer, AllocError>
+    ensures { IfOk result (λ a. (fault ≢ PublishFault.Memory) × (a ≡ Answer.Refused fault)) }
+{
+    if fault == PublishFault::Memory {
+        return Err(AllocError);
+    }
+    Ok(Answer::Refused(fault))
+}
