@@ -1,6 +1,9 @@
 -- What an act does is what the definition says.
-use Rattle.std.proofs.Common.{◌≡◌, ℕ, zero, suc, ◌+◌, ◌<◌, ◌≤◌, ◌^◌, ◌==◌, ◌&&◌, List, [], ◌∷◌, ◌++◌, Bool, true, false, cond, if◌then◌else◌, Option, Some, None, is_some, option_map, nat_le, length, refl, ap, ap₂, ◌∙◌, sym, subst, true≢false, find, slice_get, slice_set, arith}
+use Rattle.std.proofs.Common.{◌≡◌, ℕ, zero, suc, ◌+◌, ◌<◌, ◌≤◌, ◌^◌, ◌==◌, ◌&&◌, List, [], ◌∷◌, ◌++◌, Bool, true, false, cond, if◌then◌else◌, Option, Some, None, is_some, option_map, nat_le, length, refl, ap, ap₂, ◌∙◌, sym, subst, true≢false, filter, length-append, find, min, sum_by, slice_get, slice_set, arith}
 use Rattle.std.proofs.lemmas.Bool.Decides.{nat_tests}
+use Rattle.std.proofs.lemmas.List.Elements.{filter-append}
+use Rattle.std.proofs.lemmas.List.Sums.{sum_by-append, sum_by-set}
+use Rattle.std.proofs.lemmas.Option.{get_or_from_slice_get, slice_get_within}
 use Rattle.ll_book.specs.Waiting.{first_ready, reply_at, ticket_in}
 use Rattle.ll_directive.specs.Targets.{WantValue}
 use Rattle.ll_item.specs.Settings.{Configuration}
@@ -25,7 +28,7 @@ use Rattle.ll_room.specs.declared.fault.ClockFault.TheVariants.{ClockRange, Reco
 use Rattle.ll_held.specs.Waits.{has_id, is_under, under, with_id, without}
 use Rattle.ll_held.specs.declared.wait.Wait.{Wait}
 use Rattle.ll_world.specs.Kept.{AreTied, Kept, Leads, home_at, homes_from, kept_world, open_in}
-use Rattle.ll_world.specs.World.{Channel, World, with_event, happens, waits_less, told, told_to, tick, tick_at, tick_of, first_due, offer, offer_at, offered, ask, ask_at, asked, asked_if, asked_under, close, close_at, close_of, clock, clock_at, clocked, declare}
+use Rattle.ll_world.specs.World.{Channel, World, count_end, event_count, is_brought, with_event, happens, waits_less, told, told_to, tick, tick_at, tick_of, first_due, offer, offer_at, offered, ask, ask_at, asked, asked_if, brought, close, close_at, close_of, clock, clock_at, clocked, declare}
 use Rattle.ll_world.specs.declared.answer.Answer.TheVariants.{Accepted, Refused, ClockRefused, Replied, Unavailable}
 use Rattle.ll_world.proofs.DueLemmas.{first_is, reply_is, ready_open, ready_reply}
 use Rattle.ll_world.proofs.StandLemmas.{GoesOn, changed, channel_of, homes_more, leads, no_channel, no_more, number_is, stands_for, stays}
@@ -49,8 +52,49 @@ rooms_of old w e = ap (λ (k : Kept). k.rooms) e
 waits_of : (old : Kept) (w : World) → old ≡ kept_world w → old.waits ≡ w.waits
 waits_of old w e = ap (λ (k : Kept). k.waits) e
 
-last_of : (old : Kept) (w : World) → old ≡ kept_world w → old.last_id ≡ w.last_id
-last_of old w e = ap (λ (k : Kept). k.last_id) e
+events_of : (old : Kept) (w : World) → old ≡ kept_world w → old.events ≡ event_count w
+events_of old w e = ap (λ (k : Kept). k.events) e
+
+-- one event more is counted
+abbrev pub one_more : ℕ → ℕ
+one_more n = min (n + 1) count_end
+
+one_brought : (cs : List Channel) (i : ℕ) (c : Channel) (e : Event) → slice_get cs i ≡ Some c → sum_by brought (slice_set cs i (with_event e c)) + brought c ≡ sum_by brought cs + brought (with_event e c)
+one_brought cs i c e there =
+    let all = sum_by-set brought cs i (with_event e c) c (slice_get_within cs i c there) in
+    let was = get_or_from_slice_get cs i c c there in
+    omega (arith, all, ap brought was)
+
+brought_by : (c : Channel) (e : Event) (b : Bool) → is_brought e ≡ b → brought (with_event e c) ≡ brought c + cond b 1 0
+brought_by c e b k =
+    ap length (filter-append is_brought c.events (e ∷ [])) ∙ length-append (filter is_brought c.events) (filter is_brought (e ∷ []))
+    ∙ ap (λ d. brought c + length (cond d (e ∷ []) [])) k ∙ last b
+  where
+    last : (b : Bool) → brought c + length (cond b (e ∷ []) []) ≡ brought c + cond b 1 0
+    last true = refl
+    last false = refl
+
+up_to_end : (n s t b d m : ℕ) → n ≡ min s m → t + b ≡ s + d → d ≡ b + 1 → min (n + 1) m ≡ min t m
+up_to_end n s t b d m e f g = omega arith
+
+as_before : (n s t b d m : ℕ) → n ≡ min s m → t + b ≡ s + d → d ≡ b + 0 → n ≡ min t m
+as_before n s t b d m e f g = omega arith
+
+more_events : (n2 : ℕ) (old : Kept) (w : World) (i : ℕ) (c : Channel) (e : Event) → n2 ≡ one_more old.events → old ≡ kept_world w → slice_get w.channels i ≡ Some c → is_brought e ≡ true
+    → n2 ≡ min (sum_by brought (slice_set w.channels i (with_event e c))) count_end
+more_events n2 old w i c e more k there b =
+    more ∙ up_to_end old.events (sum_by brought w.channels) (sum_by brought (slice_set w.channels i (with_event e c))) (brought c) (brought (with_event e c)) count_end
+    (events_of old w k) (one_brought w.channels i c e there) (brought_by c e true b)
+
+same_events : (old : Kept) (w : World) (i : ℕ) (c : Channel) (e : Event) → old ≡ kept_world w → slice_get w.channels i ≡ Some c → is_brought e ≡ false
+    → old.events ≡ min (sum_by brought (slice_set w.channels i (with_event e c))) count_end
+same_events old w i c e k there b =
+    as_before old.events (sum_by brought w.channels) (sum_by brought (slice_set w.channels i (with_event e c))) (brought c) (brought (with_event e c)) count_end
+    (events_of old w k) (one_brought w.channels i c e there) (brought_by c e false b)
+
+-- a new channel has no events
+none_brought : (s : Configuration) (cs : List Channel) → sum_by brought cs ≡ sum_by brought (cs ++ (record { settings = s; events = [] }) ∷ [])
+none_brought s cs = omega (arith, sum_by-append brought cs ((record { settings = s; events = [] }) ∷ []))
 
 settings_of : (i : ℕ) (c : Channel) (h : Home) → h ≡ home_at i c → h.settings ≡ c.settings
 settings_of i c h is = ap (λ (h : Home). h.settings) is
@@ -71,28 +115,28 @@ tick_nowhere old w i e at = no_channel old.rooms w.channels i (rooms_of old w e)
 
 -- ---- an item
 
-pub accepted : (old : Kept) (w : World) (i : ℕ) (item : Item) (n : ℕ) (h h2 : Home) → old ≡ kept_world w → slice_get old.rooms i ≡ Some h → IsSame h h2
+pub accepted : (n2 : ℕ) (old : Kept) (w : World) (i : ℕ) (item : Item) (n : ℕ) (h h2 : Home) → n2 ≡ one_more old.events → old ≡ kept_world w → slice_get old.rooms i ≡ Some h → IsSame h h2
     → ((events : List Event) → Stands h events → (refusal_after h.settings events item ≡ None) × Stands h2 (events ++ Publish item ∷ [])) → n ≡ h.count + 1
-    → Leads (record { rooms = slice_set old.rooms i h2; waits = old.waits; last_id = old.last_id }) (Some (Accepted n)) w (offer i item w)
-accepted old w i item n h h2 e at same goes k =
+    → Leads (record { rooms = slice_set old.rooms i h2; waits = old.waits; events = n2 }) (Some (Accepted n)) w (offer i item w)
+accepted n2 old w i item n h h2 more e at same goes k =
     channel_of old.rooms w.channels i h (rooms_of old w e) at
-    (λ d. Leads (record { rooms = slice_set old.rooms i h2; waits = old.waits; last_id = old.last_id }) (Some (Accepted n)) w (offer_at w i item d))
-    (λ c is. subst (λ o. Leads (record { rooms = slice_set old.rooms i h2; waits = old.waits; last_id = old.last_id }) (Some (Accepted n)) w (offered w i c item o))
+    (λ d. Leads (record { rooms = slice_set old.rooms i h2; waits = old.waits; events = n2 }) (Some (Accepted n)) w (offer_at w i item d))
+    (λ c there is. subst (λ o. Leads (record { rooms = slice_set old.rooms i h2; waits = old.waits; events = n2 }) (Some (Accepted n)) w (offered w i c item o))
     (sym (ap (λ s. refusal_after s c.events item) (sym (settings_of i c h is)) ∙ (goes c.events (stands_for i c h is)).0))
-    (leads (slice_set old.rooms i h2) old.waits old.last_id (Some (Accepted n)) w (offered w i c item None)
-    (changed old.rooms w.channels i h h2 c (Publish item) (rooms_of old w e) is same (λ events st. (goes events st).1)) (waits_of old w e) (last_of old w e)
+    (leads (slice_set old.rooms i h2) old.waits n2 (Some (Accepted n)) w (offered w i c item None)
+    (changed old.rooms w.channels i h h2 c (Publish item) (rooms_of old w e) is same (λ events st. (goes events st).1)) (waits_of old w e) (more_events n2 old w i c (Publish item) more e there refl)
     (ap (λ m. w.answers ++ Accepted m ∷ []) (sym (k ∙ ap (λ (h : Home). h.count + 1) is)))))
 
 pub refused : (old : Kept) (w : World) (i : ℕ) (item : Item) (f : PublishFault) (h h2 : Home) → old ≡ kept_world w → slice_get old.rooms i ≡ Some h → h2 ≡ h
     → ((events : List Event) → Stands h events → refusal_after h.settings events item ≡ Some f)
-    → Leads (record { rooms = slice_set old.rooms i h2; waits = old.waits; last_id = old.last_id }) (Some (Refused f)) w (offer i item w)
+    → Leads (record { rooms = slice_set old.rooms i h2; waits = old.waits; events = old.events }) (Some (Refused f)) w (offer i item w)
 refused old w i item f h h2 e at u why =
     channel_of old.rooms w.channels i h (rooms_of old w e) at
-    (λ d. Leads (record { rooms = slice_set old.rooms i h2; waits = old.waits; last_id = old.last_id }) (Some (Refused f)) w (offer_at w i item d))
-    (λ c is. subst (λ o. Leads (record { rooms = slice_set old.rooms i h2; waits = old.waits; last_id = old.last_id }) (Some (Refused f)) w (offered w i c item o))
+    (λ d. Leads (record { rooms = slice_set old.rooms i h2; waits = old.waits; events = old.events }) (Some (Refused f)) w (offer_at w i item d))
+    (λ c there is. subst (λ o. Leads (record { rooms = slice_set old.rooms i h2; waits = old.waits; events = old.events }) (Some (Refused f)) w (offered w i c item o))
     (sym (ap (λ s. refusal_after s c.events item) (sym (settings_of i c h is)) ∙ why c.events (stands_for i c h is)))
-    (leads (slice_set old.rooms i h2) old.waits old.last_id (Some (Refused f)) w (offered w i c item (Some f))
-    (unset old.rooms i h h2 at u ∙ rooms_of old w e) (waits_of old w e) (last_of old w e) refl))
+    (leads (slice_set old.rooms i h2) old.waits old.events (Some (Refused f)) w (offered w i c item (Some f))
+    (unset old.rooms i h h2 at u ∙ rooms_of old w e) (waits_of old w e) (events_of old w e) refl))
 
 -- ---- the clock
 
@@ -102,38 +146,38 @@ in_range limit ms h = grind (arith, nat_tests, h)
 out_of_range : (limit ms : ℕ) → limit < ms → nat_le ms limit ≡ false
 out_of_range limit ms h = grind (arith, nat_tests, h)
 
-pub clocked_on : (old : Kept) (w : World) (i ms : ℕ) (h h2 : Home) → old ≡ kept_world w → slice_get old.rooms i ≡ Some h → IsSame h h2 → GoesOn h h2 (Clock ms) → ms ≤ 2 ^ 60
+pub clocked_on : (n2 : ℕ) (old : Kept) (w : World) (i ms : ℕ) (h h2 : Home) → n2 ≡ one_more old.events → old ≡ kept_world w → slice_get old.rooms i ≡ Some h → IsSame h h2 → GoesOn h h2 (Clock ms) → ms ≤ 2 ^ 60
     → h.events < event_end
-    → Leads (record { rooms = slice_set old.rooms i h2; waits = old.waits; last_id = old.last_id }) None w (clock i ms w)
-clocked_on old w i ms h h2 e at same goes near few =
+    → Leads (record { rooms = slice_set old.rooms i h2; waits = old.waits; events = n2 }) None w (clock i ms w)
+clocked_on n2 old w i ms h h2 more e at same goes near few =
     channel_of old.rooms w.channels i h (rooms_of old w e) at
-    (λ d. Leads (record { rooms = slice_set old.rooms i h2; waits = old.waits; last_id = old.last_id }) None w (clock_at w i ms d))
-    (λ c is. subst (λ o. Leads (record { rooms = slice_set old.rooms i h2; waits = old.waits; last_id = old.last_id }) None w (clocked w i c ms o))
+    (λ d. Leads (record { rooms = slice_set old.rooms i h2; waits = old.waits; events = n2 }) None w (clock_at w i ms d))
+    (λ c there is. subst (λ o. Leads (record { rooms = slice_set old.rooms i h2; waits = old.waits; events = n2 }) None w (clocked w i c ms o))
     (sym (ap₂ (λ a b. if a then (if b then Some RecordFull else None) else Some ClockRange) (in_range (2 ^ 60) ms near)
     (ap (λ (h : Home). is_full h.events) (sym is) ∙ out_of_range h.events event_end few)))
-    (leads (slice_set old.rooms i h2) old.waits old.last_id None w (clocked w i c ms None)
-    (changed old.rooms w.channels i h h2 c (Clock ms) (rooms_of old w e) is same goes) (waits_of old w e) (last_of old w e) (stays old w e).answers))
+    (leads (slice_set old.rooms i h2) old.waits n2 None w (clocked w i c ms None)
+    (changed old.rooms w.channels i h h2 c (Clock ms) (rooms_of old w e) is same goes) (waits_of old w e) (more_events n2 old w i c (Clock ms) more e there refl) (stays old w e).answers))
 
 pub clock_range : (old : Kept) (w : World) (i ms : ℕ) (h h2 : Home) → old ≡ kept_world w → slice_get old.rooms i ≡ Some h → h2 ≡ h → 2 ^ 60 < ms
-    → Leads (record { rooms = slice_set old.rooms i h2; waits = old.waits; last_id = old.last_id }) (Some (ClockRefused ClockRange)) w (clock i ms w)
+    → Leads (record { rooms = slice_set old.rooms i h2; waits = old.waits; events = old.events }) (Some (ClockRefused ClockRange)) w (clock i ms w)
 clock_range old w i ms h h2 e at u past =
     channel_of old.rooms w.channels i h (rooms_of old w e) at
-    (λ d. Leads (record { rooms = slice_set old.rooms i h2; waits = old.waits; last_id = old.last_id }) (Some (ClockRefused ClockRange)) w (clock_at w i ms d))
-    (λ c is. subst (λ o. Leads (record { rooms = slice_set old.rooms i h2; waits = old.waits; last_id = old.last_id }) (Some (ClockRefused ClockRange)) w (clocked w i c ms o))
+    (λ d. Leads (record { rooms = slice_set old.rooms i h2; waits = old.waits; events = old.events }) (Some (ClockRefused ClockRange)) w (clock_at w i ms d))
+    (λ c there is. subst (λ o. Leads (record { rooms = slice_set old.rooms i h2; waits = old.waits; events = old.events }) (Some (ClockRefused ClockRange)) w (clocked w i c ms o))
     (sym (ap (λ a. if a then (if is_full (length c.events) then Some RecordFull else None) else Some ClockRange) (out_of_range (2 ^ 60) ms past)))
-    (leads (slice_set old.rooms i h2) old.waits old.last_id (Some (ClockRefused ClockRange)) w (clocked w i c ms (Some ClockRange))
-    (unset old.rooms i h h2 at u ∙ rooms_of old w e) (waits_of old w e) (last_of old w e) refl))
+    (leads (slice_set old.rooms i h2) old.waits old.events (Some (ClockRefused ClockRange)) w (clocked w i c ms (Some ClockRange))
+    (unset old.rooms i h h2 at u ∙ rooms_of old w e) (waits_of old w e) (events_of old w e) refl))
 
 pub clock_full : (old : Kept) (w : World) (i ms : ℕ) (h h2 : Home) → old ≡ kept_world w → slice_get old.rooms i ≡ Some h → h2 ≡ h → ms ≤ 2 ^ 60 → event_end ≤ h.events
-    → Leads (record { rooms = slice_set old.rooms i h2; waits = old.waits; last_id = old.last_id }) (Some (ClockRefused RecordFull)) w (clock i ms w)
+    → Leads (record { rooms = slice_set old.rooms i h2; waits = old.waits; events = old.events }) (Some (ClockRefused RecordFull)) w (clock i ms w)
 clock_full old w i ms h h2 e at u near full =
     channel_of old.rooms w.channels i h (rooms_of old w e) at
-    (λ d. Leads (record { rooms = slice_set old.rooms i h2; waits = old.waits; last_id = old.last_id }) (Some (ClockRefused RecordFull)) w (clock_at w i ms d))
-    (λ c is. subst (λ o. Leads (record { rooms = slice_set old.rooms i h2; waits = old.waits; last_id = old.last_id }) (Some (ClockRefused RecordFull)) w (clocked w i c ms o))
+    (λ d. Leads (record { rooms = slice_set old.rooms i h2; waits = old.waits; events = old.events }) (Some (ClockRefused RecordFull)) w (clock_at w i ms d))
+    (λ c there is. subst (λ o. Leads (record { rooms = slice_set old.rooms i h2; waits = old.waits; events = old.events }) (Some (ClockRefused RecordFull)) w (clocked w i c ms o))
     (sym (ap₂ (λ a b. if a then (if b then Some RecordFull else None) else Some ClockRange) (in_range (2 ^ 60) ms near)
     (ap (λ (h : Home). is_full h.events) (sym is) ∙ in_range h.events event_end full)))
-    (leads (slice_set old.rooms i h2) old.waits old.last_id (Some (ClockRefused RecordFull)) w (clocked w i c ms (Some RecordFull))
-    (unset old.rooms i h h2 at u ∙ rooms_of old w e) (waits_of old w e) (last_of old w e) refl))
+    (leads (slice_set old.rooms i h2) old.waits old.events (Some (ClockRefused RecordFull)) w (clocked w i c ms (Some RecordFull))
+    (unset old.rooms i h h2 at u ∙ rooms_of old w e) (waits_of old w e) (events_of old w e) refl))
 
 -- ---- a request
 
@@ -167,50 +211,50 @@ pub held_is : (rooms : List Home) (waits : List Wait) (i : ℕ) (h : Home) (want
     → p ≡ record { channel = i; ticket = h.asks + 1 }
 held_is rooms waits i h want p tied at answer =
     channel_of rooms tied.channels i h tied.rooms_are at (λ d. p ≡ record { channel = i; ticket = h.asks + 1 })
-    (λ c is. ticket_by h want p (at_once h.settings (held h.settings c.events) c.events want) (answer c.events (stands_for i c h is))
+    (λ c there is. ticket_by h want p (at_once h.settings (held h.settings c.events) c.events want) (answer c.events (stands_for i c h is))
     ∙ ap (λ n. record { channel = n; ticket = h.asks + 1 }) (number_is rooms waits i h tied at))
 
 not_full : (i : ℕ) (c : Channel) (h : Home) → h ≡ home_at i c → h.events < event_end → is_full (length c.events) ≡ false
 not_full i c h is few = ap (λ (h : Home). is_full h.events) (sym is) ∙ out_of_range h.events event_end few
 
-pub asked_now : (old : Kept) (w : World) (id i : ℕ) (want : WantValue) (m : Mark Reply) (h h2 : Home) → old ≡ kept_world w → slice_get old.rooms i ≡ Some h → IsSame h h2
+pub asked_now : (n2 : ℕ) (old : Kept) (w : World) (id i : ℕ) (want : WantValue) (m : Mark Reply) (h h2 : Home) → n2 ≡ one_more old.events → old ≡ kept_world w → slice_get old.rooms i ≡ Some h → IsSame h h2
     → GoesOn h h2 (Ask want) → Answered h want (Now m) → h.events < event_end
-    → Leads (record { rooms = slice_set old.rooms i h2; waits = old.waits; last_id = Some id }) (Some (Replied id m.value)) w (ask id i want w)
-asked_now old w id i want m h h2 e at same goes answer few =
+    → Leads (record { rooms = slice_set old.rooms i h2; waits = old.waits; events = n2 }) (Some (Replied id m.value)) w (ask id i want w)
+asked_now n2 old w id i want m h h2 more e at same goes answer few =
     channel_of old.rooms w.channels i h (rooms_of old w e) at
-    (λ d. Leads (record { rooms = slice_set old.rooms i h2; waits = old.waits; last_id = Some id }) (Some (Replied id m.value)) w (ask_at w id i want d))
-    (λ c is. subst (λ b. Leads (record { rooms = slice_set old.rooms i h2; waits = old.waits; last_id = Some id }) (Some (Replied id m.value)) w (asked_if b (asked_under w id) id i c want))
+    (λ d. Leads (record { rooms = slice_set old.rooms i h2; waits = old.waits; events = n2 }) (Some (Replied id m.value)) w (ask_at w id i want d))
+    (λ c there is. subst (λ b. Leads (record { rooms = slice_set old.rooms i h2; waits = old.waits; events = n2 }) (Some (Replied id m.value)) w (asked_if b w id i c want))
     (sym (not_full i c h is few))
-    (subst (λ o. Leads (record { rooms = slice_set old.rooms i h2; waits = old.waits; last_id = Some id }) (Some (Replied id m.value)) w (asked (asked_under w id) id i c want o))
+    (subst (λ o. Leads (record { rooms = slice_set old.rooms i h2; waits = old.waits; events = n2 }) (Some (Replied id m.value)) w (asked w id i c want o))
     (sym (reply_here i c h want (Now m) is answer))
-    (leads (slice_set old.rooms i h2) old.waits (Some id) (Some (Replied id m.value)) w (asked (asked_under w id) id i c want (Some m.value))
-    (changed old.rooms w.channels i h h2 c (Ask want) (rooms_of old w e) is same goes) (waits_of old w e) refl refl)))
+    (leads (slice_set old.rooms i h2) old.waits n2 (Some (Replied id m.value)) w (asked w id i c want (Some m.value))
+    (changed old.rooms w.channels i h h2 c (Ask want) (rooms_of old w e) is same goes) (waits_of old w e) (more_events n2 old w i c (Ask want) more e there refl) refl)))
 
-pub asked_held : (old : Kept) (w : World) (id i : ℕ) (want : WantValue) (p : Ticket) (h h2 : Home) → old ≡ kept_world w → AreTied old.rooms old.waits → slice_get old.rooms i ≡ Some h → IsSame h h2
+pub asked_held : (n2 : ℕ) (old : Kept) (w : World) (id i : ℕ) (want : WantValue) (p : Ticket) (h h2 : Home) → n2 ≡ one_more old.events → old ≡ kept_world w → AreTied old.rooms old.waits → slice_get old.rooms i ≡ Some h → IsSame h h2
     → GoesOn h h2 (Ask want) → Answered h want (Held p) → h.events < event_end
-    → Leads (record { rooms = slice_set old.rooms i h2; waits = old.waits ++ (record { id = id; place = p.channel; ticket = p.ticket }) ∷ []; last_id = Some id }) None w (ask id i want w)
-asked_held old w id i want p h h2 e tied at same goes answer few =
+    → Leads (record { rooms = slice_set old.rooms i h2; waits = old.waits ++ (record { id = id; place = p.channel; ticket = p.ticket }) ∷ []; events = n2 }) None w (ask id i want w)
+asked_held n2 old w id i want p h h2 more e tied at same goes answer few =
     channel_of old.rooms w.channels i h (rooms_of old w e) at
-    (λ d. Leads (record { rooms = slice_set old.rooms i h2; waits = old.waits ++ (record { id = id; place = p.channel; ticket = p.ticket }) ∷ []; last_id = Some id }) None w (ask_at w id i want d))
-    (λ c is. subst (λ b. Leads (record { rooms = slice_set old.rooms i h2; waits = old.waits ++ (record { id = id; place = p.channel; ticket = p.ticket }) ∷ []; last_id = Some id }) None w (asked_if b (asked_under w id) id i c want))
+    (λ d. Leads (record { rooms = slice_set old.rooms i h2; waits = old.waits ++ (record { id = id; place = p.channel; ticket = p.ticket }) ∷ []; events = n2 }) None w (ask_at w id i want d))
+    (λ c there is. subst (λ b. Leads (record { rooms = slice_set old.rooms i h2; waits = old.waits ++ (record { id = id; place = p.channel; ticket = p.ticket }) ∷ []; events = n2 }) None w (asked_if b w id i c want))
     (sym (not_full i c h is few))
-    (subst (λ o. Leads (record { rooms = slice_set old.rooms i h2; waits = old.waits ++ (record { id = id; place = p.channel; ticket = p.ticket }) ∷ []; last_id = Some id }) None w (asked (asked_under w id) id i c want o))
+    (subst (λ o. Leads (record { rooms = slice_set old.rooms i h2; waits = old.waits ++ (record { id = id; place = p.channel; ticket = p.ticket }) ∷ []; events = n2 }) None w (asked w id i c want o))
     (sym (reply_here i c h want (Held p) is answer))
-    (leads (slice_set old.rooms i h2) (old.waits ++ (record { id = id; place = p.channel; ticket = p.ticket }) ∷ []) (Some id) None w (asked (asked_under w id) id i c want None)
+    (leads (slice_set old.rooms i h2) (old.waits ++ (record { id = id; place = p.channel; ticket = p.ticket }) ∷ []) n2 None w (asked w id i c want None)
     (changed old.rooms w.channels i h h2 c (Ask want) (rooms_of old w e) is same goes)
     (ap₂ (λ (xs : List Wait) (p : Ticket). xs ++ (record { id = id; place = p.channel; ticket = p.ticket }) ∷ []) (waits_of old w e)
     (held_is old.rooms old.waits i h want p tied at answer ∙ ap (λ (h : Home). record { channel = i; ticket = h.asks + 1 }) is))
-    refl (stays old w e).answers)))
+    (more_events n2 old w i c (Ask want) more e there refl) (stays old w e).answers)))
 
 pub asked_full : (old : Kept) (w : World) (id i : ℕ) (want : WantValue) (h h2 : Home) → old ≡ kept_world w → slice_get old.rooms i ≡ Some h → h2 ≡ h → event_end ≤ h.events
-    → Leads (record { rooms = slice_set old.rooms i h2; waits = old.waits; last_id = Some id }) (Some (Unavailable id)) w (ask id i want w)
+    → Leads (record { rooms = slice_set old.rooms i h2; waits = old.waits; events = old.events }) (Some (Unavailable id)) w (ask id i want w)
 asked_full old w id i want h h2 e at u full =
     channel_of old.rooms w.channels i h (rooms_of old w e) at
-    (λ d. Leads (record { rooms = slice_set old.rooms i h2; waits = old.waits; last_id = Some id }) (Some (Unavailable id)) w (ask_at w id i want d))
-    (λ c is. subst (λ b. Leads (record { rooms = slice_set old.rooms i h2; waits = old.waits; last_id = Some id }) (Some (Unavailable id)) w (asked_if b (asked_under w id) id i c want))
+    (λ d. Leads (record { rooms = slice_set old.rooms i h2; waits = old.waits; events = old.events }) (Some (Unavailable id)) w (ask_at w id i want d))
+    (λ c there is. subst (λ b. Leads (record { rooms = slice_set old.rooms i h2; waits = old.waits; events = old.events }) (Some (Unavailable id)) w (asked_if b w id i c want))
     (sym (ap (λ (h : Home). is_full h.events) (sym is) ∙ in_range h.events event_end full))
-    (leads (slice_set old.rooms i h2) old.waits (Some id) (Some (Unavailable id)) w (asked_if true (asked_under w id) id i c want)
-    (unset old.rooms i h h2 at u ∙ rooms_of old w e) (waits_of old w e) refl refl))
+    (leads (slice_set old.rooms i h2) old.waits old.events (Some (Unavailable id)) w (asked_if true w id i c want)
+    (unset old.rooms i h h2 at u ∙ rooms_of old w e) (waits_of old w e) (events_of old w e) refl))
 
 -- ---- a reply that is due
 
@@ -261,36 +305,36 @@ due_by i t c h (Some r) is ready e P f =
     f r e (some_is r.ticket t (sym (ap (λ o. option_map ticket_in (option_map (slot_of c.settings c.events) o)) e) ∙ sym (first_is c.settings c.events) ∙ ap (λ (h : Home). first_ready h.slots) (sym is) ∙ ready))
 
 told_there : (old : Kept) (w : World) (i t : ℕ) (c : Channel) (h h2 : Home) (x : Wait) (s : Settled) (r : Request) → old ≡ kept_world w → h ≡ home_at i c → IsSame h h2 → GoesOn h h2 (Collect t)
-    → under i t old.waits ≡ Some x → reply_at t h.slots ≡ Some s → first_due c.settings c.events ≡ Some r → r.ticket ≡ t
-    → Leads (record { rooms = slice_set old.rooms i h2; waits = without i t old.waits; last_id = old.last_id }) (Some (Replied x.id (reply_of s))) w (told_to w i c r (under i r.ticket w.waits))
-told_there old w i t c h h2 x s r e is same goes found there due k =
-    subst (λ o. Leads (record { rooms = slice_set old.rooms i h2; waits = without i t old.waits; last_id = old.last_id }) (Some (Replied x.id (reply_of s))) w (told_to w i c r o))
+    → slice_get w.channels i ≡ Some c → under i t old.waits ≡ Some x → reply_at t h.slots ≡ Some s → first_due c.settings c.events ≡ Some r → r.ticket ≡ t
+    → Leads (record { rooms = slice_set old.rooms i h2; waits = without i t old.waits; events = old.events }) (Some (Replied x.id (reply_of s))) w (told_to w i c r (under i r.ticket w.waits))
+told_there old w i t c h h2 x s r e is same goes here found there due k =
+    subst (λ o. Leads (record { rooms = slice_set old.rooms i h2; waits = without i t old.waits; events = old.events }) (Some (Replied x.id (reply_of s))) w (told_to w i c r o))
     (sym (ap₂ (λ n xs. under i n xs) k (sym (waits_of old w e)) ∙ found))
-    (subst (λ o. Leads (record { rooms = slice_set old.rooms i h2; waits = without i t old.waits; last_id = old.last_id }) (Some (Replied x.id (reply_of s))) w
+    (subst (λ o. Leads (record { rooms = slice_set old.rooms i h2; waits = without i t old.waits; events = old.events }) (Some (Replied x.id (reply_of s))) w
     (waits_less (told (happens w i c (Collect r.ticket)) x.id o) i r.ticket))
     (sym (sym (reply_is c.settings c.events r due) ∙ ap₂ (λ n (h : Home). reply_at n h.slots) k (sym is) ∙ there))
-    (leads (slice_set old.rooms i h2) (without i t old.waits) old.last_id (Some (Replied x.id (reply_of s))) w (waits_less (told (happens w i c (Collect r.ticket)) x.id (Some s)) i r.ticket)
+    (leads (slice_set old.rooms i h2) (without i t old.waits) old.events (Some (Replied x.id (reply_of s))) w (waits_less (told (happens w i c (Collect r.ticket)) x.id (Some s)) i r.ticket)
     (changed old.rooms w.channels i h h2 c (Collect t) (rooms_of old w e) is same goes ∙ ap (λ n. homes_from 0 (slice_set w.channels i (with_event (Collect n) c))) (sym k))
-    (ap₂ (λ n xs. without i n xs) (sym k) (waits_of old w e)) (last_of old w e) refl))
+    (ap₂ (λ n xs. without i n xs) (sym k) (waits_of old w e)) (same_events old w i c (Collect r.ticket) e here refl) refl))
 
 -- the reply of a channel that is due first is told
 pub ticked : (old : Kept) (w : World) (i t : ℕ) (h h2 : Home) (p : Ticket) (m : Mark Reply) (x : Wait) → old ≡ kept_world w → slice_get old.rooms i ≡ Some h → IsSame h h2
     → GoesOn h h2 (Collect p.ticket) → p.ticket ≡ t → first_ready h.slots ≡ Some t → under i t old.waits ≡ Some x → Got m ≡ room.collected h p
-    → Leads (record { rooms = slice_set old.rooms i h2; waits = without i t old.waits; last_id = old.last_id }) (Some (Replied x.id m.value)) w (tick i w)
+    → Leads (record { rooms = slice_set old.rooms i h2; waits = without i t old.waits; events = old.events }) (Some (Replied x.id m.value)) w (tick i w)
 ticked old w i t h h2 p m x e at same goes pt ready found handed =
     channel_of old.rooms w.channels i h (rooms_of old w e) at
-    (λ d. Leads (record { rooms = slice_set old.rooms i h2; waits = without i t old.waits; last_id = old.last_id }) (Some (Replied x.id m.value)) w (tick_at w i d))
-    (λ c is. due_by i t c h (first_due c.settings c.events) is ready refl
-    (λ o. Leads (record { rooms = slice_set old.rooms i h2; waits = without i t old.waits; last_id = old.last_id }) (Some (Replied x.id m.value)) w (tick_of w i c o))
-    (λ r due k. by_reply c is r due k (reply_at t h.slots) refl (ap (λ n. option_map reply_of (reply_at n h.slots)) (sym pt) ∙ handed_is h p m handed)))
+    (λ d. Leads (record { rooms = slice_set old.rooms i h2; waits = without i t old.waits; events = old.events }) (Some (Replied x.id m.value)) w (tick_at w i d))
+    (λ c there is. due_by i t c h (first_due c.settings c.events) is ready refl
+    (λ o. Leads (record { rooms = slice_set old.rooms i h2; waits = without i t old.waits; events = old.events }) (Some (Replied x.id m.value)) w (tick_of w i c o))
+    (λ r due k. by_reply c there is r due k (reply_at t h.slots) refl (ap (λ n. option_map reply_of (reply_at n h.slots)) (sym pt) ∙ handed_is h p m handed)))
   where
-    by_reply : (c : Channel) → h ≡ home_at i c → (r : Request) → first_due c.settings c.events ≡ Some r → r.ticket ≡ t → (o : Option Settled) → reply_at t h.slots ≡ o → option_map reply_of o ≡ Some m.value
-        → Leads (record { rooms = slice_set old.rooms i h2; waits = without i t old.waits; last_id = old.last_id }) (Some (Replied x.id m.value)) w (told_to w i c r (under i r.ticket w.waits))
-    by_reply c is r due k None there v = absurd (none_some m.value v)
-    by_reply c is r due k (Some s) there v =
-        subst (λ v. Leads (record { rooms = slice_set old.rooms i h2; waits = without i t old.waits; last_id = old.last_id }) (Some (Replied x.id v)) w (told_to w i c r (under i r.ticket w.waits)))
+    by_reply : (c : Channel) → slice_get w.channels i ≡ Some c → h ≡ home_at i c → (r : Request) → first_due c.settings c.events ≡ Some r → r.ticket ≡ t → (o : Option Settled) → reply_at t h.slots ≡ o → option_map reply_of o ≡ Some m.value
+        → Leads (record { rooms = slice_set old.rooms i h2; waits = without i t old.waits; events = old.events }) (Some (Replied x.id m.value)) w (told_to w i c r (under i r.ticket w.waits))
+    by_reply c here is r due k None there v = absurd (none_some m.value v)
+    by_reply c here is r due k (Some s) there v =
+        subst (λ v. Leads (record { rooms = slice_set old.rooms i h2; waits = without i t old.waits; events = old.events }) (Some (Replied x.id v)) w (told_to w i c r (under i r.ticket w.waits)))
         (some_is (reply_of s) m.value v)
-        (told_there old w i t c h h2 x s r e is same (subst (λ n. GoesOn h h2 (Collect n)) pt goes) found there due k)
+        (told_there old w i t c h h2 x s r e is same (subst (λ n. GoesOn h h2 (Collect n)) pt goes) here found there due k)
 
 idle_by : (c : Configuration) (events : List Event) (o : Option Request) → first_due c events ≡ o → first_ready (state_of c events).slots ≡ None → (P : Option Request → Type 0) → P None → P o
 idle_by c events None e idle P p = p
@@ -299,13 +343,21 @@ idle_by c events (Some r) e idle P p =
 
 -- nothing is due
 pub idle : (old : Kept) (w : World) (i : ℕ) (h h2 : Home) → old ≡ kept_world w → slice_get old.rooms i ≡ Some h → h2 ≡ h → first_ready h.slots ≡ None
-    → Leads (record { rooms = slice_set old.rooms i h2; waits = old.waits; last_id = old.last_id }) None w (tick i w)
+    → Leads (record { rooms = slice_set old.rooms i h2; waits = old.waits; events = old.events }) None w (tick i w)
 idle old w i h h2 e at u none =
     channel_of old.rooms w.channels i h (rooms_of old w e) at
-    (λ d. Leads (record { rooms = slice_set old.rooms i h2; waits = old.waits; last_id = old.last_id }) None w (tick_at w i d))
-    (λ c is. idle_by c.settings c.events (first_due c.settings c.events) refl (ap (λ (h : Home). first_ready h.slots) (sym is) ∙ none)
-    (λ o. Leads (record { rooms = slice_set old.rooms i h2; waits = old.waits; last_id = old.last_id }) None w (tick_of w i c o))
-    (leads (slice_set old.rooms i h2) old.waits old.last_id None w w (unset old.rooms i h h2 at u ∙ rooms_of old w e) (waits_of old w e) (last_of old w e) (stays old w e).answers))
+    (λ d. Leads (record { rooms = slice_set old.rooms i h2; waits = old.waits; events = old.events }) None w (tick_at w i d))
+    (λ c there is. idle_by c.settings c.events (first_due c.settings c.events) refl (ap (λ (h : Home). first_ready h.slots) (sym is) ∙ none)
+    (λ o. Leads (record { rooms = slice_set old.rooms i h2; waits = old.waits; events = old.events }) None w (tick_of w i c o))
+    (leads (slice_set old.rooms i h2) old.waits old.events None w w (unset old.rooms i h h2 at u ∙ rooms_of old w e) (waits_of old w e) (events_of old w e) (stays old w e).answers))
+
+pub still_nowhere : (old : Kept) (w : World) (i : ℕ) → old ≡ kept_world w → slice_get old.rooms i ≡ None → tick i w ≡ w
+still_nowhere old w i e at = no_channel old.rooms w.channels i (rooms_of old w e) at (λ d. tick_at w i d ≡ w) refl
+
+pub still_idle : (old : Kept) (w : World) (i : ℕ) (h : Home) → old ≡ kept_world w → slice_get old.rooms i ≡ Some h → first_ready h.slots ≡ None → tick i w ≡ w
+still_idle old w i h e at none =
+    channel_of old.rooms w.channels i h (rooms_of old w e) at (λ d. tick_at w i d ≡ w)
+    (λ c there is. idle_by c.settings c.events (first_due c.settings c.events) refl (ap (λ (h : Home). first_ready h.slots) (sym is) ∙ none) (λ o. tick_of w i c o ≡ w) refl)
 
 -- ---- a request is given up
 
@@ -316,15 +368,15 @@ closes rooms waits i t h p tied at found is =
     ap (λ p. room.is_done (room.closed h p)) is
     ∙ ap₂ (λ a b. room.is_done (if a && b then given_up.Done else given_up.Stranger (record { channel = i; ticket = t }))) (ap (λ n. i == n) (number_is rooms waits i h tied at) ∙ same_test i) (sym (is_open_there rooms waits i t h tied at) ∙ found)
 
-pub gave_up : (old : Kept) (w : World) (x : Wait) (h h2 : Home) (p : Ticket) → old ≡ kept_world w → slice_get old.rooms x.place ≡ Some h → IsSame h h2
+pub gave_up : (n2 : ℕ) (old : Kept) (w : World) (x : Wait) (h h2 : Home) (p : Ticket) → n2 ≡ one_more old.events → old ≡ kept_world w → slice_get old.rooms x.place ≡ Some h → IsSame h h2
     → GoesOn h h2 (Close p.ticket) → p.ticket ≡ x.ticket
-    → Leads (record { rooms = slice_set old.rooms x.place h2; waits = without x.place x.ticket old.waits; last_id = old.last_id }) None w (close_at w x (slice_get w.channels x.place))
-gave_up old w x h h2 p e at same goes pt =
+    → Leads (record { rooms = slice_set old.rooms x.place h2; waits = without x.place x.ticket old.waits; events = n2 }) None w (close_at w x (slice_get w.channels x.place))
+gave_up n2 old w x h h2 p more e at same goes pt =
     channel_of old.rooms w.channels x.place h (rooms_of old w e) at
-    (λ d. Leads (record { rooms = slice_set old.rooms x.place h2; waits = without x.place x.ticket old.waits; last_id = old.last_id }) None w (close_at w x d))
-    (λ c is. leads (slice_set old.rooms x.place h2) (without x.place x.ticket old.waits) old.last_id None w (close_at w x (Some c))
+    (λ d. Leads (record { rooms = slice_set old.rooms x.place h2; waits = without x.place x.ticket old.waits; events = n2 }) None w (close_at w x d))
+    (λ c there is. leads (slice_set old.rooms x.place h2) (without x.place x.ticket old.waits) n2 None w (close_at w x (Some c))
     (changed old.rooms w.channels x.place h h2 c (Close x.ticket) (rooms_of old w e) is same (subst (λ n. GoesOn h h2 (Close n)) pt goes))
-    (ap (λ xs. without x.place x.ticket xs) (waits_of old w e)) (last_of old w e) (stays old w e).answers)
+    (ap (λ xs. without x.place x.ticket xs) (waits_of old w e)) (more_events n2 old w x.place c (Close x.ticket) more e there refl) (stays old w e).answers)
 
 some_found : {X : Type 0} (q : X → Bool) (x y : X) (b : Bool) (o : Option X) → is_some o ≡ true → is_some (cond b (Some y) o) ≡ true
 some_found q x y true o h = refl
@@ -369,9 +421,9 @@ room_is rooms cs s h are is =
     ∙ homes_more 0 cs (record { settings = s; events = [] }) (length rooms) (ap length are ∙ homes_length 0 cs ∙ sym (no_more (length cs)))
 
 pub declared : (old : Kept) (w : World) (s : Configuration) (h : Home) → old ≡ kept_world w → h ≡ home (length old.rooms) s (state_of s [])
-    → Leads (record { rooms = old.rooms ++ h ∷ []; waits = old.waits; last_id = old.last_id }) None w (declare s w)
+    → Leads (record { rooms = old.rooms ++ h ∷ []; waits = old.waits; events = old.events }) None w (declare s w)
 declared old w s h e is =
-    leads (old.rooms ++ h ∷ []) old.waits old.last_id None w (declare s w) (room_is old.rooms w.channels s h (rooms_of old w e) is) (waits_of old w e) (last_of old w e) (stays old w e).answers
+    leads (old.rooms ++ h ∷ []) old.waits old.events None w (declare s w) (room_is old.rooms w.channels s h (rooms_of old w e) is) (waits_of old w e) (events_of old w e ∙ ap (λ n. min n count_end) (none_brought s w.channels)) (stays old w e).answers
 
 get_more : (xs : List Home) (h : Home) (j : ℕ) → tickets h ≡ [] → open_in (slice_get (xs ++ h ∷ []) j) ≡ open_in (slice_get xs j)
 get_more [] h zero e = e

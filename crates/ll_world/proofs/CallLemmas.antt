@@ -21,13 +21,13 @@ use Rattle.ll_held.specs.declared.wait.Wait.{Wait}
 use Rattle.ll_world.specs.Kept.{AreTied, Kept, Leads, kept_world}
 use Rattle.ll_world.specs.World.{World, ask, clock, close_at, tick}
 use Rattle.ll_world.specs.declared.answer.Answer.TheVariants.{ClockRefused, Replied}
-use Rattle.ll_world.proofs.ActLemmas.{Answered, own_test, asked_held, held_is, clock_full, clock_range, closes, gave_up, gets, ready_waits, ticked}
+use Rattle.ll_world.proofs.ActLemmas.{Answered, own_test, asked_held, held_is, clock_full, clock_range, closes, gave_up, gets, one_more, ready_waits, ticked}
 use Rattle.ll_world.proofs.DueLemmas.{find_passes}
 use Rattle.ll_world.proofs.StandLemmas.{GoesOn, still_back, still_less, still_more}
 use Rattle.ll_world.proofs.TieLemmas.{get_set, has_room, none_some, some_is}
 
-abbrev pub kept_of : List Home → List Wait → Option ℕ → Kept
-kept_of rooms waits last = record { rooms = rooms; waits = waits; last_id = last }
+abbrev pub kept_of : List Home → List Wait → ℕ → Kept
+kept_of rooms waits n = record { rooms = rooms; waits = waits; events = n }
 
 none_by : {X : Type 0} (xs : List X) (n i : ℕ) (o : Option X) → slice_get xs i ≡ o → n ≡ length xs → (i < n → false ≡ true) → o ≡ None
 none_by xs n i None e l past = refl
@@ -80,22 +80,22 @@ tied_gave_up rooms waits waits2 i t h h2 p tied at same goes fewer value left =
     subst (λ xs. AreTied (slice_set rooms i h2) xs) (ap (λ n. without i n waits) (ticket_is i t p waits value) ∙ sym left)
     (still_less rooms waits i p.ticket h h2 (Close p.ticket) tied at same goes fewer)
 
-pub told_due : (rooms : List Home) (waits waits2 : List Wait) (last : Option ℕ) (w : World) (i t : ℕ) (h h2 : Home) (p : Ticket) (m : Mark Reply) (v : Reply) (x : Wait)
-    → kept_of rooms waits last ≡ kept_world w → slice_get rooms i ≡ Some h → IsSame h h2 → GoesOn h h2 (Collect p.ticket) → first_ready h.slots ≡ Some t → Some x ≡ under i t waits
+pub told_due : (rooms : List Home) (waits waits2 : List Wait) (n : ℕ) (w : World) (i t : ℕ) (h h2 : Home) (p : Ticket) (m : Mark Reply) (v : Reply) (x : Wait)
+    → kept_of rooms waits n ≡ kept_world w → slice_get rooms i ≡ Some h → IsSame h h2 → GoesOn h h2 (Collect p.ticket) → first_ready h.slots ≡ Some t → Some x ≡ under i t waits
     → Some p ≡ option_map parked_of (under i t waits) → waits2 ≡ without i t waits → Got m ≡ room.collected h p → v ≡ m.value
-    → Leads (kept_of (slice_set rooms i h2) waits2 last) (Some (Replied x.id v)) w (tick i w)
-told_due rooms waits waits2 last w i t h h2 p m v x e at same goes ready found value left handed is =
-    subst (λ v. Leads (kept_of (slice_set rooms i h2) waits2 last) (Some (Replied x.id v)) w (tick i w)) (sym is)
-    (subst (λ xs. Leads (kept_of (slice_set rooms i h2) xs last) (Some (Replied x.id m.value)) w (tick i w)) (sym left)
-    (ticked (kept_of rooms waits last) w i t h h2 p m x e at same goes (ticket_is i t p waits value) ready (sym found) handed))
+    → Leads (kept_of (slice_set rooms i h2) waits2 n) (Some (Replied x.id v)) w (tick i w)
+told_due rooms waits waits2 n w i t h h2 p m v x e at same goes ready found value left handed is =
+    subst (λ v. Leads (kept_of (slice_set rooms i h2) waits2 n) (Some (Replied x.id v)) w (tick i w)) (sym is)
+    (subst (λ xs. Leads (kept_of (slice_set rooms i h2) xs n) (Some (Replied x.id m.value)) w (tick i w)) (sym left)
+    (ticked (kept_of rooms waits n) w i t h h2 p m x e at same goes (ticket_is i t p waits value) ready (sym found) handed))
 
-pub gave_up_one : (rooms : List Home) (waits waits2 : List Wait) (last : Option ℕ) (w : World) (x : Wait) (h h2 : Home) (p : Ticket)
-    → kept_of rooms waits last ≡ kept_world w → slice_get rooms x.place ≡ Some h → IsSame h h2 → GoesOn h h2 (Close p.ticket)
+pub gave_up_one : (rooms : List Home) (waits waits2 : List Wait) (n n2 : ℕ) (w : World) (x : Wait) (h h2 : Home) (p : Ticket)
+    → n2 ≡ one_more n → kept_of rooms waits n ≡ kept_world w → slice_get rooms x.place ≡ Some h → IsSame h h2 → GoesOn h h2 (Close p.ticket)
     → Some p ≡ option_map parked_of (under x.place x.ticket waits) → waits2 ≡ without x.place x.ticket waits
-    → Leads (kept_of (slice_set rooms x.place h2) waits2 last) None w (close_at w x (slice_get w.channels x.place))
-gave_up_one rooms waits waits2 last w x h h2 p e at same goes value left =
-    subst (λ xs. Leads (kept_of (slice_set rooms x.place h2) xs last) None w (close_at w x (slice_get w.channels x.place))) (sym left)
-    (gave_up (kept_of rooms waits last) w x h h2 p e at same goes (ticket_is x.place x.ticket p waits value))
+    → Leads (kept_of (slice_set rooms x.place h2) waits2 n2) None w (close_at w x (slice_get w.channels x.place))
+gave_up_one rooms waits waits2 n n2 w x h h2 p more e at same goes value left =
+    subst (λ xs. Leads (kept_of (slice_set rooms x.place h2) xs n2) None w (close_at w x (slice_get w.channels x.place))) (sym left)
+    (gave_up n2 (kept_of rooms waits n) w x h h2 p more e at same goes (ticket_is x.place x.ticket p waits value))
 
 pub not_stranger : (rooms : List Home) (waits : List Wait) (i t : ℕ) (h : Home) (p : Ticket) → AreTied rooms waits → slice_get rooms i ≡ Some h → is_some (under i t waits) ≡ true
     → Some p ≡ option_map parked_of (under i t waits) → room.is_done (room.closed h p) ≡ false → ⊥
@@ -116,7 +116,7 @@ count_is m = m.value
 
 pub clock_refused : (old : Kept) (w : World) (i ms : ℕ) (f : ClockFault) (h h2 : Home) → old ≡ kept_world w → slice_get old.rooms i ≡ Some h → h2 ≡ h
     → (f ≡ ClockRange → 2 ^ 60 < ms) → (f ≡ RecordFull → (ms ≤ 2 ^ 60) × (event_end ≤ h.events))
-    → Leads (kept_of (slice_set old.rooms i h2) old.waits old.last_id) (Some (ClockRefused f)) w (clock i ms w)
+    → Leads (kept_of (slice_set old.rooms i h2) old.waits old.events) (Some (ClockRefused f)) w (clock i ms w)
 clock_refused old w i ms ClockRange h h2 e at u range full = clock_range old w i ms h h2 e at u (range refl)
 clock_refused old w i ms RecordFull h h2 e at u range full = clock_full old w i ms h h2 e at u (full refl).0 (full refl).1
 
@@ -144,12 +144,12 @@ tied_held rooms waits waits2 i id want p h h2 tied at same goes answer more back
     (subst (λ n. AreTied (slice_set rooms i h2) (waits ++ (record { id = id; place = n; ticket = p.ticket }) ∷ [])) (sym (ap (λ (p : Ticket). p.channel) (held_is rooms waits i h want p tied at answer)))
     (still_more rooms waits (record { id = id; place = i; ticket = p.ticket }) h h2 (Ask want) tied at same goes more back))
 
-pub held_leads : (rooms : List Home) (waits waits2 : List Wait) (last : Option ℕ) (w : World) (id i : ℕ) (want : WantValue) (p : Ticket) (h h2 : Home) → kept_of rooms waits last ≡ kept_world w → AreTied rooms waits
+pub held_leads : (rooms : List Home) (waits waits2 : List Wait) (n n2 : ℕ) (w : World) (id i : ℕ) (want : WantValue) (p : Ticket) (h h2 : Home) → n2 ≡ one_more n → kept_of rooms waits n ≡ kept_world w → AreTied rooms waits
     → slice_get rooms i ≡ Some h → IsSame h h2 → GoesOn h h2 (Ask want) → Answered h want (Held p) → h.events < event_end
-    → waits2 ≡ waits ++ (record { id = id; place = p.channel; ticket = p.ticket }) ∷ [] → Leads (kept_of (slice_set rooms i h2) waits2 (Some id)) None w (ask id i want w)
-held_leads rooms waits waits2 last w id i want p h h2 e tied at same goes answer few left =
-    subst (λ xs. Leads (kept_of (slice_set rooms i h2) xs (Some id)) None w (ask id i want w)) (sym left)
-    (asked_held (kept_of rooms waits last) w id i want p h h2 e tied at same goes answer few)
+    → waits2 ≡ waits ++ (record { id = id; place = p.channel; ticket = p.ticket }) ∷ [] → Leads (kept_of (slice_set rooms i h2) waits2 n2) None w (ask id i want w)
+held_leads rooms waits waits2 n n2 w id i want p h h2 more e tied at same goes answer few left =
+    subst (λ xs. Leads (kept_of (slice_set rooms i h2) xs n2) None w (ask id i want w)) (sym left)
+    (asked_held n2 (kept_of rooms waits n) w id i want p h h2 more e tied at same goes answer few)
 
 last_by : (y : Wait) (b : Bool) (o : Option Wait) → is_some o ≡ true → is_some (if b then Some y else o) ≡ true
 last_by y true o h = refl

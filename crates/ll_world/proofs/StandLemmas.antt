@@ -5,7 +5,7 @@ use Rattle.ll_verdict.specs.State.{state_of}
 use Rattle.ll_room.specs.Home.{Home, IsSame, Stands, home, less, tickets}
 use Rattle.ll_held.specs.Waits.{without}
 use Rattle.ll_held.specs.declared.wait.Wait.{Wait}
-use Rattle.ll_world.specs.World.{Channel, World, with_event}
+use Rattle.ll_world.specs.World.{Channel, World, event_count, with_event}
 use Rattle.ll_world.specs.Kept.{AreTied, Kept, Leads, answers_of, home_at, homes_from, kept_world}
 use Rattle.ll_world.specs.declared.answer.Answer.{Answer}
 use Rattle.ll_world.proofs.TieLemmas.{none_some, some_is, tied_less, tied_more, tied_same}
@@ -36,13 +36,13 @@ homes_more n (d ∷ cs) c m e = ap (λ hs. home_at n d ∷ hs) (homes_more (n + 
 
 -- the channel of a room
 at_channel : (cs : List Channel) (i : ℕ) (h : Home) (d : Option Channel) → slice_get cs i ≡ d → slice_get (homes_from 0 cs) i ≡ Some h
-    → (P : Option Channel → Type 0) → ((c : Channel) → h ≡ home_at i c → P (Some c)) → P d
+    → (P : Option Channel → Type 0) → ((c : Channel) → slice_get cs i ≡ Some c → h ≡ home_at i c → P (Some c)) → P d
 at_channel cs i h None e at P f = absurd (none_some h (sym (homes_get 0 cs i ∙ ap (option_map (home_at (0 + i))) e) ∙ at))
 at_channel cs i h (Some c) e at P f =
-    f c (some_is h (home_at i c) (sym at ∙ homes_get 0 cs i ∙ ap (option_map (home_at (0 + i))) e ∙ ap (λ m. Some (home_at m c)) (no_more i)))
+    f c e (some_is h (home_at i c) (sym at ∙ homes_get 0 cs i ∙ ap (option_map (home_at (0 + i))) e ∙ ap (λ m. Some (home_at m c)) (no_more i)))
 
 pub channel_of : (rooms : List Home) (cs : List Channel) (i : ℕ) (h : Home) → rooms ≡ homes_from 0 cs → slice_get rooms i ≡ Some h
-    → (P : Option Channel → Type 0) → ((c : Channel) → h ≡ home_at i c → P (Some c)) → P (slice_get cs i)
+    → (P : Option Channel → Type 0) → ((c : Channel) → slice_get cs i ≡ Some c → h ≡ home_at i c → P (Some c)) → P (slice_get cs i)
 channel_of rooms cs i h are at P f = at_channel cs i h (slice_get cs i) refl (ap (λ rs. slice_get rs i) (sym are) ∙ at) P f
 
 nowhere : (cs : List Channel) (i : ℕ) (d : Option Channel) → slice_get cs i ≡ d → slice_get (homes_from 0 cs) i ≡ None → (P : Option Channel → Type 0) → P None → P d
@@ -84,37 +84,37 @@ pub still_back : (rooms : List Home) (waits : List Wait) (i : ℕ) (h h2 h3 : Ho
     → IsSame h2 h3 → GoesOn h2 h3 f → tickets h3 ≡ tickets h → AreTied (slice_set rooms i h3) waits
 still_back rooms waits i h h2 h3 e f tied at same goes same2 goes2 k =
     channel_of rooms tied.channels i h tied.rooms_are at (λ d. AreTied (slice_set rooms i h3) waits)
-    (λ c is. tied_same rooms waits i h h3 (slice_set tied.channels i (with_event f (with_event e c))) tied at
+    (λ c there is. tied_same rooms waits i h h3 (slice_set tied.channels i (with_event f (with_event e c))) tied at
     (changed_twice rooms tied.channels i h h2 h3 c e f tied.rooms_are is same goes same2 goes2) k)
 
 pub still_same : (rooms : List Home) (waits : List Wait) (i : ℕ) (h h2 : Home) (e : Event) → AreTied rooms waits → slice_get rooms i ≡ Some h → IsSame h h2 → GoesOn h h2 e
     → tickets h2 ≡ tickets h → AreTied (slice_set rooms i h2) waits
 still_same rooms waits i h h2 e tied at same goes k =
     channel_of rooms tied.channels i h tied.rooms_are at (λ d. AreTied (slice_set rooms i h2) waits)
-    (λ c is. tied_same rooms waits i h h2 (slice_set tied.channels i (with_event e c)) tied at (changed rooms tied.channels i h h2 c e tied.rooms_are is same goes) k)
+    (λ c there is. tied_same rooms waits i h h2 (slice_set tied.channels i (with_event e c)) tied at (changed rooms tied.channels i h h2 c e tied.rooms_are is same goes) k)
 
 pub still_less : (rooms : List Home) (waits : List Wait) (i t : ℕ) (h h2 : Home) (e : Event) → AreTied rooms waits → slice_get rooms i ≡ Some h → IsSame h h2 → GoesOn h h2 e
     → tickets h2 ≡ less t (tickets h) → AreTied (slice_set rooms i h2) (without i t waits)
 still_less rooms waits i t h h2 e tied at same goes k =
     channel_of rooms tied.channels i h tied.rooms_are at (λ d. AreTied (slice_set rooms i h2) (without i t waits))
-    (λ c is. tied_less rooms waits i t h h2 (slice_set tied.channels i (with_event e c)) tied at (changed rooms tied.channels i h h2 c e tied.rooms_are is same goes) k)
+    (λ c there is. tied_less rooms waits i t h h2 (slice_set tied.channels i (with_event e c)) tied at (changed rooms tied.channels i h h2 c e tied.rooms_are is same goes) k)
 
 pub still_more : (rooms : List Home) (waits : List Wait) (x : Wait) (h h2 : Home) (e : Event) → AreTied rooms waits → slice_get rooms x.place ≡ Some h → IsSame h h2 → GoesOn h h2 e
     → tickets h2 ≡ tickets h ++ x.ticket ∷ [] → less x.ticket (tickets h2) ≡ tickets h → AreTied (slice_set rooms x.place h2) (waits ++ x ∷ [])
 still_more rooms waits x h h2 e tied at same goes k back =
     channel_of rooms tied.channels x.place h tied.rooms_are at (λ d. AreTied (slice_set rooms x.place h2) (waits ++ x ∷ []))
-    (λ c is. tied_more rooms waits x h h2 (slice_set tied.channels x.place (with_event e c)) tied at (changed rooms tied.channels x.place h h2 c e tied.rooms_are is same goes) k back)
+    (λ c there is. tied_more rooms waits x h h2 (slice_set tied.channels x.place (with_event e c)) tied at (changed rooms tied.channels x.place h h2 c e tied.rooms_are is same goes) k back)
 
 -- each room's number is its place
 pub number_is : (rooms : List Home) (waits : List Wait) (i : ℕ) (h : Home) → AreTied rooms waits → slice_get rooms i ≡ Some h → h.channel ≡ i
-number_is rooms waits i h tied at = channel_of rooms tied.channels i h tied.rooms_are at (λ d. h.channel ≡ i) (λ c is. ap (λ (h : Home). h.channel) is)
+number_is rooms waits i h tied at = channel_of rooms tied.channels i h tied.rooms_are at (λ d. h.channel ≡ i) (λ c there is. ap (λ (h : Home). h.channel) is)
 
 -- ---- one act
 
-pub leads : (rooms : List Home) (waits : List Wait) (last : Option ℕ) (a : Option Answer) (w w2 : World) → rooms ≡ homes_from 0 w2.channels → waits ≡ w2.waits → last ≡ w2.last_id
-    → w2.answers ≡ w.answers ++ answers_of a → Leads (record { rooms = rooms; waits = waits; last_id = last }) a w w2
-leads rooms waits last a w w2 e f g k = record {
-  stands = ap₂ (λ rs xs. record { rooms = rs; waits = xs; last_id = last }) e f ∙ ap (λ l. record { rooms = homes_from 0 w2.channels; waits = w2.waits; last_id = l }) g;
+pub leads : (rooms : List Home) (waits : List Wait) (n : ℕ) (a : Option Answer) (w w2 : World) → rooms ≡ homes_from 0 w2.channels → waits ≡ w2.waits → n ≡ event_count w2
+    → w2.answers ≡ w.answers ++ answers_of a → Leads (record { rooms = rooms; waits = waits; events = n }) a w w2
+leads rooms waits n a w w2 e f g k = record {
+  stands = ap₂ (λ rs xs. record { rooms = rs; waits = xs; events = n }) e f ∙ ap (λ m. record { rooms = homes_from 0 w2.channels; waits = w2.waits; events = m }) g;
   answers = k;
 }
 

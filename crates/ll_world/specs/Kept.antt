@@ -4,7 +4,7 @@ use Rattle.std.specs.List.{list_any}
 use Rattle.ll_room.specs.Home.{Home, home, tickets}
 use Rattle.ll_verdict.specs.State.{state_of}
 use Rattle.ll_held.specs.declared.wait.Wait.{Wait}
-use Rattle.ll_world.specs.World.{Channel, World}
+use Rattle.ll_world.specs.World.{Channel, World, event_count}
 use Rattle.ll_world.specs.declared.answer.Answer.{Answer}
 
 pub record Kept : Type 0 where
@@ -12,8 +12,8 @@ pub record Kept : Type 0 where
   pub rooms : List Home
   -- the requests that wait, in order of asking
   pub waits : List Wait
-  -- the last number of a request
-  pub last_id : Option ℕ
+  -- how many events lines brought
+  pub events : ℕ
 
 -- the room at this place for a channel
 abbrev pub home_at : ℕ → Channel → Home
@@ -26,7 +26,7 @@ homes_from place (channel ∷ channels) = home_at place channel ∷ homes_from (
 
 -- what is kept of what a script has come to
 abbrev pub kept_world : World → Kept
-kept_world w = record { rooms = homes_from 0 w.channels; waits = w.waits; last_id = w.last_id }
+kept_world w = record { rooms = homes_from 0 w.channels; waits = w.waits; events = event_count w }
 
 -- the answer of an act, where it is answered
 abbrev pub answers_of : Option Answer → List Answer

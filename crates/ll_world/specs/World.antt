@@ -1,5 +1,5 @@
 -- What the acts of a script come to in its channels, act by act.
-use Rattle.std.specs.Prelude.{ℕ, zero, suc, ◌+◌, ◌^◌, ◌&&◌, List, [], ◌∷◌, ◌++◌, Bool, true, false, not, Option, Some, None, is_some, length, find, fold, nat_le, slice_get, slice_set, if◌then◌else◌}
+use Rattle.std.specs.Prelude.{ℕ, zero, suc, ◌+◌, ◌-◌, ◌^◌, ◌&&◌, List, [], ◌∷◌, ◌++◌, Bool, true, false, not, Option, Some, None, is_some, length, filter, find, fold, min, nat_le, slice_get, slice_set, sum_by, if◌then◌else◌}
 use Rattle.ll_directive.specs.Targets.{WantValue}
 use Rattle.ll_item.specs.Settings.{Configuration}
 use Rattle.ll_item.specs.declared.item.Item.{Item}
@@ -26,13 +26,11 @@ pub record World : Type 0 where
   pub channels : List Channel
   -- the requests that had to wait and got no reply yet, in order of asking
   pub waits : List Wait
-  -- the last number of a request
-  pub last_id : Option ℕ
   -- what was answered
   pub answers : List Answer
 
 abbrev pub start : World
-start = record { channels = []; waits = []; last_id = None; answers = [] }
+start = record { channels = []; waits = []; answers = [] }
 
 abbrev pub with_event : Event → Channel → Channel
 with_event event channel = record { settings = channel.settings; events = channel.events ++ event ∷ [] }
@@ -48,9 +46,6 @@ waits_more w x = record w { waits = w.waits ++ x ∷ [] }
 
 abbrev pub waits_less : World → ℕ → ℕ → World
 waits_less w place ticket = record w { waits = without place ticket w.waits }
-
-abbrev pub asked_under : World → ℕ → World
-asked_under w id = record w { last_id = Some id }
 
 -- a channel is declared, with no events
 abbrev pub declare : Configuration → World → World
@@ -83,7 +78,7 @@ asked_if false w id place channel want = asked w id place channel want (at_once 
 
 abbrev pub ask_at : World → ℕ → ℕ → WantValue → Option Channel → World
 ask_at w id place want None = w
-ask_at w id place want (Some channel) = asked_if (is_full (length channel.events)) (asked_under w id) id place channel want
+ask_at w id place want (Some channel) = asked_if (is_full (length channel.events)) w id place channel want
 
 -- a request under this number is made of the channel at this place
 abbrev pub ask : ℕ → ℕ → WantValue → World → World
@@ -166,3 +161,24 @@ rest place w = repeat (tick place) (length w.waits) w
 -- at the end all requests that wait are given up
 abbrev pub finish : World → World
 finish w = fold (λ v x. close_at v x (slice_get v.channels x.place)) w w.waits
+
+-- ---- the count of events
+
+-- whether an event is one that a line brings, and no reply that is handed out
+abbrev pub is_brought : Event → Bool
+is_brought (Publish item) = true
+is_brought (Ask want) = true
+is_brought (Collect ticket) = false
+is_brought (Close ticket) = true
+is_brought (Clock ms) = true
+
+abbrev pub brought : Channel → ℕ
+brought channel = length (filter is_brought channel.events)
+
+-- the most that are counted
+abbrev pub count_end : ℕ
+count_end = 2 ^ 64 - 1
+
+-- how many events lines brought, in all channels
+abbrev pub event_count : World → ℕ
+event_count w = min (sum_by brought w.channels) count_end

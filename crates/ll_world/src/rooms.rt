@@ -19,7 +19,7 @@ pub struct Rooms {
     alloc: Global,
     rooms: Vec<Room>,
     held: Held,
-    last_id: Option<u64>,
+    events: u64,
 }
 
 impl Model for Rooms {
@@ -27,7 +27,7 @@ impl Model for Rooms {
 
     ghost Value = { Kept };
 
-    ghost view = { λ r. record { rooms = r.rooms.items; waits = r.held; last_id = r.last_id } };
+    ghost view = { λ r. record { rooms = r.rooms.items; waits = r.held; events = r.events } };
 
     ghost invariant = { λ r. AreTied r.rooms.items r.held };
 }
@@ -41,7 +41,7 @@ impl Drop for Rooms {
             alloc: _,
             rooms: _,
             held: _held,
-            last_id: _,
+            events: _,
         } = self;
     }
 }
@@ -55,7 +55,7 @@ impl Rooms {
             alloc,
             rooms: Vec::new(alloc),
             held: Held::new(alloc),
-            last_id: None,
+            events: 0,
         }
     }
 
@@ -73,11 +73,12 @@ impl Rooms {
         self.held.count()
     }
 
-    /// The last number of a request.
-    pub fn last_id(&self) -> Option<u64>
-        ensures { result ≡ self.now.last_id }
+    /// How many events lines brought in all channels: items, requests, closes and readings, and no reply that was told. It counts up to
+    /// 2^64 - 1.
+    pub fn events(&self) -> u64
+        ensures { result ≡ self.now.events }
     {
-        self.last_id
+        self.events
     }
 
     /// The settings of the channel at this place.
@@ -113,6 +114,7 @@ impl Rooms {
                 return Ok(Some(answer));
             }
         };
+        self.events = self.events.saturating_add(1);
         Ok(Some(Answer::Accepted(count)))
     }
 
@@ -126,12 +128,12 @@ impl Rooms {
         };
         match room.ask(want) {
             Ok(Asked::Now(reply)) => {
-                self.last_id = Some(id);
+                self.events = self.events.saturating_add(1);
                 Ok(Some(Answer::Replied(id, reply.into_inner())))
             }
             Ok(Asked::Held(parked)) => match self.held.put(id, parked) {
                 Ok(()) => {
-                    self.last_id = Some(id);
+                    self.events = self.events.saturating_add(1);
                     Ok(None)
                 }
                 Err(parked) => match room.close(parked) {
@@ -139,10 +141,7 @@ impl Rooms {
                     Closed::Stranger(_parked) => unreachable!(),
                 },
             },
-            Err(AskFault::RecordFull) => {
-                self.last_id = Some(id);
-                Ok(Some(Answer::Unavailable(id)))
-            }
+            Err(AskFault::RecordFull) => Ok(Some(Answer::Unavailable(id))),
             Err(AskFault::Memory) => Err(AllocError),
         }
     }
@@ -174,7 +173,7 @@ impl Rooms {
             unreachable!();
         };
         match room.close(parked) {
-            Closed::Done => {}
+            Closed::Done => self.events = self.events.saturating_add(1),
             Closed::Stranger(_parked) => unreachable!(),
         }
     }
@@ -187,13 +186,14 @@ impl Rooms {
         if let Err(fault) = room.clock(ms) {
             return Some(Answer::ClockRefused(fault));
         }
+        self.events = self.events.saturating_add(1);
         None
     }
 
     /// Tells the first reply of the channel at this place that is due; none where nothing is due there.
     pub fn next_due(&mut self, place: usize) -> Option<Answer>
         ensures told { (w : World) → self.old ≡ kept_world w → Leads self.new result w (world.tick place w) }
-        ensures none { result ≡ None → self.new ≡ self.old }
+        ensures still { (w : World) → self.old ≡ kept_world w → result ≡ None → world.tick place w ≡ w }
     {
         let room = self.rooms.get_mut(place)?;
         let ticket = room.next_ready()?;
@@ -220,7 +220,7 @@ impl Rooms {
                         alloc: _,
                         rooms: _,
                         held: _held,
-                        last_id: _,
+                        events: _,
                     } = self;
                     return;
                 }

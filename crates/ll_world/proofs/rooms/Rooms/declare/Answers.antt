@@ -17,6 +17,6 @@ invariant_of-self-2 c =
 pub returns-clause-declared : goal.returns-clause-declared
 returns-clause-declared c w e =
     let v = c.self.inside.rooms in
-    subst (λ rs. Leads (kept_of rs c.self.inside.held c.self.inside.last_id) None w (declare c.args.settings w)) (sym c.in_ok-push.ensures.items)
-    (declared (kept_of v.items c.self.inside.held c.self.inside.last_id) w c.args.settings c.in_ok-room.room (c.self.view_is ∙ e)
+    subst (λ rs. Leads (kept_of rs c.self.inside.held c.self.inside.events) None w (declare c.args.settings w)) (sym c.in_ok-push.ensures.items)
+    (declared (kept_of v.items c.self.inside.held c.self.inside.events) w c.args.settings c.in_ok-room.room (c.self.view_is ∙ e)
     (c.in_ok-room.ensures ∙ ap (λ n. home n c.args.settings (state_of c.args.settings [])) (c.len.ensures ∙ v.ok.0)))

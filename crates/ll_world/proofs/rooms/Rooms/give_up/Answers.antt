@@ -27,6 +27,6 @@ invariant_of-self c =
 pub returns-clause-given_up : goal.returns-clause-given_up
 returns-clause-given_up c w e =
     let v = c.self.inside.rooms in
-    gave_up_one v.items c.self.inside.held c.take.new.self c.self.inside.last_id w c.args.wait c.in-Some-get_mut.room.now c.close.new.self c.in-Some.parked (c.self.view_is ∙ e)
+    gave_up_one v.items c.self.inside.held c.take.new.self c.self.inside.events _ w c.args.wait c.in-Some-get_mut.room.now c.close.new.self c.in-Some.parked c.saturating_add-self-inside.ensures (c.self.view_is ∙ e)
     (slice_get_read v.items _ c.args.wait.place c.in-Some-get_mut.room.now v.ok.0 (c.in-Some-get_mut.ensures.variant.0 refl) c.in-Some-get_mut.ensures.value)
     c.in-Done.ensures.same (c.in-Done.ensures.given_up refl) c.in-Some.ensures.value c.take.ensures.left
