@@ -6,7 +6,7 @@ use Rattle.std.specs.Io.KnownBytes.{Appends}
 use Rattle.std.proofs.KnownBytes.{Appends-trans}
 use Rattle.ll_world.specs.World.{repeat}
 use Rattle.ll_replay.specs.Cuts.{IsCutBetween}
-use Rattle.ll_replay.specs.Kept.{Kept, Stands, kept_world, told}
+use Rattle.ll_replay.specs.Kept.{Keeps, Kept, Says, Stands, told}
 use Rattle.ll_replay.specs.Stream.{AppendsPrefix, StopsBetween}
 use Rattle.ll_replay.specs.World.{World, tick}
 use Rattle.ll_replay.specs.declared.outcome.RunFault.{RunFault}
@@ -14,29 +14,25 @@ use Rattle.ll_replay.specs.declared.outcome.RunFault.TheVariants as fault
 use Rattle.ll_replay.proofs.WorldLaws.{Follows, follows_both, ticks-follow}
 use Rattle.ll_replay.proofs.WriteLemmas.{AppendsPrefix-after, AppendsPrefix-longer}
 
--- a step of the world whose answer is this
-abbrev pub Says : Kept → Kept → (World → World) → Option (String Global) → Type 0
-Says old new step answer = (w : World) → old ≡ kept_world w → (new ≡ kept_world (step w)) × ((step w).text ≡ w.text ++ told answer)
-
 -- a step whose answer was written
 pub said : (new old : Kept) (step : World → World) (follows : (w : World) → Follows w (step w)) (answer : Option (String Global)) (r : Result Unit RunFault)
-    (mid after : Option (List ℕ)) → Says old new step answer → OnOk r (Appends mid after (told answer))
+    (mid after : Option (List ℕ)) → ((w : World) → Keeps old w → Says new answer w (step w)) → OnOk r (Appends mid after (told answer))
     → OnOk r ((w : World) (base : Option (List ℕ)) → Stands old base mid w → Stands new base after (step w))
 said new old step follows answer (Err f) mid after says wrote = tt
 said new old step follows answer (Ok x) mid after says wrote = λ w base s.
-    let is = says w s.stands in record {
-      stands = is.0;
+    let is = says w s.keeps in record {
+      keeps = is.keeps;
       goes_on = (follows w).2 ∙ s.goes_on;
-      wrote = subst (Appends base after) (sym is.1) (Appends-trans base mid after w.text (told answer) s.wrote wrote);
+      wrote = subst (Appends base after) (sym is.text) (Appends-trans base mid after w.text (told answer) s.wrote wrote);
     }
 
 -- a fault in writing the answer to a step
 pub said-cut : (new old : Kept) (step : World → World) (answer : Option (String Global)) (r : Result Unit RunFault) (mid after : Option (List ℕ))
-    → Says old new step answer → IfErr r (λ f. f ≡ fault.Write) → OnErr r (AppendsPrefix mid after (told answer))
+    → ((w : World) → Keeps old w → Says new answer w (step w)) → IfErr r (λ f. f ≡ fault.Write) → OnErr r (AppendsPrefix mid after (told answer))
     → IfErr r (λ f. (w : World) (base : Option (List ℕ)) → Stands old base mid w → IsCutBetween base after w (step w) f)
 said-cut new old step answer (Ok x) mid after says kind prefix = tt
 said-cut new old step answer (Err f) mid after says kind prefix = λ w base s.
-    let more = AppendsPrefix-after base mid after w.text (told answer) (step w).text (says w s.stands).1 s.wrote prefix in
+    let more = AppendsPrefix-after base mid after w.text (told answer) (step w).text (says w s.keeps).text s.wrote prefix in
     subst (IsCutBetween base after w (step w)) (sym kind) more
 
 -- a run that stops before it says anything of what comes next

@@ -1,6 +1,9 @@
 pub mod DriverLemmas
+pub mod HeardLemmas
 pub mod LineLemmas
+pub mod RestLemmas
 pub mod RunLemmas
+pub mod SettingsLaws
 pub mod StreamLemmas
 pub mod TakeLemmas
 pub mod WorkedExamples

@@ -39,6 +39,10 @@ pub IfErr-handed : {X : Type 0} (P : RunFault → Type 0) (r : Result X RunFault
 IfErr-handed P (Ok x) f h p = tt
 IfErr-handed P (Err y) f h p = subst P (sym h) p
 
+pub same_fault : {X : Type 0} (r : Result X RunFault) (f g : RunFault) → IsErrAnd r (λ y. y ≡ f) → r ≡ Err g → f ≡ g
+same_fault (Ok x) f g h e = absurd h
+same_fault (Err y) f g h e = let k = sym h in cc
+
 -- a fault of a script is none of reading
 pub IsStopped-cut : (f : RunFault) (before after base written : Option (List ℕ)) (bytes : List ℕ) → IsCutAt base written bytes f
     → ((input : List ℕ) → before ≡ Some input → IsCutAt base written input f) → IsStopped before after base written f

@@ -93,7 +93,7 @@ byte-full (Err f) held kept written b h full is = λ bytes base s more.
     let ends = line-too-long (world_so_far bytes) n.0 s.stands.goes_on n.2 in
     subst (IsCutAt base written (bytes ++ b ∷ more)) (sym is)
     (IsCutAt-line (fault.LineTooLong (kept.lines + 1)) base written (bytes ++ b ∷ more) (ended_lines bytes) n.0 next
-    (ends.0 ∙ ap (λ (k : Kept). Some (LineTooLong (k.lines + 1))) (sym s.stands.stands), subst (Appends base written) (sym ends.1) s.stands.wrote))
+    (ends.0 ∙ ap (λ (k : Kept). Some (LineTooLong (k.lines + 1))) (sym s.stands.keeps.stands), subst (Appends base written) (sym ends.1) s.stands.wrote))
 
 -- an LF makes a line of the open one
 pub lf-taken : (held text : List ℕ) (kept kept' : Kept) (base written after : Option (List ℕ)) (bytes : List ℕ) (b : ℕ) → b ≡ 10 → text ≡ strip_carriage_return held

@@ -19,11 +19,11 @@ count_line k = record k { lines = k.lines + 1 }
 line-is : (k : Kept) (base written : Option (List ℕ)) (w : World) (text : List ℕ) (o : Option (List Act)) → Stands k base written w
     → length text ≤ 65536 → acts k.declared k.last_id text ≡ o → line w text ≡ acted (counted w) o
 line-is k base written w text o s short means =
-    line-means w text o s.goes_on short (sym (ap (λ (q : Kept). acts q.declared q.last_id text) s.stands) ∙ means)
+    line-means w text o s.goes_on short (sym (ap (λ (q : Kept). acts q.declared q.last_id text) s.keeps.stands) ∙ means)
 
 -- one more line is counted
 Stands-counted : (k : Kept) (base written : Option (List ℕ)) (w : World) → Stands k base written w → Stands (count_line k) base written (counted w)
-Stands-counted k base written w s = record { stands = ap count_line s.stands; goes_on = s.goes_on; wrote = s.wrote }
+Stands-counted k base written w s = record { keeps = record { stands = ap count_line s.keeps.stands; silent = s.keeps.silent }; goes_on = s.goes_on; wrote = s.wrote }
 
 -- a line that means these acts
 pub take-acts : {T E : Type 0} (k now new : Kept) (before after : Option (List ℕ)) (text : List ℕ) (list : List Act) (r : Result T E)
@@ -61,7 +61,7 @@ pub take-bad : (k : Kept) (base written : Option (List ℕ)) (w : World) (text :
     → length text ≤ 65536 → acts k.declared k.last_id text ≡ None → IsCutBetween base written w (line w text) (fault.BadLine (k.lines + 1))
 take-bad k base written w text s short means =
     let is = line-is k base written w text None s short means in (
-      ap (λ (v : World). v.ending) is ∙ ap (λ (q : Kept). Some (BadLine (q.lines + 1))) (sym s.stands),
+      ap (λ (v : World). v.ending) is ∙ ap (λ (q : Kept). Some (BadLine (q.lines + 1))) (sym s.keeps.stands),
       subst (λ (v : World). Appends base written v.text) (sym is) s.wrote,
     )
 
@@ -70,7 +70,7 @@ pub take-too_long : (k : Kept) (base written : Option (List ℕ)) (w : World) (t
     → IsCutBetween base written w (line w text) (fault.LineTooLong (k.lines + 1))
 take-too_long k base written w text s long =
     let is = line-too-long w text s.goes_on long in
-    (is.0 ∙ ap (λ (q : Kept). Some (LineTooLong (q.lines + 1))) (sym s.stands), subst (Appends base written) (sym is.1) s.wrote)
+    (is.0 ∙ ap (λ (q : Kept). Some (LineTooLong (q.lines + 1))) (sym s.keeps.stands), subst (Appends base written) (sym is.1) s.wrote)
 
 -- out of memory at a line that means something
 pub take-nowhere : (k : Kept) (base written : Option (List ℕ)) (w : World) (text : List ℕ) → Stands k base written w

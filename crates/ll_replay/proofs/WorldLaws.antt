@@ -9,13 +9,13 @@ use Rattle.ll_script.specs.declared.act.Act.{Act}
 use Rattle.ll_script.specs.declared.act.Act.TheVariants.{Declare, Offer, Refuse, Ask, Answer, Close, Clock, RefuseClock}
 use Rattle.ll_script.specs.declared.clock.ClockRefusal.TheVariants as refused
 use Rattle.ll_world.specs.World as rooms
-use Rattle.ll_replay.specs.World.{World, Ending, LineTooLong, act, acted, all_settings, counted, done, heard, line, line_by, read_by, rest, spelled, tick}
+use Rattle.ll_replay.specs.World.{World, Ending, LineTooLong, act, acted, all_settings, counted, done, heard, line, line_by, makes_due, read_by, rest, spelled, tick}
 
 -- a world that says more and ends as the first
 abbrev pub Follows : World → World → Type 0
 Follows w v = (more : List ℕ) × (v.text ≡ w.text ++ more) × (v.ending ≡ w.ending)
 
-follows_itself : (w v : World) → v.text ≡ w.text → v.ending ≡ w.ending → Follows w v
+pub follows_itself : (w v : World) → v.text ≡ w.text → v.ending ≡ w.ending → Follows w v
 follows_itself w v t e = ([], t ∙ sym (append-nil w.text), e)
 
 pub follows_both : (u v w : World) → Follows u v → Follows v w → Follows u w
@@ -44,18 +44,12 @@ ticks-follow place (suc n) w =
     follows_both w (rooms.repeat (tick place) n w) (tick place (rooms.repeat (tick place) n w)) (ticks-follow place n w)
     (tick-follows place (rooms.repeat (tick place) n w))
 
-pub rest-follows : (w : World) (a : Act) → Follows w (rest a w)
-rest-follows w (Declare settings) = follows_itself w w refl refl
-rest-follows w (Offer place item) = ticks-follow place (length w.rooms.waits) w
-rest-follows w (Refuse reason) = follows_itself w w refl refl
-rest-follows w (Ask id place want) = follows_itself w w refl refl
-rest-follows w (Answer id reason) = follows_itself w w refl refl
-rest-follows w (Close id) = follows_itself w w refl refl
-rest-follows w (Clock place ms) = ticks-follow place (length w.rooms.waits) w
-rest-follows w RefuseClock = follows_itself w w refl refl
+pub rest-follows : (w : World) (place : Option ℕ) → Follows w (rest place w)
+rest-follows w None = follows_itself w w refl refl
+rest-follows w (Some place) = ticks-follow place (length w.rooms.waits) w
 
 pub done-follows : (w : World) (a : Act) → Follows w (done w a)
-done-follows w a = follows_both w (act w a) (done w a) (act-follows w a) (rest-follows (act w a) a)
+done-follows w a = follows_both w (act w a) (done w a) (act-follows w a) (rest-follows (act w a) (makes_due a))
 
 pub acted-follows : (w : World) (list : List Act) → Follows w (acted w (Some list))
 acted-follows w [] = follows_itself w w refl refl

@@ -1,10 +1,11 @@
 -- For private contracts: what a driver keeps in place of all events.
-use Rattle.std.specs.Prelude.{◌≡◌, ℕ, List, [], Option, None, Some, String, min, string_bytes, sum_by}
+use Rattle.std.specs.Prelude.{◌≡◌, ℕ, List, [], Option, None, Some, String, ◌++◌, min, string_bytes}
 use Rattle.std.specs.declared.alloc.Global.{Global}
 use Rattle.std.specs.Io.KnownBytes.{Appends}
 use Rattle.ll_item.specs.Settings.{Configuration}
 use Rattle.ll_world.specs.Kept as rooms
-use Rattle.ll_replay.specs.World.{World, all_settings, brought, count_end}
+use Rattle.ll_world.specs.World as rooms_world
+use Rattle.ll_replay.specs.World.{World, all_settings}
 
 pub record Kept : Type 0 where
   pub rooms : rooms.Kept
@@ -12,7 +13,6 @@ pub record Kept : Type 0 where
   pub declared : List Configuration
   pub lines : ℕ
   pub last_id : Option ℕ
-  pub events : ℕ
   pub replies : ℕ
 
 -- what is kept of what a script has come to
@@ -22,17 +22,26 @@ kept_world w = record {
   declared = all_settings w;
   lines = w.lines;
   last_id = w.last_id;
-  events = min (sum_by brought w.rooms.channels) count_end;
-  replies = min w.replies count_end;
+  replies = min w.replies rooms_world.count_end;
 }
+
+-- a driver keeps what a script has come to, of which all answers are written
+pub record Keeps (driver : Kept) (w : World) : Type 0 where
+  pub stands : driver ≡ kept_world w
+  pub silent : w.rooms.answers ≡ []
 
 -- an answer, where there is one
 abbrev pub told : Option (String Global) → List ℕ
 told None = []
 told (Some line) = string_bytes line
 
+-- a step from one world to the next says this
+pub record Says (driver : Kept) (answer : Option (String Global)) (old new : World) : Type 0 where
+  pub keeps : Keeps driver new
+  pub text : new.text ≡ old.text ++ told answer
+
 -- a driver stands for what a script has come to, and what was written since base is its text
 pub record Stands (driver : Kept) (base written : Option (List ℕ)) (w : World) : Type 0 where
-  pub stands : driver ≡ kept_world w
+  pub keeps : Keeps driver w
   pub goes_on : w.ending ≡ None
   pub wrote : Appends base written w.text

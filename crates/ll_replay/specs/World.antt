@@ -1,5 +1,5 @@
 -- What a script comes to, line by line.
-use Rattle.std.specs.Prelude.{ℕ, zero, suc, ◌+◌, ◌-◌, ◌^◌, List, [], ◌∷◌, ◌++◌, Bool, true, false, Option, Some, None, length, filter, flat_map, fold, map, min, nat_lt, sum_by}
+use Rattle.std.specs.Prelude.{ℕ, ◌+◌, List, [], ◌∷◌, ◌++◌, Bool, true, false, Option, Some, None, length, filter, flat_map, fold, map, min, nat_lt}
 use Rattle.ll_item.specs.Settings.{Configuration}
 use Rattle.ll_room.specs.declared.fault.ClockFault.{ClockFault}
 use Rattle.ll_room.specs.declared.fault.ClockFault.TheVariants as fault
@@ -10,8 +10,6 @@ use Rattle.ll_script.specs.declared.act.Act.TheVariants.{Declare, Offer, Refuse,
 use Rattle.ll_script.specs.declared.ask.AskRefusal.TheVariants as unasked
 use Rattle.ll_script.specs.declared.clock.ClockRefusal.{ClockRefusal}
 use Rattle.ll_script.specs.declared.clock.ClockRefusal.TheVariants as refused
-use Rattle.ll_verdict.specs.Events as event
-use Rattle.ll_verdict.specs.Events.{Event}
 use Rattle.ll_world.specs.World as rooms
 use Rattle.ll_world.specs.declared.answer.Answer as answer
 use Rattle.ll_world.specs.declared.answer.Answer.TheVariants as said
@@ -100,19 +98,24 @@ tick place w = heard w (rooms.tick place w.rooms)
 abbrev pub rest_at : ℕ → World → World
 rest_at place w = rooms.repeat (tick place) (length w.rooms.waits) w
 
--- What happens by itself after an act: the replies that it made due are written. Only an item and a reading of the clock make any due.
-abbrev pub rest : Act → World → World
-rest (Declare settings) w = w
-rest (Offer place item) w = rest_at place w
-rest (Refuse reason) w = w
-rest (Ask id place want) w = w
-rest (Answer id reason) w = w
-rest (Close id) w = w
-rest (Clock place ms) w = rest_at place w
-rest RefuseClock w = w
+-- the channel in which an act may make replies due: only an item and a reading of the clock make any due
+abbrev pub makes_due : Act → Option ℕ
+makes_due (Declare settings) = None
+makes_due (Offer place item) = Some place
+makes_due (Refuse reason) = None
+makes_due (Ask id place want) = None
+makes_due (Answer id reason) = None
+makes_due (Close id) = None
+makes_due (Clock place ms) = Some place
+makes_due RefuseClock = None
+
+-- what happens by itself after an act: the replies that it made due are written
+abbrev pub rest : Option ℕ → World → World
+rest None w = w
+rest (Some place) w = rest_at place w
 
 abbrev pub done : World → Act → World
-done w a = rest a (act w a)
+done w a = rest (makes_due a) (act w a)
 
 -- ---- lines
 
@@ -144,23 +147,9 @@ line w text = line_by w.ending w text
 
 -- ---- the summary
 
--- whether an event is one that a line brings, and no reply that is handed out
-abbrev pub is_brought : Event → Bool
-is_brought (event.Publish item) = true
-is_brought (event.Ask want) = true
-is_brought (event.Collect ticket) = false
-is_brought (event.Close ticket) = true
-is_brought (event.Clock ms) = true
-
--- all events that lines brought, and the replies; both count up to 2^64 - 1
-abbrev pub count_end : ℕ
-count_end = 2 ^ 64 - 1
-
-abbrev pub brought : rooms.Channel → ℕ
-brought c = length (filter is_brought c.events)
-
+-- the events that lines brought, and the replies; both count up to 2^64 - 1
 abbrev pub summary_of : World → Summary
 summary_of w = record {
-  events = min (sum_by brought w.rooms.channels) count_end;
-  replies = min w.replies count_end;
+  events = rooms.event_count w.rooms;
+  replies = min w.replies rooms.count_end;
 }

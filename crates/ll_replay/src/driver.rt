@@ -1,11 +1,12 @@
 //! Takes the lines of a script, one after another.
-ghost use Rattle.std.specs.Prelude.{◌≡◌, ◌<◌, ◌≤◌, ◌+◌, ◌-◌, ◌^◌, ◌++◌, ℕ, List, Option, None, Some, IfOk, OnOk, OnErr, IfErr, IsErrOf, length, string_bytes};
+ghost use Rattle.std.specs.Prelude.{◌≡◌, ◌<◌, ◌+◌, ◌-◌, ◌^◌, ℕ, List, Option, None, Some, IfOk, OnOk, OnErr, IfErr, IsErrOf, flat_map, min, string_bytes};
 ghost use Rattle.std.specs.Io.KnownBytes.{Appends};
-ghost use Rattle.ll_script.specs.Lines.{TellsNoMemory, listed};
-ghost use Rattle.ll_world.specs.declared.answer.Answer as answer;
+ghost use Rattle.ll_script.specs.Lines.{TellsNoMemory, clocks_from, listed};
+ghost use Rattle.ll_world.specs.Kept.{answers_of};
+ghost use Rattle.ll_world.specs.World as rooms;
 ghost use Rattle.ll_replay.specs.World.{World, start, line, summary_of};
 ghost use Rattle.ll_replay.specs.World as world;
-ghost use Rattle.ll_replay.specs.Kept.{Stands, kept_world, told};
+ghost use Rattle.ll_replay.specs.Kept.{Keeps, Says, Stands, told};
 ghost use Rattle.ll_replay.specs.Cuts.{IsCutBetween};
 ghost use Rattle.ll_replay.specs.Stream.{AppendsPrefix};
 
@@ -32,7 +33,6 @@ pub(crate) struct Driver {
     declared: Declared,
     lines: u64,
     last_id: Option<u64>,
-    events: u64,
     replies: u64,
 }
 
@@ -41,7 +41,7 @@ impl Model for Driver {
 
     ghost Value = { Kept };
 
-    ghost view = { λ d. record { rooms = d.rooms; declared = d.declared; lines = d.lines; last_id = d.last_id; events = d.events; replies = d.replies } };
+    ghost view = { λ d. record { rooms = d.rooms; declared = d.declared; lines = d.lines; last_id = d.last_id; replies = d.replies } };
 }
 
 impl Driver {
@@ -56,7 +56,6 @@ impl Driver {
             declared: Declared::new(alloc),
             lines: 0,
             last_id: None,
-            events: 0,
             replies: 0,
         }
     }
@@ -73,7 +72,7 @@ impl Driver {
         ensures { (w : World) (base written : Option (List ℕ)) → Stands self.now base written w → result ≡ summary_of w }
     {
         Summary {
-            events: self.events,
+            events: self.rooms.events(),
             replies: self.replies,
         }
     }
@@ -125,6 +124,13 @@ impl Driver {
 
     /// A reading of the clock for each channel, in order of declaration; each is told of all that it made due before the next.
     fn clocks<W: Writer>(&mut self, ms: u64, writer: &mut W) -> Result<(), RunFault>
+        ensures ok { OnOk result ((w : World) (base : Option (List ℕ)) → Stands self.old base (W.written writer.old) w
+            → Stands self.new base (W.written writer.new) (world.acted w (Some (clocks_from 0 self.old.declared ms)))) }
+        ensures lines { OnOk result (self.new.lines ≡ self.old.lines) }
+        ensures cut { IfErr result (λ f. (w : World) (base : Option (List ℕ)) → Stands self.old base (W.written writer.old) w
+            → IsCutBetween base (W.written writer.new) w (world.acted w (Some (clocks_from 0 self.old.declared ms))) f) }
+        ensures steady { OnOk result (W.failures writer.new ≡ W.failures writer.old) }
+        ensures write_failed { IsErrOf result RunFault.Write → W.failures writer.old < W.failures writer.new }
     {
         for place in 0..self.declared.len() {
             self.done(Act::Clock { place, ms }, writer)?;
@@ -172,16 +178,13 @@ impl Driver {
 
     /// The first reply of the channel at this place that is due, where one is.
     fn tick(&mut self, place: usize) -> Result<Option<String>, AllocError>
-        ensures ok { (w : World) → self.old ≡ kept_world w → IfOk result (λ a.
-            (self.new ≡ kept_world (world.tick place w)) × ((world.tick place w).text ≡ w.text ++ told a)) }
-        ensures still { (w : World) → self.old ≡ kept_world w → IfOk result (λ a. a ≡ None → world.tick place w ≡ w) }
+        ensures says { (w : World) → Keeps self.old w → IfOk result (λ a. Says self.new a w (world.tick place w)) }
+        ensures still { (w : World) → Keeps self.old w → IfOk result (λ a. a ≡ None → world.tick place w ≡ w) }
         ensures lines { OnOk result (self.new.lines ≡ self.old.lines) }
     {
-        let Some(answer) = self.rooms.next_due(place) else {
-            return Ok(None);
-        };
-        self.replies = self.replies.saturating_add(1);
-        Ok(Some(spell(self.alloc, answer)?))
+        let answer = self.rooms.next_due(place);
+        self.count(&answer);
+        spell(self.alloc, answer)
     }
 
     /// Does what a line makes happen, and writes its answer.
@@ -202,8 +205,7 @@ impl Driver {
 
     /// What an act is answered, where it is answered.
     fn step(&mut self, act: Act) -> Result<Option<String>, AllocError>
-        ensures ok { (w : World) → self.old ≡ kept_world w → IfOk result (λ a.
-            (self.new ≡ kept_world (world.act w act)) × ((world.act w act).text ≡ w.text ++ told a)) }
+        ensures says { (w : World) → Keeps self.old w → IfOk result (λ a. Says self.new a w (world.act w act)) }
         ensures lines { OnOk result (self.new.lines ≡ self.old.lines) }
     {
         match act {
@@ -212,17 +214,16 @@ impl Driver {
             Act::Refuse(reason) => Ok(Some(no_line(self.alloc, reason)?)),
             Act::Ask { id, place, want } => self.ask(id, place, want),
             Act::Answer { id, fault } => self.answer(id, fault),
-            Act::Close(id) => {
-                self.close(id);
-                Ok(None)
-            }
+            Act::Close(id) => Ok(self.close(id)),
             Act::Clock { place, ms } => self.clock(place, ms),
             Act::RefuseClock => Ok(Some(clock_line(self.alloc, ClockRefusal::ClockRange)?)),
         }
     }
 
-    /// Adds a channel.
+    /// Adds a channel, which has no answer.
     fn declare(&mut self, settings: Settings) -> Result<Option<String>, AllocError>
+        ensures says { (w : World) → Keeps self.old w → IfOk result (λ a. Says self.new a w (world.act w (Act.Declare settings))) }
+        ensures lines { OnOk result (self.new.lines ≡ self.old.lines) }
     {
         let copy = settings.copy(self.alloc)?;
         self.rooms.declare(settings)?;
@@ -232,62 +233,59 @@ impl Driver {
 
     /// What an item for the channel at this place is answered.
     fn offer(&mut self, place: usize, item: Item) -> Result<Option<String>, AllocError>
+        ensures says { (w : World) → Keeps self.old w → IfOk result (λ a. Says self.new a w (world.act w (Act.Offer place item))) }
+        ensures lines { OnOk result (self.new.lines ≡ self.old.lines) }
     {
-        let Some(answer) = self.rooms.offer(place, item)? else {
-            return Ok(None);
-        };
-        if let Answer::Accepted(_) = answer {
-            self.events = self.events.saturating_add(1);
-        }
-        Ok(Some(spell(self.alloc, answer)?))
+        let answer = self.rooms.offer(place, item)?;
+        self.count(&answer);
+        spell(self.alloc, answer)
     }
 
-    /// What a request to the channel at this place is answered at once.
+    /// What a request to the channel at this place is answered at once, where it need not wait.
     fn ask(&mut self, id: u64, place: usize, want: Want) -> Result<Option<String>, AllocError>
+        ensures says { (w : World) → Keeps self.old w → IfOk result (λ a. Says self.new a w (world.act w (Act.Ask id place want))) }
+        ensures lines { OnOk result (self.new.lines ≡ self.old.lines) }
     {
         let answer = self.rooms.ask(id, place, want)?;
         self.last_id = Some(id);
-        match answer {
-            None => {
-                self.events = self.events.saturating_add(1);
-                Ok(None)
-            }
-            Some(answer) => {
-                if let Answer::Replied(..) = answer {
-                    self.events = self.events.saturating_add(1);
-                }
-                self.replies = self.replies.saturating_add(1);
-                Ok(Some(spell(self.alloc, answer)?))
-            }
-        }
+        self.count(&answer);
+        spell(self.alloc, answer)
     }
 
     /// The reply to a request that is no event of any channel.
     fn answer(&mut self, id: u64, fault: TargetFault) -> Result<Option<String>, AllocError>
+        ensures says { (w : World) → Keeps self.old w → IfOk result (λ a. Says self.new a w (world.act w (Act.Answer id fault))) }
+        ensures lines { OnOk result (self.new.lines ≡ self.old.lines) }
     {
         self.last_id = Some(id);
         self.replies = self.replies.saturating_add(1);
         Ok(Some(fault_line(self.alloc, id, fault)?))
     }
 
-    /// Gives a request up, where it waits.
-    fn close(&mut self, id: u64)
+    /// Gives a request up, where it waits, which has no answer.
+    fn close(&mut self, id: u64) -> Option<String>
+        ensures says { (w : World) → Keeps self.old w → Says self.new result w (world.act w (Act.Close id)) }
+        ensures lines { self.new.lines ≡ self.old.lines }
     {
-        if self.rooms.close(id) {
-            self.events = self.events.saturating_add(1);
-        }
+        self.rooms.close(id);
+        None
     }
 
-    /// What a reading of the clock of the channel at this place is answered.
+    /// What a reading of the clock of the channel at this place is answered, where it is refused.
     fn clock(&mut self, place: usize, ms: u64) -> Result<Option<String>, AllocError>
+        ensures says { (w : World) → Keeps self.old w → IfOk result (λ a. Says self.new a w (world.act w (Act.Clock place ms))) }
+        ensures lines { OnOk result (self.new.lines ≡ self.old.lines) }
     {
-        match self.rooms.clock(place, ms) {
-            Some(refused) => Ok(Some(spell(self.alloc, refused)?)),
-            None => {
-                self.events = self.events.saturating_add(1);
-                Ok(None)
-            }
-        }
+        let answer = self.rooms.clock(place, ms);
+        self.count(&answer);
+        spell(self.alloc, answer)
+    }
+
+    /// Counts a reply, where an answer is one.
+    fn count(&mut self, answer: &Option<Answer>)
+        ensures { self.new ≡ record self.old { replies = min (self.old.replies + world.reply_count (answers_of answer.now)) rooms.count_end } }
+    {
+        self.replies = self.replies.saturating_add(replies_in(answer));
     }
 
     /// Gives all requests up that still wait; they get no reply.
@@ -298,7 +296,6 @@ impl Driver {
             declared: _,
             lines: _,
             last_id: _,
-            events: _,
             replies: _,
         } = self;
         rooms.finish();
@@ -307,6 +304,7 @@ impl Driver {
 
 /// The place of the channel in which an act may make replies due.
 fn makes_due(act: &Act) -> Option<usize>
+    ensures { result ≡ world.makes_due act.now }
 {
     match act {
         Act::Offer { place, .. } | Act::Clock { place, .. } => Some(*place),
@@ -314,8 +312,29 @@ fn makes_due(act: &Act) -> Option<usize>
     }
 }
 
+/// How many replies an answer is: one or none.
+fn replies_in(answer: &Option<Answer>) -> u64
+    ensures { result ≡ world.reply_count (answers_of answer.now) }
+{
+    match answer {
+        Some(Answer::Replied(..) | Answer::Unavailable(_)) => 1,
+        _ => 0,
+    }
+}
+
+/// The lines of what was answered, where something was.
+fn spell(alloc: Global, answer: Option<Answer>) -> Result<Option<String>, AllocError>
+    ensures lines { IfOk result (λ t. told t ≡ flat_map world.spelled (answers_of answer)) }
+    ensures nothing { IfOk result (λ t. t ≡ None → answer ≡ None) }
+{
+    match answer {
+        None => Ok(None),
+        Some(answer) => Ok(Some(spell_one(alloc, answer)?)),
+    }
+}
+
 /// The lines of an answer.
-fn spell(alloc: Global, answer: Answer) -> Result<String, AllocError>
+fn spell_one(alloc: Global, answer: Answer) -> Result<String, AllocError>
     ensures { IfOk result (λ t. string_bytes t ≡ world.spelled answer) }
 {
     match answer {
