@@ -53,9 +53,12 @@ pub get_of-more : (channels : List Configuration) (last : Option ℕ) (id target
 get_of-more channels last id target None m more = absurd (cc)
 get_of-more channels last id target (Some x) m more = ap (λ ws. get_of channels last (id ∷ ws)) m ∙ by_rest (words x.1.now) refl
   where
+    three : (ws : List ℕ) (next : List ℕ) (later : List (List ℕ)) → get_of channels last (id ∷ ws ∷ next ∷ later) ≡ None
+    three [] next later = refl
+    three (b ∷ bs) next later = refl
     by_rest : (rest : List (List ℕ)) → words x.1.now ≡ rest → get_of channels last (id ∷ x.0.now ∷ rest) ≡ None
     by_rest [] e = absurd (some-part 32 x.1.now e)
-    by_rest (next ∷ later) e = refl
+    by_rest (next ∷ later) e = three x.0.now next later
 
 -- what stands after a text is no UTF-8 where the whole isn't
 not-utf8-after : (front rest : List ℕ) → is_utf8 front ≡ true → is_utf8 (front ++ rest) ≡ false → is_utf8 rest ≡ false

@@ -69,9 +69,9 @@ abbrev pub get_by : List Configuration → Option ℕ → Option ℕ → List �
 get_by channels last None target = None
 get_by channels last (Some id) target = if rises last id then Some (ask channels id (want_in target)) else None
 
--- `ID TARGET`; numbers have 1 to 9 digits and rise
+-- `ID TARGET`; numbers have 1 to 9 digits and rise, and no target is empty
 abbrev pub get_of : List Configuration → Option ℕ → List (List ℕ) → Option Act
-get_of channels last (id ∷ target ∷ []) = get_by channels last (number_in 9 id) target
+get_of channels last (id ∷ (b ∷ target) ∷ []) = get_by channels last (number_in 9 id) (b ∷ target)
 get_of channels last other = None
 
 -- `ID`, of 1 to 9 digits

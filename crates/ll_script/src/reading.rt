@@ -172,6 +172,9 @@ fn get_words(last: Option<u64>, text: &str) -> Option<(u64, &str)>
         (λ g. spec.get_of channels last (words text.now) ≡ Some (spec.ask channels g.0 (want_in g.1.now))) }
 {
     let (id, target) = cut(text, ' ')?;
+    if target.is_empty() {
+        return None;
+    }
     if cut(target, ' ').is_some() {
         return None;
     }
