@@ -89,6 +89,21 @@ awk 'BEGIN {
 } >"$room/wanted"
 expect a_hundred_channels 0 '' replay
 
+# As many requests wait as a channel holds: the next one is Busy. Where one is given up, one more waits. At the end a reading of the clock
+# answers them all, in order of asking.
+awk -v settings="$settings" 'BEGIN {
+    target = "/cam/hi/live.m3u8?_HLS_msn=1"
+    print settings "\npub cam part hi 1000000 i"
+    for (id = 1; id <= 65537; id++) print "get " id " " target
+    print "close 1\nget 65538 " target "\nget 65539 " target "\nclock 12000"
+}' >"$room/script"
+{
+    printf 'ok 1\nreply 65537 503 Busy\nreply 65539 503 Busy\n'
+    seq -f 'reply %.0f 503 Timeout' 2 65536
+    echo 'reply 65538 503 Timeout'
+} >"$room/wanted"
+expect as_many_wait_as_may 0 '' replay
+
 # day COUNT SKIPPED: the playlist of a window of a day after so many segments of a second, of which a delta update skips so many.
 day() {
     awk -v count="$1" -v skipped="$2" 'BEGIN {
