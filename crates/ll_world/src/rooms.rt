@@ -1,5 +1,5 @@
 //! The rooms of the channels of a script, and the requests that wait in them.
-ghost use Rattle.std.specs.Prelude.{◌≢◌, ◌≡◌, ◌<◌, ◌++◌, ◌∷◌, [], ℕ, None, Some, true, IfOk, OnErr, OnOk, MatchOption, is_some, length, slice_get};
+ghost use Rattle.std.specs.Prelude.{◌≢◌, ◌≡◌, ◌<◌, ◌++◌, ◌∷◌, [], ℕ, None, Some, true, IfOk, OnErr, OnOk, is_some, length, slice_get};
 ghost use Rattle.ll_world.specs.Kept.{Leads, kept_world};
 ghost use Rattle.ll_world.specs.World as world;
 ghost use Rattle.ll_world.specs.World.{World, start};
@@ -59,13 +59,6 @@ impl Rooms {
         }
     }
 
-    /// How many channels there are.
-    pub fn len(&self) -> usize
-        ensures { result ≡ length self.now.rooms }
-    {
-        self.rooms.len()
-    }
-
     /// How many requests wait.
     pub fn waiting(&self) -> usize
         ensures { result ≡ length self.now.waits }
@@ -79,14 +72,6 @@ impl Rooms {
         ensures { result ≡ self.now.events }
     {
         self.events
-    }
-
-    /// The settings of the channel at this place.
-    pub fn settings(&self, place: usize) -> Option<&Settings>
-        ensures { MatchOption result (slice_get self.now.rooms place ≡ None) (λ s. MatchOption (slice_get self.now.rooms place) ⊥ (λ h. s.now ≡ h.settings)) }
-    {
-        let room = self.rooms.get(place)?;
-        Some(room.settings())
     }
 
     /// Adds a channel with no events after the others. It fails only where no memory is found.
