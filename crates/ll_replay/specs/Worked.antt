@@ -68,6 +68,34 @@ refusals_text =
     ++ codes "ok 3\n"
     ++ codes "no 2 Ended\n"
 
+-- three requests: the part that one awaits comes, one is too far ahead, and one waits for a segment until its time is over
+abbrev pub waiting_lines : List ℕ
+waiting_lines =
+    channel_line
+    ++ codes "get 1 /cam/hi/live.m3u8?_HLS_msn=0&_HLS_part=0\n"
+    ++ codes "get 2 /cam/hi/live.m3u8?_HLS_msn=0\n"
+    ++ codes "get 3 /cam/hi/live.m3u8?_HLS_msn=2\n"
+    ++ codes "pub cam part hi 1000000 -\n"
+    ++ codes "clock 11999\n"
+    ++ codes "clock 12000\n"
+
+-- one part of an open segment
+abbrev pub part_playlist : List ℕ
+part_playlist =
+    first_lines_of_playlist
+    ++ codes "#EXT-X-MAP:URI=\"init0.mp4\"\n"
+    ++ codes "#EXT-X-PROGRAM-DATE-TIME:1970-01-01T00:00:00.000Z\n"
+    ++ codes "#EXT-X-PART:DURATION=1.000000,URI=\"s0.0.m4s\"\n"
+    ++ codes "#EXT-X-PRELOAD-HINT:TYPE=PART,URI=\"s0.1.m4s\"\n"
+
+abbrev pub waiting_text : List ℕ
+waiting_text =
+    codes "reply 3 400 TooFar\n"
+    ++ codes "ok 1\n"
+    ++ codes "reply 1 200 401\n"
+    ++ part_playlist
+    ++ codes "reply 2 503 Timeout\n"
+
 -- the second number of a request does not rise
 abbrev pub same_number : List ℕ
 same_number = asked_at_once ++ codes "get 1 /cam/hi/live.m3u8\n" ++ codes "pub cam part hi 1000000 if\n"
@@ -76,5 +104,6 @@ pub record WorkedScript : Type 0 where
   pub at_once : script asked_at_once ≡ codes "reply 1 200 279\n" ++ empty_playlist
   pub later : script asked_later ≡ codes "ok 1\n" ++ codes "reply 1 200 442\n" ++ segment_playlist
   pub refusals : script refused_lines ≡ refusals_text
+  pub waiting : script waiting_lines ≡ waiting_text
   pub same_text : script same_number ≡ codes "reply 1 200 279\n" ++ empty_playlist
   pub same_ending : (world_of same_number).ending ≡ Some (BadLine 3)
