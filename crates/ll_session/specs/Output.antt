@@ -1,5 +1,5 @@
 -- Answers that are put out and not sent, as bytes and as pieces.
-use Rattle.std.specs.Prelude.{ℕ, ⊤, ◌-◌, ◌≤◌, List, [], ◌∷◌, Bool, true, false, Option, Some, None, nat_le, length, take, drop}
+use Rattle.std.specs.Prelude.{ℕ, ⊤, ◌+◌, ◌-◌, ◌≤◌, List, [], ◌∷◌, Bool, true, false, Option, Some, None, nat_le, length, take, drop}
 
 abbrev pub unsent_by : Bool → List (List ℕ) → List (List ℕ) → List (List ℕ)
 unsent_by true later here = later
@@ -14,6 +14,11 @@ unsent n (a ∷ answers) = unsent_by (nat_le (length a) n) (unsent (n - length a
 abbrev pub first_length : List (List ℕ) → Option ℕ
 first_length [] = None
 first_length (a ∷ answers) = Some (length a)
+
+-- for private contracts: the sum of these lengths
+abbrev pub total : List ℕ → ℕ
+total [] = 0
+total (l ∷ lengths) = l + total lengths
 
 -- for private contracts: bytes cut into pieces of these lengths
 abbrev pub pieces : List ℕ → List ℕ → List (List ℕ)

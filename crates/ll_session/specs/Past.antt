@@ -1,5 +1,5 @@
 -- All that was done with a session, and what it came to.
-use Rattle.std.specs.Prelude.{◌≡◌, ℕ, ◌+◌, List, [], ◌∷◌, ◌++◌, Bool, true, false, ◌||◌, Option, Some, None, nat_lt, length, take, fold, if◌then◌else◌}
+use Rattle.std.specs.Prelude.{◌≡◌, ℕ, List, [], ◌∷◌, ◌++◌, Bool, true, false, ◌||◌, Option, Some, None, nat_lt, length, take, fold, if◌then◌else◌}
 use Rattle.std.specs.List.{concat}
 use Rattle.ll_wire.specs.Response.{response_bytes}
 use Rattle.ll_wire.specs.declared.answer.Answer.{Answer}

@@ -1,5 +1,5 @@
 -- The requests in a connection's bytes.
-use Rattle.std.specs.Prelude.{ℕ, zero, suc, List, [], ◌∷◌, Bool, true, false, Result, Ok, Err, length, drop, if◌then◌else◌}
+use Rattle.std.specs.Prelude.{ℕ, zero, suc, List, [], ◌∷◌, Bool, Result, Ok, Err, length, drop, if◌then◌else◌}
 use Rattle.ll_directive.specs.Targets.{WantValue, want_in}
 use Rattle.ll_directive.specs.declared.fault.TargetFault.{TargetFault}
 use Rattle.ll_wire.specs.Heads.{RequestValue, HeadValue, Unfinished, Whole, Fault, head_of}

@@ -3,7 +3,7 @@ use Rattle.std.specs.Prelude.{◌≡◌, ℕ, zero, suc, List, [], ◌∷◌, �
 use Rattle.std.specs.List.{flat_map}
 use Rattle.ll_directive.specs.Targets.{WantValue}
 use Rattle.ll_directive.specs.declared.fault.TargetFault.{TargetFault}
-use Rattle.ll_wire.specs.Heads.{RequestValue, HeadValue, Unfinished, Whole, Fault, head_of}
+use Rattle.ll_wire.specs.Heads.{HeadValue, Unfinished, Whole, Fault, head_of}
 use Rattle.ll_wire.specs.Response.{response_bytes}
 use Rattle.ll_wire.specs.declared.fault.HeadFault.TheVariants.{HeadTooLarge}
 use Rattle.ll_wire.specs.declared.answer.Answer.{Answer}

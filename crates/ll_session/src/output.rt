@@ -15,14 +15,13 @@ pub(crate) struct Output {
 
 impl Model for Output {
     ghost use Rattle.std.specs.Prelude.{◌≡◌, ℕ, List, length};
-    ghost use Rattle.std.specs.List.{sum};
-    ghost use Rattle.ll_session.specs.Output.{pieces};
+    ghost use Rattle.ll_session.specs.Output.{pieces, total};
 
     ghost Value = { List (List ℕ) };
 
     ghost view = { λ o. pieces o.lengths.items o.bytes.items };
 
-    ghost invariant = { λ o. sum o.lengths.items ≡ length o.bytes.items };
+    ghost invariant = { λ o. total o.lengths.items ≡ length o.bytes.items };
 }
 
 impl Output {
@@ -37,6 +36,7 @@ impl Output {
     }
 
     /// Puts out one more answer.
+    #[tactic(auto, using(crate::proofs::OutputLemmas::pieces_one, crate::proofs::OutputLemmas::total_append))]
     pub(crate) fn push(&mut self, text: &[u8]) -> Result<(), AllocError>
         ensures ok { OnOk result (self.new ≡ self.old ++ text.now ∷ []) }
         ensures err { OnErr result (self.new ≡ self.old) }
@@ -48,6 +48,7 @@ impl Output {
     }
 
     /// Puts out all of these too.
+    #[tactic(auto, using(crate::proofs::OutputLemmas::pieces_append, crate::proofs::OutputLemmas::total_append))]
     pub(crate) fn append(&mut self, more: &Output) -> Result<(), AllocError>
         ensures ok { OnOk result (self.new ≡ self.old ++ more.now) }
         ensures err { OnErr result (self.new ≡ self.old) }
@@ -58,6 +59,7 @@ impl Output {
     }
 
     /// The bytes of all of them.
+    #[tactic(auto, using(crate::proofs::OutputLemmas::concat_pieces))]
     pub(crate) fn bytes(&self) -> &[u8]
         ensures { result.now ≡ concat self.now }
     {
@@ -65,6 +67,7 @@ impl Output {
     }
 
     /// How many bytes are left of the first one.
+    #[tactic(auto, using(crate::proofs::OutputLemmas::first_pieces))]
     pub(crate) fn first(&self) -> Option<usize>
         ensures { result ≡ spec.first_length self.now }
     {
@@ -105,8 +108,8 @@ fn drop_lengths(lengths: &mut Vec<usize>, whole: usize, part: usize)
     ensures { lengths.new.items ≡ spec.less_first part (drop whole lengths.old.items) }
 {
     lengths.drain(..whole);
-    if let Some(first) = lengths.first_mut() {
-        *first -= part;
+    if !lengths.is_empty() {
+        lengths[0] -= part;
     }
 }
 

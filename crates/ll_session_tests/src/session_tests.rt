@@ -80,18 +80,27 @@ fn talk_bytes(alloc: Global, session: &mut Session, bytes: &[u8]) -> Result<Stri
 }
 
 const TALKS: [(&str, &str); 8] = [
-    ("GET /a/v/live.m3u8 HTTP/1.1\r\nHost: h\r\n\r\n", "a 404+ open"),
+    (
+        "GET /a/v/live.m3u8 HTTP/1.1\r\nHost: h\r\n\r\n",
+        "a 404+ open",
+    ),
     (
         "GET /a/v/live.m3u8 HTTP/1.1\nHost:\n\nGET /b/v/live.m3u8 HTTP/1.1\nHost:\n\nGET /c/v/live.m3u8 HTTP/1.1\nHost:\n\n",
         "a b c 404+ 404+ 404+ open",
     ),
-    ("POST / HTTP/1.1\nHost:\n\nGET /a/v/live.m3u8 HTTP/1.1\nHost:\n\n", "405- shut"),
+    (
+        "POST / HTTP/1.1\nHost:\n\nGET /a/v/live.m3u8 HTTP/1.1\nHost:\n\n",
+        "405- shut",
+    ),
     ("GET\n", "400- shut"),
     (
         "GET /x HTTP/1.1\nHost:\n\nGET # HTTP/1.1\nHost:\n\nGET /a/v/live.m3u8 HTTP/1.1\nHost:\n\n",
         "a 404+ 400+ 404+ open",
     ),
-    ("GET /x HTTP/1.0\n\nGET /a/v/live.m3u8 HTTP/1.1\nHost:\n\n", "404- shut"),
+    (
+        "GET /x HTTP/1.0\n\nGET /a/v/live.m3u8 HTTP/1.1\nHost:\n\n",
+        "404- shut",
+    ),
     (
         "GET /a/v/live.m3u8 HTTP/1.0\n\nGET /b/v/live.m3u8 HTTP/1.1\nHost:\n\n",
         "a 404- shut",
@@ -108,7 +117,10 @@ fn requests_are_answered_in_order(rt: HostRuntime) -> Result<(), Fail> {
         let notes = notes_of(rt.alloc(), [text.as_bytes(), b""])?;
         assert!(rt; notes.as_str() == expected, "at {text} {notes}");
         let notes = notes_of_bytes(rt.alloc(), text.as_bytes())?;
-        assert!(rt; notes.as_str() == expected, "byte by byte at {text} {notes}");
+        assert!(rt;
+            notes.as_str() == expected,
+            "byte by byte at {text} {notes}"
+        );
     }
     Ok(())
 }
@@ -132,7 +144,12 @@ fn held(alloc: Global, head: &str, counts: [usize; 2]) -> Result<String, AllocEr
     notes
 }
 
-fn hold(alloc: Global, session: &mut Session, head: &str, counts: [usize; 2]) -> Result<String, AllocError> {
+fn hold(
+    alloc: Global,
+    session: &mut Session,
+    head: &str,
+    counts: [usize; 2],
+) -> Result<String, AllocError> {
     let mut notes = String::new(alloc);
     session.feed(head.as_bytes())?;
     if let Some(want) = session.next_want()? {
@@ -142,7 +159,11 @@ fn hold(alloc: Global, session: &mut Session, head: &str, counts: [usize; 2]) ->
         let mut bytes = Vec::new(alloc);
         bytes.resize(count, b'x')?;
         session.feed(&bytes)?;
-        notes.push_str(if session.waiting() { " held " } else { " none " })?;
+        notes.push_str(if session.waiting() {
+            " held "
+        } else {
+            " none "
+        })?;
     }
     send_answers(session, &mut notes)?;
     Ok(notes)
