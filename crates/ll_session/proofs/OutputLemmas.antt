@@ -1,10 +1,11 @@
 -- Answers as one text with their lengths, and what is left of them.
 use Rattle.std.proofs.Common.{◌≡◌, ℕ, ◌+◌, ◌-◌, ◌<◌, ◌≤◌, List, [], ◌∷◌, ◌++◌, Bool, true, false, Some, refl, ap, ◌∙◌, sym, arith, min, length, length-drop, take, drop, take-append-drop}
-use Rattle.std.specs.Prelude.{nat_le, slice_get}
+use Rattle.std.specs.Prelude.{nat_le, slice_get, if◌then◌else◌}
 use Rattle.std.specs.List.{concat}
 use Rattle.std.proofs.lemmas.Bool.Decides.{nat_tests}
 use Rattle.std.proofs.lemmas.List.{drop-append-le, take-append-le, nil_from_length, drop-drop, drop-take, take_all, drop_all, length-take-le}
-use Rattle.ll_session.specs.Output.{unsent, unsent_by, pieces, total, lengths_left, lengths_by, first_length}
+use Rattle.ll_session.specs.Output.{unsent, first_length}
+use Rattle.ll_session.specs.Pieces.{pieces, total, lengths_left}
 
 -- ---- pieces
 
@@ -38,7 +39,7 @@ first_pieces (l ∷ ls) bytes e = ap (λ n. Some n) (length-take-le l bytes (ome
 -- ---- what is left
 
 total_left_by : (b : Bool) (n l : ℕ) (ls : List ℕ) → nat_le l n ≡ b → total (lengths_left (n - l) ls) ≡ total ls - (n - l)
-    → total (lengths_by b (lengths_left (n - l) ls) ((l - n) ∷ ls)) ≡ (l + total ls) - n
+    → total ((if b then lengths_left (n - l) ls else (l - n) ∷ ls)) ≡ (l + total ls) - n
 total_left_by true n l ls e ih = let le : l ≤ n = grind (arith, nat_tests, e) in omega (arith, ih, le)
 total_left_by false n l ls e ih = let lt : n < l = grind (arith, nat_tests, e) in omega (arith, lt)
 
@@ -48,8 +49,8 @@ total_left n (l ∷ ls) = total_left_by (nat_le l n) n l ls refl (total_left (n 
 
 left_by : (b : Bool) (n l : ℕ) (ls bytes : List ℕ) → nat_le l n ≡ b → l ≤ length bytes
     → pieces (lengths_left (n - l) ls) (drop (n - l) (drop l bytes)) ≡ unsent (n - l) (pieces ls (drop l bytes))
-    → pieces (lengths_by b (lengths_left (n - l) ls) ((l - n) ∷ ls)) (drop n bytes)
-    ≡ unsent_by b (unsent (n - l) (pieces ls (drop l bytes))) (drop n (take l bytes) ∷ pieces ls (drop l bytes))
+    → pieces ((if b then lengths_left (n - l) ls else (l - n) ∷ ls)) (drop n bytes)
+    ≡ (if b then unsent (n - l) (pieces ls (drop l bytes)) else drop n (take l bytes) ∷ pieces ls (drop l bytes))
 left_by true n l ls bytes e within ih =
     let le : l ≤ n = grind (arith, nat_tests, e) in
     let same : l + (n - l) ≡ n = omega (arith, le) in
@@ -65,7 +66,7 @@ pieces_left n [] bytes e = refl
 pieces_left n (l ∷ ls) bytes e =
     let within : l ≤ length bytes = omega (arith, e) in
     left_by (nat_le l n) n l ls bytes refl within (pieces_left (n - l) ls (drop l bytes) (omega (arith, length-drop l bytes, e)))
-    ∙ ap (λ k. unsent_by (nat_le k n) (unsent (n - k) (pieces ls (drop l bytes))) (drop n (take l bytes) ∷ pieces ls (drop l bytes))) (sym (length-take-le l bytes within))
+    ∙ ap (λ k. (if nat_le k n then unsent (n - k) (pieces ls (drop l bytes)) else drop n (take l bytes) ∷ pieces ls (drop l bytes))) (sym (length-take-le l bytes within))
 
 -- ---- no more bytes are dropped than there are
 

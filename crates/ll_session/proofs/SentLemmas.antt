@@ -1,6 +1,6 @@
 -- What was sent of some answers, and what was not.
 use Rattle.std.proofs.Common.{◌≡◌, ℕ, ◌+◌, ◌-◌, ◌<◌, ◌≤◌, min, List, [], ◌∷◌, ◌++◌, Bool, true, false, refl, ap, ◌∙◌, sym, arith, length, length-append, length-drop, take, drop, append_assoc, take-append-drop}
-use Rattle.std.specs.Prelude.{⊤, nat_le}
+use Rattle.std.specs.Prelude.{⊤, nat_le, if◌then◌else◌}
 use Rattle.std.specs.List.{concat}
 use Rattle.std.proofs.lemmas.Bool.Decides.{nat_tests}
 use Rattle.std.proofs.lemmas.List.{drop-append-le, drop-drop, drop_all, length-take}
@@ -8,12 +8,12 @@ use Rattle.std.proofs.lemmas.List.Folds.{concat-append}
 use Rattle.std.proofs.Math.Seq.{drop-append-add}
 use Rattle.ll_wire.specs.Response.{response_bytes, first_lines, last_lines, lines, status_of, body_of, status_words, content_type, allow_line, kept_word}
 use Rattle.ll_wire.specs.declared.answer.Answer.{Answer}
-use Rattle.ll_session.specs.Output.{unsent, unsent_by}
+use Rattle.ll_session.specs.Output.{unsent}
 
 -- ---- what is left, as bytes
 
 concat_by : (b : Bool) (n : ℕ) (a : List ℕ) (xs : List (List ℕ)) → nat_le (length a) n ≡ b → concat (unsent (n - length a) xs) ≡ drop (n - length a) (concat xs)
-    → concat (unsent_by b (unsent (n - length a) xs) (drop n a ∷ xs)) ≡ drop n (a ++ concat xs)
+    → concat ((if b then unsent (n - length a) xs else drop n a ∷ xs)) ≡ drop n (a ++ concat xs)
 concat_by true n a xs e ih =
     let le : length a ≤ n = grind (arith, nat_tests, e) in
     ih ∙ sym (drop-append-add a (concat xs) (n - length a)) ∙ ap (λ k. drop k (a ++ concat xs)) (omega (arith, le))
@@ -32,7 +32,7 @@ abbrev pub HasFirst : List (List ℕ) → Type 0
 HasFirst [] = ⊤
 HasFirst (a ∷ xs) = 0 < length a
 
-none_by : (b : Bool) (a : List ℕ) (xs : List (List ℕ)) → nat_le (length a) 0 ≡ b → 0 < length a → unsent_by b (unsent (0 - length a) xs) (a ∷ xs) ≡ a ∷ xs
+none_by : (b : Bool) (a : List ℕ) (xs : List (List ℕ)) → nat_le (length a) 0 ≡ b → 0 < length a → (if b then unsent (0 - length a) xs else a ∷ xs) ≡ a ∷ xs
 none_by true a xs e some = let le : length a ≤ 0 = grind (arith, nat_tests, e) in absurd (omega (arith, le, some))
 none_by false a xs e some = refl
 
@@ -41,7 +41,7 @@ unsent_none [] some = refl
 unsent_none (a ∷ xs) some = none_by (nat_le (length a) 0) a xs refl some
 
 append_by : (b : Bool) (n : ℕ) (a : List ℕ) (xs bs : List (List ℕ)) → (b ≡ true → unsent (n - length a) (xs ++ bs) ≡ unsent (n - length a) xs ++ bs)
-    → unsent_by b (unsent (n - length a) (xs ++ bs)) (drop n a ∷ (xs ++ bs)) ≡ unsent_by b (unsent (n - length a) xs) (drop n a ∷ xs) ++ bs
+    → (if b then unsent (n - length a) (xs ++ bs) else drop n a ∷ (xs ++ bs)) ≡ (if b then unsent (n - length a) xs else drop n a ∷ xs) ++ bs
 append_by true n a xs bs ih = ih refl
 append_by false n a xs bs ih = refl
 
@@ -61,24 +61,24 @@ test_stays : (l n m : ℕ) → l ≤ n → nat_le l (n + m) ≡ true
 test_stays l n m le = grind (arith, nat_tests, le)
 
 twice_by : (b : Bool) (m n : ℕ) (a : List ℕ) (xs : List (List ℕ)) → nat_le (length a) n ≡ b → unsent m (unsent (n - length a) xs) ≡ unsent ((n - length a) + m) xs
-    → unsent m (unsent_by b (unsent (n - length a) xs) (drop n a ∷ xs)) ≡ unsent_by (nat_le (length a) (n + m)) (unsent ((n + m) - length a) xs) (drop (n + m) a ∷ xs)
+    → unsent m ((if b then unsent (n - length a) xs else drop n a ∷ xs)) ≡ (if nat_le (length a) (n + m) then unsent ((n + m) - length a) xs else drop (n + m) a ∷ xs)
 twice_by true m n a xs e ih =
     let le : length a ≤ n = grind (arith, nat_tests, e) in
     ih ∙ ap (λ k. unsent k xs) (omega (arith, le))
-    ∙ ap (λ t. unsent_by t (unsent ((n + m) - length a) xs) (drop (n + m) a ∷ xs)) (sym (test_stays (length a) n m le))
+    ∙ ap (λ t. (if t then unsent ((n + m) - length a) xs else drop (n + m) a ∷ xs)) (sym (test_stays (length a) n m le))
 twice_by false m n a xs e ih =
     let lt : n < length a = grind (arith, nat_tests, e) in
-    ap (λ l. unsent_by (nat_le l m) (unsent (m - l) xs) (drop m (drop n a) ∷ xs)) (length-drop n a)
-    ∙ ap (λ t. unsent_by t (unsent (m - (length a - n)) xs) (drop m (drop n a) ∷ xs)) (test_is (nat_le (length a) (n + m)) (length a) n m lt refl)
-    ∙ ap (λ k. unsent_by (nat_le (length a) (n + m)) (unsent k xs) (drop m (drop n a) ∷ xs)) (omega (arith, lt))
-    ∙ ap (λ t. unsent_by (nat_le (length a) (n + m)) (unsent ((n + m) - length a) xs) (t ∷ xs)) (drop-drop m n a)
+    ap (λ l. (if nat_le l m then unsent (m - l) xs else drop m (drop n a) ∷ xs)) (length-drop n a)
+    ∙ ap (λ t. (if t then unsent (m - (length a - n)) xs else drop m (drop n a) ∷ xs)) (test_is (nat_le (length a) (n + m)) (length a) n m lt refl)
+    ∙ ap (λ k. (if nat_le (length a) (n + m) then unsent k xs else drop m (drop n a) ∷ xs)) (omega (arith, lt))
+    ∙ ap (λ t. (if nat_le (length a) (n + m) then unsent ((n + m) - length a) xs else t ∷ xs)) (drop-drop m n a)
 
 unsent_twice : (m n : ℕ) (xs : List (List ℕ)) → unsent m (unsent n xs) ≡ unsent (n + m) xs
 unsent_twice m n [] = refl
 unsent_twice m n (a ∷ xs) = twice_by (nat_le (length a) n) m n a xs refl (unsent_twice m (n - length a) xs)
 
 all_by : (b : Bool) (n : ℕ) (a : List ℕ) (xs : List (List ℕ)) → nat_le (length a) n ≡ b → length a ≤ n → unsent (n - length a) xs ≡ []
-    → unsent_by b (unsent (n - length a) xs) (drop n a ∷ xs) ≡ []
+    → (if b then unsent (n - length a) xs else drop n a ∷ xs) ≡ []
 all_by true n a xs e le ih = ih
 all_by false n a xs e le ih = let lt : n < length a = grind (arith, nat_tests, e) in absurd (omega (arith, le, lt))
 

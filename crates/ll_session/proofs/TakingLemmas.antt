@@ -8,7 +8,8 @@ use Rattle.ll_wire.specs.Heads.{HeadValue, Unfinished, Whole, Fault, RequestValu
 use Rattle.ll_wire.specs.declared.fault.HeadFault.{HeadFault}
 use Rattle.ll_wire.proofs.HeadLemmas.{nothing_there}
 use Rattle.ll_session.specs.Requests.{Entry, Refused, Faulty, wanted}
-use Rattle.ll_session.specs.Talk.{Taking, AddsUp, taking, taking_in, taking_by, take_request, nothing_in, passing, ending, refusal, refusals}
+use Rattle.ll_session.specs.Talk.{Taking, taking, taking_in, taking_by, take_request, nothing_in, passing, ending, refusal, refusals}
+use Rattle.ll_session.specs.Told.{AddsUp}
 use Rattle.ll_session.proofs.RequestLemmas.{less_after}
 
 -- ---- the first head

@@ -1,6 +1,8 @@
 pub mod Requests
 pub mod Output
+pub mod Pieces
 pub mod Talk
+pub mod Told
 pub mod Past
 pub mod Laws
 pub use Rattle.ll_wire.specs.Heads

@@ -1,5 +1,5 @@
 -- What a session has come to, and what each call makes of it.
-use Rattle.std.specs.Prelude.{◌≡◌, ℕ, zero, suc, List, [], ◌∷◌, ◌++◌, Bool, true, false, Option, Some, None, Result, Ok, Err, nat_lt, length, drop, if◌then◌else◌}
+use Rattle.std.specs.Prelude.{ℕ, zero, suc, List, [], ◌∷◌, ◌++◌, Bool, true, false, Option, Some, None, Result, Ok, Err, nat_lt, length, drop, if◌then◌else◌}
 use Rattle.std.specs.List.{flat_map}
 use Rattle.ll_directive.specs.Targets.{WantValue}
 use Rattle.ll_directive.specs.declared.fault.TargetFault.{TargetFault}
@@ -144,12 +144,3 @@ replied s a = replied_by s.out s a
 -- so many bytes were sent
 abbrev pub sent : SessionValue → ℕ → SessionValue
 sent s n = record s { answers = unsent n s.answers }
-
--- ---- for private contracts
-
--- what was told so far and what t tells are together what all tells, and they end alike
-pub record AddsUp (all : Taking) (told : List (List ℕ)) (t : Taking) : Type 0 where
-  pub said : told ++ refusals t.passed ≡ refusals all.passed
-  pub rest : t.rest ≡ all.rest
-  pub want : t.want ≡ all.want
-  pub ends : t.ends ≡ all.ends

@@ -1,7 +1,8 @@
 //! Answers that are put out and not sent yet.
 ghost use Rattle.std.specs.Prelude.{◌≡◌, ◌≤◌, ◌++◌, ◌∷◌, [], OnOk, OnErr, drop, length};
 ghost use Rattle.std.specs.List.{concat};
-ghost use Rattle.ll_session.specs.Output as spec;
+ghost use Rattle.ll_session.specs.Output.{first_length, unsent};
+ghost use Rattle.ll_session.specs.Pieces as spec;
 
 use std::alloc::{AllocError, Global};
 use std::marker::Model;
@@ -15,7 +16,7 @@ pub(crate) struct Output {
 
 impl Model for Output {
     ghost use Rattle.std.specs.Prelude.{◌≡◌, ℕ, List, length};
-    ghost use Rattle.ll_session.specs.Output.{pieces, total};
+    ghost use Rattle.ll_session.specs.Pieces.{pieces, total};
 
     ghost Value = { List (List ℕ) };
 
@@ -69,14 +70,14 @@ impl Output {
     /// How many bytes are left of the first one.
     #[tactic(auto, using(crate::proofs::OutputLemmas::first_pieces))]
     pub(crate) fn first(&self) -> Option<usize>
-        ensures { result ≡ spec.first_length self.now }
+        ensures { result ≡ first_length self.now }
     {
         self.lengths.first().copied()
     }
 
     /// So many bytes of them were sent; where there are no more, all.
     pub(crate) fn drop_front(&mut self, n: usize)
-        ensures { self.new ≡ spec.unsent n self.old }
+        ensures { self.new ≡ unsent n self.old }
     {
         let (whole, part) = whole_in(&self.lengths, n);
         let n = n.min(self.bytes.len());

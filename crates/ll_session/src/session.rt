@@ -64,9 +64,9 @@ impl Session {
         }
     }
 
-    /// These bytes came. While a want is out, and the bytes that wait (those kept and these) are more than 16,384, HeadTooLarge is put
-    /// out in place of the want's answer, and the session shuts; a piece of no bytes looks for that too. Once it has shut, bytes are
-    /// ignored. It fails where no memory is found, and then changes nothing.
+    /// These bytes came. While no want is out, they are kept, however many they are. While one is out, and the bytes that wait (those
+    /// kept and these) are more than 16,384, HeadTooLarge is put out in place of the want's answer, and the session shuts; a piece of
+    /// no bytes looks for that too. Once it has shut, bytes are ignored. It fails where no memory is found, and then changes nothing.
     pub fn feed(&mut self, piece: &[u8]) -> Result<(), AllocError>
         ensures ok { OnOk result (self.new ≡ talk.fed self.old piece.now) }
         ensures err { OnErr result (self.new ≡ self.old) }
@@ -74,7 +74,7 @@ impl Session {
         if self.shut {
             return Ok(());
         }
-        if self.out.is_some() && are_too_many(&self.unread, piece) {
+        if self.waiting() && are_too_many(&self.unread, piece) {
             return self.put_last(&Answer::Head(HeadFault::HeadTooLarge));
         }
         self.unread.extend_from_slice(piece)
@@ -88,7 +88,7 @@ impl Session {
         ensures want { IfOk result (λ want. want ≡ talk.next_want self.old) }
         ensures err { OnErr result (self.new ≡ self.old) }
     {
-        if self.shut || self.out.is_some() {
+        if self.shut || self.waiting() {
             return Ok(None);
         }
         let Taken {

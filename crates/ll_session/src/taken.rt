@@ -2,7 +2,8 @@
 ghost use Rattle.std.specs.Prelude.{◌≡◌, ◌≤◌, ◌++◌, ◌∷◌, [], IfOk, None, Some, OnOk, drop, false, length, true};
 ghost use Rattle.ll_wire.specs.Response.{response_bytes};
 ghost use Rattle.ll_session.specs.Requests.{wanted};
-ghost use Rattle.ll_session.specs.Talk.{AddsUp, taking};
+ghost use Rattle.ll_session.specs.Talk.{taking};
+ghost use Rattle.ll_session.specs.Told.{AddsUp};
 
 use crate::output::Output;
 use ll_directive::{TargetFault, Want, read_target};

@@ -1,5 +1,5 @@
 use Rattle.std.proofs.Common.{◌≡◌, ◌≤◌, ◌-◌, length, drop}
-use Rattle.ll_session.specs.Output.{lengths_left}
+use Rattle.ll_session.specs.Pieces.{lengths_left}
 use Rattle.ll_session.proofs.output.whole_in.Given as goal
 
 abbrev pub invariant-loop-whole : goal.invariant-loop-whole

@@ -1,5 +1,6 @@
 use Rattle.std.proofs.Common.{◌≤◌, ◌-◌, length, drop}
-use Rattle.ll_session.specs.Talk.{AddsUp, taking}
+use Rattle.ll_session.specs.Talk.{taking}
+use Rattle.ll_session.specs.Told.{AddsUp}
 use Rattle.ll_session.proofs.taken.take_front.Given as goal
 
 abbrev pub invariant-loop-told : goal.invariant-loop-told

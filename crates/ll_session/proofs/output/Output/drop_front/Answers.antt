@@ -1,5 +1,6 @@
 use Rattle.std.proofs.Common.{◌≡◌, ◌∙◌, sym, ap, drop, length, min, rules}
-use Rattle.ll_session.specs.Output.{unsent, lengths_left, less_first}
+use Rattle.ll_session.specs.Output.{unsent}
+use Rattle.ll_session.specs.Pieces.{lengths_left, less_first}
 use Rattle.ll_session.proofs.OutputLemmas.{sum_left, answers_left}
 use Rattle.ll_session.proofs.output.Output.drop_front.Goals as goal
 
