@@ -8,8 +8,8 @@ use Rattle.ll_session.specs.Requests.{Entry, Wanted, Refused, Faulty, requests}
 use Rattle.ll_session.specs.Output.{unsent}
 use Rattle.ll_session.specs.Talk.{SessionValue, fresh, fed, pulled, replied, sent, taking, entries_of, overflow, most_waiting}
 
+-- a call that changes a session: `feed`, `next_want`, `answered`, `sent`. One that finds no memory changes nothing, and is left out
 pub data Call : Type 0 where
-  -- `feed`, `next_want`, `answered`, `sent`
   Feed : List ℕ → Call
   Next : Call
   Reply : Answer → Call

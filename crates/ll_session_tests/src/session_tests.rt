@@ -30,6 +30,12 @@ fn send_answers(session: &mut Session, notes: &mut String) -> Result<(), AllocEr
     Ok(())
 }
 
+/// Sends all answers, and notes whether the session has shut.
+fn send_all(session: &mut Session, notes: &mut String) -> Result<(), AllocError> {
+    send_answers(session, notes)?;
+    notes.push_str(if session.shut() { "shut" } else { "open" })
+}
+
 fn note_answer(answer: &[u8], notes: &mut String) -> Result<(), AllocError> {
     let text = str::from_utf8(answer).unwrap_or("");
     notes.push_str(text.get(9..12).unwrap_or(""))?;
@@ -40,15 +46,14 @@ fn note_answer(answer: &[u8], notes: &mut String) -> Result<(), AllocError> {
     })
 }
 
-/// All that comes of these bytes: the first of them in one piece, the others in two.
+/// All that comes of these two pieces.
 fn talk(alloc: Global, session: &mut Session, pieces: [&[u8]; 2]) -> Result<String, AllocError> {
     let mut notes = String::new(alloc);
     for piece in pieces {
         session.feed(piece)?;
         answer_wants(session, &mut notes)?;
     }
-    send_answers(session, &mut notes)?;
-    notes.push_str(if session.shut() { "shut" } else { "open" })?;
+    send_all(session, &mut notes)?;
     Ok(notes)
 }
 
@@ -74,8 +79,7 @@ fn talk_bytes(alloc: Global, session: &mut Session, bytes: &[u8]) -> Result<Stri
         session.feed(piece)?;
         answer_wants(session, &mut notes)?;
     }
-    send_answers(session, &mut notes)?;
-    notes.push_str(if session.shut() { "shut" } else { "open" })?;
+    send_all(session, &mut notes)?;
     Ok(notes)
 }
 
