@@ -1,0 +1,292 @@
+-- Whatever is done with a session, it answers the requests in its bytes.
+use Rattle.std.proofs.Common.{◌≡◌, ℕ, ◌+◌, List, [], ◌∷◌, ◌++◌, Bool, true, false, Option, Some, None, refl, ap, ◌∙◌, sym, subst, arith, length, length-append, append_assoc, append-nil, fold}
+use Rattle.std.specs.Prelude.{if◌then◌else◌, nat_lt}
+use Rattle.ll_directive.specs.Targets.{WantValue}
+use Rattle.ll_wire.specs.Response.{response_bytes}
+use Rattle.ll_wire.specs.declared.fault.HeadFault.TheVariants.{HeadTooLarge}
+use Rattle.ll_wire.specs.declared.answer.Answer.{Answer}
+use Rattle.ll_wire.specs.declared.answer.Answer.TheVariants as answer
+use Rattle.ll_session.specs.Requests.{Entry, Wanted, Refused, Faulty, requests}
+use Rattle.ll_session.specs.Talk.{Taking, taking, entries_of, given, kept_of, fed_to, refusals, overflow, most_waiting}
+use Rattle.ll_session.specs.Past.{Call, Feed, Next, Reply, Send, Past, before_any, called, past, conversation, IsTalk}
+use Rattle.ll_session.proofs.SplitLemmas.{goes_on, wants, taking-splits, taking-right}
+use Rattle.ll_session.proofs.SentLemmas.{HasFirst, Put, put_more, put_sent, responds}
+
+-- ---- answers
+
+wants-append : (es fs : List Entry) → wants (es ++ fs) ≡ wants es + wants fs
+wants-append [] fs = omega arith
+wants-append (Wanted want keep ∷ es) fs = let e = wants-append es fs in omega arith
+wants-append (Refused fault keep ∷ es) fs = wants-append es fs
+wants-append (Faulty fault ∷ es) fs = wants-append es fs
+
+-- each want among the first has its answer
+conversation-append : (o p : Bool) (es fs : List Entry) (rs qs : List Answer) → wants es ≡ length rs
+    → conversation o (es ++ fs) (rs ++ qs) ≡ conversation p es rs ++ conversation o fs qs
+conversation-append o p [] fs [] qs e = refl
+conversation-append o p [] fs (r ∷ rs) qs e = absurd (omega arith)
+conversation-append o p (Faulty fault ∷ es) fs rs qs e = ap (λ t. response_bytes (answer.Head fault) false ∷ t) (conversation-append o p es fs rs qs e)
+conversation-append o p (Refused fault keep ∷ es) fs rs qs e = ap (λ t. response_bytes (answer.Target fault) keep ∷ t) (conversation-append o p es fs rs qs e)
+conversation-append o p (Wanted want keep ∷ es) fs [] qs e = absurd (omega arith)
+conversation-append o p (Wanted want keep ∷ es) fs (r ∷ rs) qs e = ap (λ t. response_bytes r keep ∷ t) (conversation-append o p es fs rs qs (omega arith))
+
+-- what is refused takes no answer from outside
+refused_answers : (o : Bool) (es : List Entry) → wants es ≡ 0 → conversation o es [] ≡ refusals es
+refused_answers o [] e = refl
+refused_answers o (Faulty fault ∷ es) e = ap (λ t. response_bytes (answer.Head fault) false ∷ t) (refused_answers o es e)
+refused_answers o (Refused fault keep ∷ es) e = ap (λ t. response_bytes (answer.Target fault) keep ∷ t) (refused_answers o es e)
+refused_answers o (Wanted want keep ∷ es) e = absurd (omega arith)
+
+refusals_have_first : (es : List Entry) → HasFirst (refusals es)
+refusals_have_first [] = tt
+refusals_have_first (Faulty fault ∷ es) = responds (answer.Head fault) false
+refusals_have_first (Refused fault keep ∷ es) = responds (answer.Target fault) keep
+refusals_have_first (Wanted want keep ∷ es) = refusals_have_first es
+
+given_answers : (want : Option (WantValue × Bool)) → conversation false (given want) [] ≡ []
+given_answers None = refl
+given_answers (Some want) = refl
+
+-- ---- what holds at every moment
+
+-- the requests in the bytes, with whatever follows, are those that were taken and those that are still unread
+abbrev ReadsOn : Bool → Option Bool → List ℕ → List Entry → List ℕ → Type 0
+ReadsOn true out bytes entries unread = (later : List Entry) × (requests bytes ≡ entries ++ later)
+ReadsOn false out bytes entries unread = (more : List ℕ) → requests (bytes ++ more) ≡ entries ++ (if goes_on false out then requests (unread ++ more) else [])
+
+-- each want but the one that is out has its answer
+abbrev Balanced : Bool → Option Bool → List Entry → List Answer → Type 0
+Balanced true out entries replies = Unit {0}
+Balanced false None entries replies = wants entries ≡ length replies
+Balanced false (Some keep) entries replies =
+    (front : List Entry) × (want : WantValue) × (entries ≡ front ++ Wanted want keep ∷ []) × (wants front ≡ length replies)
+
+record Holds (p : Past) : Type 0 where
+  reads : ReadsOn p.session.shut p.session.out p.fed p.entries p.session.unread
+  balanced : Balanced p.overflowed p.session.out p.entries p.replies
+  put : Put p.gone p.session.answers (conversation p.overflowed p.entries p.replies)
+  shut : p.overflowed ≡ true → p.session.shut ≡ true
+  none : p.session.shut ≡ true → p.session.out ≡ None
+
+holds_first : Holds before_any
+holds_first = record {
+  reads = λ more. refl;
+  balanced = refl;
+  put = record { joined = refl; left = refl };
+  shut = λ e. cc;
+  none = λ e. refl;
+}
+
+-- the want that is out, with an overflow in place of its answer, and with one
+out_answers : (o : Bool) (entries front : List Entry) (want : WantValue) (keep : Bool) (replies qs : List Answer)
+    → entries ≡ front ++ Wanted want keep ∷ [] → wants front ≡ length replies
+    → conversation o entries (replies ++ qs) ≡ conversation false front replies ++ conversation o (Wanted want keep ∷ []) qs
+out_answers o entries front want keep replies qs is balanced =
+    ap (λ (es : List Entry). conversation o es (replies ++ qs)) is ∙ conversation-append o false front (Wanted want keep ∷ []) replies qs balanced
+
+still_out : (o : Bool) (entries front : List Entry) (want : WantValue) (keep : Bool) (replies : List Answer)
+    → entries ≡ front ++ Wanted want keep ∷ [] → wants front ≡ length replies
+    → conversation o entries replies ≡ conversation false front replies ++ conversation o (Wanted want keep ∷ []) []
+still_out o entries front want keep replies is balanced =
+    ap (conversation o entries) (sym (append-nil replies)) ∙ out_answers o entries front want keep replies [] is balanced
+
+none_out : (entries front : List Entry) (want : WantValue) (keep : Bool) (replies : List Answer)
+    → entries ≡ front ++ Wanted want keep ∷ [] → wants front ≡ length replies
+    → conversation false front replies ≡ conversation false entries replies
+none_out entries front want keep replies is balanced =
+    sym (append-nil (conversation false front replies)) ∙ sym (still_out false entries front want keep replies is balanced)
+
+overflow_answers : (entries front : List Entry) (want : WantValue) (keep : Bool) (replies : List Answer)
+    → entries ≡ front ++ Wanted want keep ∷ [] → wants front ≡ length replies
+    → conversation true entries replies ≡ conversation false entries replies ++ overflow ∷ []
+overflow_answers entries front want keep replies is balanced =
+    still_out true entries front want keep replies is balanced
+    ∙ ap (λ (t : List (List ℕ)). t ++ overflow ∷ []) (none_out entries front want keep replies is balanced)
+
+reply_answers : (entries front : List Entry) (want : WantValue) (keep : Bool) (replies : List Answer) (a : Answer)
+    → entries ≡ front ++ Wanted want keep ∷ [] → wants front ≡ length replies
+    → conversation false entries (replies ++ a ∷ []) ≡ conversation false entries replies ++ response_bytes a keep ∷ []
+reply_answers entries front want keep replies a is balanced =
+    out_answers false entries front want keep replies (a ∷ []) is balanced
+    ∙ ap (λ (t : List (List ℕ)). t ++ response_bytes a keep ∷ []) (none_out entries front want keep replies is balanced)
+
+next_answers : (entries passed : List Entry) (want : Option (WantValue × Bool)) (replies : List Answer) → wants entries ≡ length replies → wants passed ≡ 0
+    → conversation false (entries ++ (passed ++ given want)) replies ≡ conversation false entries replies ++ refusals passed
+next_answers entries passed want replies balanced none =
+    ap (conversation false (entries ++ (passed ++ given want))) (sym (append-nil replies))
+    ∙ conversation-append false false entries (passed ++ given want) replies [] balanced
+    ∙ ap (λ (t : List (List ℕ)). conversation false entries replies ++ t)
+    (conversation-append false false passed (given want) [] [] none
+    ∙ ap (λ (t : List (List ℕ)). conversation false passed [] ++ t) (given_answers want) ∙ append-nil (conversation false passed []) ∙ refused_answers false passed none)
+
+module _ (unread : List ℕ) (answers : List (List ℕ)) (bytes : List ℕ) (entries : List Entry) (replies : List Answer) (gone : List ℕ) where
+  abbrev at : Bool → Option Bool → Bool → Past
+  at shut out overflowed = record {
+    session = record { unread = unread; answers = answers; out = out; shut = shut };
+    fed = bytes;
+    entries = entries;
+    replies = replies;
+    gone = gone;
+    overflowed = overflowed;
+  }
+
+  -- ---- bytes come
+
+  feed_out : (b keep : Bool) (piece : List ℕ) → Holds (at false (Some keep) false)
+      → Holds (record (at false (Some keep) false) {
+        session = fed_to b (at false (Some keep) false).session (unread ++ piece);
+        fed = bytes ++ piece;
+        overflowed = b;
+      })
+  feed_out true keep piece h = record {
+    reads = (_, h.reads piece);
+    balanced = tt;
+    put =
+        put_more gone answers (overflow ∷ []) (conversation false entries replies) (conversation true entries replies) (responds (answer.Head HeadTooLarge) false)
+        (overflow_answers entries h.balanced.0 h.balanced.1 keep replies h.balanced.2 h.balanced.3) h.put;
+    shut = λ e. refl;
+    none = λ e. refl;
+  }
+  feed_out false keep piece h = record {
+    reads = λ more.
+        ap requests (append_assoc bytes piece more) ∙ h.reads (piece ++ more)
+        ∙ ap (λ l. entries ++ (if keep then requests l else [])) (sym (append_assoc unread piece more));
+    balanced = h.balanced;
+    put = h.put;
+    shut = h.shut;
+    none = h.none;
+  }
+
+  feed_holds : (shut : Bool) (out : Option Bool) (overflowed : Bool) (piece : List ℕ) → Holds (at shut out overflowed) → Holds (called (at shut out overflowed) (Feed piece))
+  feed_holds true out true piece h = record { reads = h.reads; balanced = h.balanced; put = h.put; shut = h.shut; none = h.none }
+  feed_holds true out false piece h = record { reads = h.reads; balanced = h.balanced; put = h.put; shut = h.shut; none = h.none }
+  feed_holds false out true piece h = let e : false ≡ true = h.shut refl in absurd (cc)
+  feed_holds false None false piece h = record {
+    reads = λ more.
+        ap requests (append_assoc bytes piece more) ∙ h.reads (piece ++ more)
+        ∙ ap (λ l. entries ++ requests l) (sym (append_assoc unread piece more));
+    balanced = h.balanced;
+    put = h.put;
+    shut = h.shut;
+    none = h.none;
+  }
+  feed_holds false (Some keep) false piece h = feed_out (nat_lt most_waiting (length (unread ++ piece))) keep piece h
+
+  -- ---- the next want
+
+  abbrev next_at : List Entry → List ℕ → Option (WantValue × Bool) → Bool → Past
+  next_at passed rest want ends = record {
+    session = record { unread = rest; answers = answers ++ refusals passed; out = kept_of want; shut = ends };
+    fed = bytes;
+    entries = entries ++ (passed ++ given want);
+    replies = replies;
+    gone = gone;
+    overflowed = false;
+  }
+
+  next_balanced : (passed : List Entry) (want : Option (WantValue × Bool)) → wants entries ≡ length replies → wants passed ≡ 0
+      → Balanced false (kept_of want) (entries ++ (passed ++ given want)) replies
+  next_balanced passed None balanced none =
+      omega (arith, wants-append entries (passed ++ []), wants-append passed [], balanced, none)
+  next_balanced passed (Some want) balanced none =
+      (entries ++ passed, want.0, sym (append_assoc entries passed (Wanted want.0 want.1 ∷ [])), omega (arith, wants-append entries passed, balanced, none))
+
+  next_reads : (passed : List Entry) (rest : List ℕ) (want : Option (WantValue × Bool)) (ends : Bool) → Holds (at false None false)
+      → ((more : List ℕ) → requests (unread ++ more) ≡ (passed ++ given want) ++ (if goes_on ends (kept_of want) then requests (rest ++ more) else []))
+      → ReadsOn ends (kept_of want) bytes (entries ++ (passed ++ given want)) rest
+  next_reads passed rest want true h splits = (
+    [],
+    ap requests (sym (append-nil bytes)) ∙ h.reads [] ∙ ap (λ l. entries ++ l) (splits []) ∙ sym (append_assoc entries (passed ++ given want) []),
+  )
+  next_reads passed rest want false h splits =
+      λ more. h.reads more ∙ ap (λ l. entries ++ l) (splits more)
+      ∙ sym (append_assoc entries (passed ++ given want) (if goes_on false (kept_of want) then requests (rest ++ more) else []))
+
+  next_taken : (t : Taking) → wants t.passed ≡ 0 → (t.ends ≡ true → t.want ≡ None)
+      → ((more : List ℕ) → requests (unread ++ more) ≡ entries_of t ++ (if goes_on t.ends (kept_of t.want) then requests (t.rest ++ more) else []))
+      → Holds (at false None false) → Holds (next_at t.passed t.rest t.want t.ends)
+  next_taken t passes none splits h = record {
+    reads = next_reads t.passed t.rest t.want t.ends h splits;
+    balanced = next_balanced t.passed t.want h.balanced passes;
+    put =
+        put_more gone answers (refusals t.passed) (conversation false entries replies) (conversation false (entries ++ entries_of t) replies) (refusals_have_first t.passed)
+        (next_answers entries t.passed t.want replies h.balanced passes) h.put;
+    shut = λ e. cc;
+    none = λ e. ap kept_of (none e);
+  }
+
+  unchanged : (shut : Bool) (out : Option Bool) (overflowed : Bool) → Holds (at shut out overflowed) → Holds (record (at shut out overflowed) { entries = entries ++ [] })
+  unchanged shut out overflowed h = subst (λ (es : List Entry). Holds (record (at shut out overflowed) { entries = es })) (sym (append-nil entries)) h
+
+  next_holds : (shut : Bool) (out : Option Bool) (overflowed : Bool) → Holds (at shut out overflowed) → Holds (called (at shut out overflowed) Next)
+  next_holds true out overflowed h = unchanged true out overflowed h
+  next_holds false (Some keep) overflowed h = unchanged false (Some keep) overflowed h
+  next_holds false None true h = let e : false ≡ true = h.shut refl in absurd (cc)
+  next_holds false None false h = let right = taking-right unread in next_taken (taking unread) right.0 right.1 (taking-splits unread) h
+
+  -- ---- an answer
+
+  replied_balanced : (keep : Bool) (a : Answer) → Balanced false (Some keep) entries replies → wants entries ≡ length (replies ++ a ∷ [])
+  replied_balanced keep a b =
+      omega (arith, ap wants b.2, wants-append b.0 (Wanted b.1 keep ∷ []), b.3, length-append replies (a ∷ []))
+
+  reply_put : (keep : Bool) (a : Answer) → Balanced false (Some keep) entries replies → Put gone answers (conversation false entries replies)
+      → Put gone (answers ++ response_bytes a keep ∷ []) (conversation false entries (replies ++ a ∷ []))
+  reply_put keep a b p =
+      put_more gone answers (response_bytes a keep ∷ []) (conversation false entries replies) (conversation false entries (replies ++ a ∷ [])) (responds a keep)
+      (reply_answers entries b.0 b.1 keep replies a b.2 b.3) p
+
+  reply_holds : (shut : Bool) (out : Option Bool) (overflowed : Bool) (a : Answer) → Holds (at shut out overflowed) → Holds (called (at shut out overflowed) (Reply a))
+  reply_holds shut None overflowed a h = h
+  reply_holds true (Some keep) overflowed a h = let e : Some keep ≡ None = h.none refl in absurd (cc)
+  reply_holds false (Some keep) true a h = let e : false ≡ true = h.shut refl in absurd (cc)
+  reply_holds false (Some true) false a h = record {
+    reads = h.reads;
+    balanced = replied_balanced true a h.balanced;
+    put = reply_put true a h.balanced h.put;
+    shut = λ e. cc;
+    none = λ e. refl;
+  }
+  reply_holds false (Some false) false a h = record {
+    reads = ([], ap requests (sym (append-nil bytes)) ∙ h.reads []);
+    balanced = replied_balanced false a h.balanced;
+    put = reply_put false a h.balanced h.put;
+    shut = λ e. cc;
+    none = λ e. refl;
+  }
+
+  -- ---- bytes are sent
+
+  send_holds : (shut : Bool) (out : Option Bool) (overflowed : Bool) (n : ℕ) → Holds (at shut out overflowed) → Holds (called (at shut out overflowed) (Send n))
+  send_holds shut out overflowed n h = record {
+    reads = h.reads;
+    balanced = h.balanced;
+    put = put_sent n gone answers (conversation overflowed entries replies) h.put;
+    shut = h.shut;
+    none = h.none;
+  }
+
+call_holds : (p : Past) (c : Call) → Holds p → Holds (called p c)
+call_holds p (Feed piece) h =
+    feed_holds p.session.unread p.session.answers p.fed p.entries p.replies p.gone p.session.shut p.session.out p.overflowed piece h
+call_holds p Next h = next_holds p.session.unread p.session.answers p.fed p.entries p.replies p.gone p.session.shut p.session.out p.overflowed h
+call_holds p (Reply a) h =
+    reply_holds p.session.unread p.session.answers p.fed p.entries p.replies p.gone p.session.shut p.session.out p.overflowed a h
+call_holds p (Send n) h =
+    send_holds p.session.unread p.session.answers p.fed p.entries p.replies p.gone p.session.shut p.session.out p.overflowed n h
+
+all_hold : (p : Past) (calls : List Call) → Holds p → Holds (fold called p calls)
+all_hold p [] h = h
+all_hold p (c ∷ calls) h = all_hold (called p c) calls (call_holds p c h)
+
+-- the requests in the bytes begin with those that were taken
+reads_first : (shut : Bool) (out : Option Bool) (bytes : List ℕ) (entries : List Entry) (unread : List ℕ) → ReadsOn shut out bytes entries unread
+    → (later : List Entry) × (requests bytes ≡ entries ++ later)
+reads_first true out bytes entries unread r = r
+reads_first false out bytes entries unread r = (_, ap requests (sym (append-nil bytes)) ∙ r [])
+
+pub is_talk : (calls : List Call) → IsTalk (past calls)
+is_talk calls =
+    let h = all_hold before_any calls holds_first in
+    let p = past calls in
+    record { first = reads_first p.session.shut p.session.out p.fed p.entries p.session.unread h.reads; answers = h.put.joined; unsent = h.put.left }

@@ -1,0 +1,17 @@
+-- The laws of connections.
+use Rattle.std.specs.Prelude.{◌≡◌, ℕ, List, [], ◌++◌, false, None}
+use Rattle.ll_session.specs.Requests.{Entry, requests}
+use Rattle.ll_session.specs.Talk.{SessionValue, next_want, pulled}
+use Rattle.ll_session.specs.Past.{Call, IsTalk, past}
+
+-- more bytes only add requests
+abbrev pub RequestsExtend : Type 0
+RequestsExtend = (bytes more : List ℕ) → (later : List Entry) × (requests (bytes ++ more) ≡ requests bytes ++ later)
+
+-- whatever is called, in whatever order
+abbrev pub WholeConnections : Type 0
+WholeConnections = (calls : List Call) → IsTalk (past calls)
+
+-- where no want is out and none is given, no request is left, or the session has shut
+abbrev pub NoneIsLeft : Type 0
+NoneIsLeft = (s : SessionValue) → s.shut ≡ false → s.out ≡ None → next_want s ≡ None → (pulled s).shut ≡ false → requests (pulled s).unread ≡ []

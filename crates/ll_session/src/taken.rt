@@ -1,0 +1,118 @@
+//! What is taken from the front of a connection's bytes.
+ghost use Rattle.std.specs.Prelude.{◌≡◌, ◌≤◌, ◌++◌, ◌∷◌, [], IfOk, None, Some, OnOk, drop, false, length, true};
+ghost use Rattle.ll_wire.specs.Response.{response_bytes};
+ghost use Rattle.ll_session.specs.Requests.{wanted};
+ghost use Rattle.ll_session.specs.Talk.{taking};
+ghost use Rattle.ll_session.specs.Told.{AddsUp};
+
+use crate::output::Output;
+use ll_directive::{TargetFault, Want, read_target};
+use ll_wire::{Answer, Head, next_head, response};
+use std::alloc::{AllocError, Global};
+
+/// What was taken: the answers to what is refused, then perhaps a want, with whether the connection is kept after it.
+#[derive(Drop)]
+pub(crate) struct Taken {
+    /// How many bytes were taken.
+    pub(crate) at: usize,
+    pub(crate) told: Output,
+    pub(crate) want: Option<(Want, bool)>,
+    /// Whether a refusal ends the connection.
+    pub(crate) ends: bool,
+}
+
+/// Takes the requests at the front of these bytes up to the first want.
+pub(crate) fn take_front(alloc: Global, unread: &[u8]) -> Result<Taken, AllocError>
+    ensures within { IfOk result (λ t. t.at ≤ length unread.now) }
+    ensures stands { IfOk result (λ t. AddsUp (taking unread.now) t.told (record {
+      passed = [];
+      rest = drop t.at unread.now;
+      want = t.want;
+      ends = t.ends;
+    })) }
+{
+    let mut at = 0;
+    let mut told = Output::new(alloc);
+    loop {
+        let rest = from(unread, at);
+        let (len, request) = match next_head(rest) {
+            Head::Part => return Ok(nothing(at, told)),
+            Head::Bad(fault) => {
+                tell(alloc, &mut told, &Answer::Head(fault), false)?;
+                return Ok(ending(unread.len(), told));
+            }
+            Head::Whole(len, request) => (len, request),
+        };
+        at += len;
+        match read_want(alloc, &rest[request.from..request.to])? {
+            Ok(want) => return Ok(want_at(at, told, want, request.keep)),
+            Err(fault) => tell(alloc, &mut told, &Answer::Target(fault), request.keep)?,
+        }
+        if !request.keep {
+            return Ok(ending(unread.len(), told));
+        }
+    }
+}
+
+/// Nothing more is there.
+fn nothing(at: usize, told: Output) -> Taken
+    ensures { result ≡ record { at = at; told = told; want = None; ends = false } }
+{
+    Taken {
+        at,
+        told,
+        want: None,
+        ends: false,
+    }
+}
+
+/// A refusal ends the connection.
+fn ending(at: usize, told: Output) -> Taken
+    ensures { result ≡ record { at = at; told = told; want = None; ends = true } }
+{
+    Taken {
+        at,
+        told,
+        want: None,
+        ends: true,
+    }
+}
+
+/// A want is there.
+fn want_at(at: usize, told: Output, want: Want, keep: bool) -> Taken
+    ensures { result ≡ record { at = at; told = told; want = Some (want, keep); ends = false } }
+{
+    Taken {
+        at,
+        told,
+        want: Some((want, keep)),
+        ends: false,
+    }
+}
+
+/// What a target wants, or its first fault. Memory that isn't found is no fault of the target.
+#[tactic(auto, unfolding(crate::specs::Requests::wanted))]
+fn read_want(alloc: Global, target: &[u8]) -> Result<Result<Want, TargetFault>, AllocError>
+    ensures { IfOk result (λ read. read ≡ wanted target.now) }
+{
+    match read_target(alloc, target) {
+        Err(TargetFault::Memory) => Err(AllocError),
+        read => Ok(read),
+    }
+}
+
+/// Puts out an answer.
+fn tell(alloc: Global, told: &mut Output, answer: &Answer, keep: bool) -> Result<(), AllocError>
+    ensures { OnOk result (told.new ≡ told.old ++ response_bytes answer.now keep ∷ []) }
+{
+    let text = response(alloc, answer, keep)?;
+    told.push(&text)
+}
+
+/// The bytes from this place on.
+fn from(bytes: &[u8], at: usize) -> &[u8]
+    requires { at ≤ length bytes.now }
+    ensures { result.now ≡ drop at bytes.now }
+{
+    &bytes[at..]
+}
