@@ -1,7 +1,7 @@
 //! Takes the lines of a script, one after another.
 ghost use Rattle.std.specs.Prelude.{◌≡◌, ◌<◌, ◌+◌, ◌-◌, ◌^◌, ℕ, List, Option, None, Some, IfOk, OnOk, OnErr, IfErr, IsErrOf, flat_map, min, string_bytes};
 ghost use Rattle.std.specs.Io.KnownBytes.{Appends};
-ghost use Rattle.ll_script.specs.Lines.{TellsNoMemory, clocks_from, listed};
+ghost use Rattle.ll_script.specs.Lines.{clocks_from, listed};
 ghost use Rattle.ll_world.specs.Kept.{answers_of};
 ghost use Rattle.ll_world.specs.World as rooms;
 ghost use Rattle.ll_replay.specs.World.{World, start, line, summary_of};
@@ -106,7 +106,6 @@ impl Driver {
 
     /// Does what a line makes happen, one act after another.
     fn acts<W: Writer>(&mut self, acts: Acts, writer: &mut W) -> Result<(), RunFault>
-        requires { TellsNoMemory acts }
         ensures ok { OnOk result ((w : World) (base : Option (List ℕ)) → Stands self.old base (W.written writer.old) w
             → Stands self.new base (W.written writer.new) (world.acted w (Some (listed self.old.declared acts)))) }
         ensures lines { OnOk result (self.new.lines ≡ self.old.lines) }
