@@ -1,0 +1,163 @@
+-- What a line makes happen: settings within their limits are declared, and items are offered as they were read.
+use Rattle.std.proofs.Common.{◌≡◌, ℕ, ◌+◌, ◌<◌, ◌≤◌, ◌==◌, ◌&&◌, ◌^◌, Bool, true, false, List, [], ◌∷◌, Option, Some, None, is_none, Result, Ok, Err, length, refl, sym, subst, arith, codes, get_or, nat_le, nat_lt, if◌then◌else◌, option_map}
+use Rattle.std.proofs.lemmas.Bool.Decides.{nat_tests}
+use Rattle.std.proofs.lemmas.List.{drop_all}
+use Rattle.std.proofs.lemmas.List.Sums.{passes_at_first}
+use Rattle.std.proofs.lemmas.Str.{IsCharBoundary-after_ascii, IsUtf8-drop, IsUtf8-from_is_utf8, IsUtf8-nil}
+use Rattle.std.specs.List.{after_first, before_first, list_any, position_or_len}
+use Rattle.std.specs.Str.{IsUtf8, is_utf8}
+use Rattle.ll_attr.specs.Numbers.{number_in}
+use Rattle.ll_attr.specs.Words.{after, words}
+use Rattle.ll_directive.specs.Targets.{WantValue, want_in}
+use Rattle.ll_directive.specs.declared.fault.TargetFault.{TargetFault}
+use Rattle.ll_item.specs.Items.{item_in}
+use Rattle.ll_item.specs.Settings.{Configuration, IsWithin, configuration_of, limit_broken, settings_by, settings_in, unless_broken}
+use Rattle.ll_item.specs.declared.item.Item.{Item}
+use Rattle.ll_item.specs.declared.item.ItemFault.{ItemFault}
+use Rattle.ll_item.specs.declared.item.ItemFault.TheVariants as item
+use Rattle.ll_item.specs.declared.settings.SettingsFault.{SettingsFault}
+use Rattle.ll_item.proofs.WithinLimits.{within}
+use Rattle.ll_script.specs.Lines.{acts, acts_by, acts_of, alone, ask, ask_in, channel_of_name, clocks_from, close_of, declaration, get_by, get_of, is_passed_over, item_act, offer, offer_to, reading, rises}
+use Rattle.ll_script.specs.declared.act.Act.{Act}
+use Rattle.ll_script.specs.declared.act.Act.TheVariants.{Declare, Offer, Refuse, Ask, Answer, Close, Clock, RefuseClock}
+use Rattle.ll_script.specs.declared.refusal.Refusal.TheVariants as refused
+use Rattle.ll_verdict.proofs.ListLemmas.{Each}
+use Rattle.ll_script_laws.proofs.ItemTexts.{IsRead, item-read}
+
+-- what an act brings into a channel
+abbrev pub IsSound : Act → Type 0
+IsSound (Declare settings) = IsWithin settings
+IsSound (Offer place item) = IsRead item
+IsSound (Refuse reason) = Unit
+IsSound (Ask id place want) = Unit
+IsSound (Answer id reason) = Unit
+IsSound (Close id) = Unit
+IsSound (Clock place ms) = Unit
+IsSound RefuseClock = Unit
+
+abbrev pub AreSound : Option (List Act) → Type 0
+AreSound None = Unit
+AreSound (Some list) = Each IsSound list
+
+abbrev IfSound : Option Act → Type 0
+IfSound None = Unit
+IfSound (Some a) = IsSound a
+
+alone-sound : (o : Option Act) → IfSound o → AreSound (alone o)
+alone-sound None h = tt
+alone-sound (Some a) h = (h, tt)
+
+-- ---- publishers
+
+-- what stands after the first space
+after_utf8 : (text : List ℕ) (x : Bool) → nat_lt (position_or_len (λ b. b == 32) text) (length text) ≡ x → IsUtf8 text → IsUtf8 (after_first (λ b. b == 32) text)
+after_utf8 text true e u =
+    let inside : position_or_len (λ b. b == 32) text < length text = grind (arith, nat_tests) in
+    let space = passes_at_first (λ b. b == 32) text 0 inside in
+    let low : get_or text (position_or_len (λ b. b == 32) text) 0 < 128 = grind (arith, nat_tests) in
+    IsUtf8-drop text (position_or_len (λ b. b == 32) text + 1) u (IsCharBoundary-after_ascii text (position_or_len (λ b. b == 32) text) u inside low)
+after_utf8 text false e u =
+    let past : length text ≤ position_or_len (λ b. b == 32) text + 1 = grind (arith, nat_tests) in
+    subst IsUtf8 (sym (drop_all (position_or_len (λ b. b == 32) text + 1) text past)) IsUtf8-nil
+
+item_act-sound : (place : ℕ) (r : Result Item ItemFault) → ((i : Item) → r ≡ Ok i → IsRead i) → IsSound (item_act place r)
+item_act-sound place (Ok i) f = f i refl
+item_act-sound place (Err item.BadLine) f = tt
+item_act-sound place (Err item.NoRendition) f = tt
+item_act-sound place (Err item.BadAttribute) f = tt
+item_act-sound place (Err item.Memory) f = tt
+
+offer_to-sound : (o : Option (ℕ × Configuration)) (line : List ℕ) → IsUtf8 line → IsSound (offer_to o line)
+offer_to-sound None line u = tt
+offer_to-sound (Some channel) line u = item_act-sound channel.0 (item_in channel.1 line) (λ i h. item-read channel.1 line i u h)
+
+offer_by-sound : (x y : Bool) (o : Option (ℕ × Configuration)) (line : List ℕ) → (x ≡ true → IsUtf8 line)
+    → IsSound (if x && y then offer_to o line else Refuse refused.BadLine)
+offer_by-sound true true o line u = offer_to-sound o line (u refl)
+offer_by-sound true false o line u = tt
+offer_by-sound false y o line u = tt
+
+offer-sound : (channels : List Configuration) (text : List ℕ) → IsSound (offer channels text)
+offer-sound channels text =
+    offer_by-sound (is_utf8 text) (list_any (λ b. b == 32) text) (channel_of_name channels 0 (before_first (λ b. b == 32) text)) (after_first (λ b. b == 32) text)
+    (λ h. after_utf8 text (nat_lt (position_or_len (λ b. b == 32) text) (length text)) refl (IsUtf8-from_is_utf8 text h))
+
+-- ---- requests and the clock
+
+ask_in-sound : (id : ℕ) (want : WantValue) (o : Option (ℕ × Configuration)) → IsSound (ask_in id want o)
+ask_in-sound id want None = tt
+ask_in-sound id want (Some channel) = tt
+
+ask-sound : (channels : List Configuration) (id : ℕ) (r : Result WantValue TargetFault) → IsSound (ask channels id r)
+ask-sound channels id (Ok want) = ask_in-sound id want (channel_of_name channels 0 want.channel)
+ask-sound channels id (Err fault) = tt
+
+if-sound : (b : Bool) (a : Act) → IsSound a → IfSound (if b then Some a else None)
+if-sound true a h = h
+if-sound false a h = tt
+
+get_by-sound : (channels : List Configuration) (last id : Option ℕ) (target : List ℕ) → IfSound (get_by channels last id target)
+get_by-sound channels last None target = tt
+get_by-sound channels last (Some id) target = if-sound (rises last id) (ask channels id (want_in target)) (ask-sound channels id (want_in target))
+
+get_of-sound : (channels : List Configuration) (last : Option ℕ) (ws : List (List ℕ)) → IfSound (get_of channels last ws)
+get_of-sound channels last (id ∷ (b ∷ target) ∷ []) = get_by-sound channels last (number_in 9 id) (b ∷ target)
+get_of-sound channels last other = tt
+
+close_of-sound : (id : Option ℕ) → IfSound (option_map (λ id. Close id) id)
+close_of-sound None = tt
+close_of-sound (Some id) = tt
+
+clocks-sound : (place : ℕ) (channels : List Configuration) (ms : ℕ) → Each IsSound (clocks_from place channels ms)
+clocks-sound place [] ms = tt
+clocks-sound place (c ∷ more) ms = (tt, clocks-sound (place + 1) more ms)
+
+reading_by-sound : (b : Bool) (channels : List Configuration) (ms : ℕ) → Each IsSound (if b then clocks_from 0 channels ms else RefuseClock ∷ [])
+reading_by-sound true channels ms = clocks-sound 0 channels ms
+reading_by-sound false channels ms = (tt, tt)
+
+clock_of-sound : (channels : List Configuration) (ms : Option ℕ) → AreSound (option_map (reading channels) ms)
+clock_of-sound channels None = tt
+clock_of-sound channels (Some ms) = reading_by-sound (nat_le ms (2 ^ 60)) channels ms
+
+-- ---- declarations
+
+broken-by : (o : Option SettingsFault) (d c : Configuration) → limit_broken d ≡ o → unless_broken o d ≡ Ok c → IsWithin c
+broken-by None d c e h = let is : d ≡ c = cc in subst IsWithin is (within d e)
+broken-by (Some fault) d c e h = cc
+
+settings-within : (o : Option Configuration) (c : Configuration) → settings_by o ≡ Ok c → IsWithin c
+settings-within None c h = cc
+settings-within (Some d) c h = broken-by (limit_broken d) d c refl h
+
+declaration-sound : (channels : List Configuration) (r : Result Configuration SettingsFault) → ((c : Configuration) → r ≡ Ok c → IsWithin c) → IfSound (declaration channels r)
+declaration-sound channels (Err fault) f = tt
+declaration-sound channels (Ok c) f = if-sound (is_none (channel_of_name channels 0 c.channel)) (Declare c) (f c refl)
+
+-- ---- lines
+
+acts_of-sound : (channels : List Configuration) (last : Option ℕ) (line : List ℕ) (get close clock : Option (List ℕ)) → AreSound (acts_of channels last line get close clock)
+acts_of-sound channels last line (Some text) close clock = alone-sound (get_of channels last (words text)) (get_of-sound channels last (words text))
+acts_of-sound channels last line None (Some text) clock = alone-sound (close_of text) (close_of-sound (number_in 9 text))
+acts_of-sound channels last line None None (Some text) = clock_of-sound channels (number_in 20 text)
+acts_of-sound channels last line None None None =
+    alone-sound (declaration channels (settings_in line))
+    (declaration-sound channels (settings_in line) (λ c h. settings-within (configuration_of (words line)) c h))
+
+where-sound : (b : Bool) (o : Option (List Act)) → AreSound o → AreSound (if b then o else None)
+where-sound true o h = h
+where-sound false o h = tt
+
+acts_by-sound : (channels : List Configuration) (last : Option ℕ) (line : List ℕ) (o : Option (List ℕ)) → AreSound (acts_by channels last line o)
+acts_by-sound channels last line (Some text) = (offer-sound channels text, tt)
+acts_by-sound channels last line None =
+    where-sound (is_utf8 line) (acts_of channels last line (after (codes "get ") line) (after (codes "close ") line) (after (codes "clock ") line))
+    (acts_of-sound channels last line (after (codes "get ") line) (after (codes "close ") line) (after (codes "clock ") line))
+
+unless-sound : (b : Bool) (o : Option (List Act)) → AreSound o → AreSound (if b then Some [] else o)
+unless-sound true o h = tt
+unless-sound false o h = h
+
+pub acts-sound : (channels : List Configuration) (last : Option ℕ) (line : List ℕ) → AreSound (acts channels last line)
+acts-sound channels last line =
+    unless-sound (is_passed_over line) (acts_by channels last line (after (codes "pub ") line)) (acts_by-sound channels last line (after (codes "pub ") line))

@@ -1,0 +1,142 @@
+-- What a channel has accepted of items that were read may stand one after another, so the law on texts speaks of its playlists.
+use Rattle.std.proofs.Common.{◌≡◌, ◌≢◌, ℕ, ◌+◌, ◌≤◌, ◌||◌, List, [], ◌∷◌, ◌++◌, Bool, true, false, Option, Some, None, is_none, Ok, length, fold, refl, ap, sym, subst, ◌∙◌, append_assoc, append-nil, nat_lt, if◌then◌else◌, option_map}
+use Rattle.std.proofs.lemmas.List.Sums.{fold-append}
+use Rattle.ll_apply.specs.Texts.{applied_text}
+use Rattle.ll_attr.specs.declared.attributes.Attribute.{Attribute}
+use Rattle.ll_item.specs.Items.{rendition_of}
+use Rattle.ll_item.specs.Settings.{Configuration}
+use Rattle.ll_item.specs.declared.item.Item.{Item}
+use Rattle.ll_item.specs.declared.item.Item.TheVariants as item
+use Rattle.ll_laws.specs.Published.{ArePublished, HasTexts}
+use Rattle.ll_laws.proofs.TextProof.{text}
+use Rattle.ll_page.specs.Delta.{delta_text}
+use Rattle.ll_page.specs.Full.{full_text}
+use Rattle.ll_page.specs.View.{seen}
+use Rattle.ll_range.specs.Announced as range
+use Rattle.ll_range.specs.Announced.{announced, is_listed, was_removed}
+use Rattle.ll_range.specs.Attributes.{is_id}
+use Rattle.ll_range.specs.declared.ranges.RangeFault.TheVariants.{BadAttribute, IdTaken}
+use Rattle.ll_verdict.specs.Accepted.{first_refusal, of_push, of_range, refusal, rendition_refusal}
+use Rattle.ll_verdict.specs.Events.{Event, Publish, Ask, Collect, Close, Clock, items, taken}
+use Rattle.ll_verdict.specs.declared.fault.PublishFault.{PublishFault}
+use Rattle.ll_verdict.specs.declared.fault.PublishFault.TheVariants as fault
+use Rattle.ll_verdict.proofs.ListLemmas.{Each}
+use Rattle.ll_window.specs.Refusal as window
+use Rattle.ll_window.specs.Segments.{end_time, own}
+use Rattle.ll_window.specs.Window.{skip_limit}
+use Rattle.ll_script_laws.specs.Laws.{PlayersLaw, PublishedLaw}
+use Rattle.ll_script_laws.proofs.ChannelLemmas.{IsHeard, channel-kept}
+use Rattle.ll_script_laws.proofs.ItemTexts.{IsRead}
+
+-- ---- an item that no rule refuses
+
+none_of : {X Y : Type 0} (f : X → Y) (o : Option X) → option_map f o ≡ None → o ≡ None
+none_of f None h = refl
+none_of f (Some x) h = cc
+
+first_none : (a b : Option PublishFault) → first_refusal a b ≡ None → (a ≡ None) × (b ≡ None)
+first_none None b h = (refl, h)
+first_none (Some reason) b h = cc
+
+both_none : (c : Configuration) (before : List Item) (i : Item) → rendition_refusal c before i ≡ None → (window.refusal c before i ≡ None) × (range.refusal c before i ≡ None)
+unfolding rendition_refusal
+both_none c before i h =
+    let p = first_none (option_map of_push (window.refusal c before i)) (option_map of_range (range.refusal c before i)) h in
+    (none_of of_push (window.refusal c before i) p.0, none_of of_range (range.refusal c before i) p.1)
+
+of_rendition : (b : Bool) (o : Option PublishFault) → (if b then o else Some fault.NoRendition) ≡ None → o ≡ None
+of_rendition true o h = h
+of_rendition false o h = cc
+
+not_refused : (c : Configuration) (before : List Item) (i : Item) → refusal c before i ≡ None
+    → (window.refusal c (own (rendition_of i) before) i ≡ None) × (range.refusal c (own (rendition_of i) before) i ≡ None)
+not_refused c before i h =
+    both_none c (own (rendition_of i) before) i
+    (of_rendition (nat_lt (rendition_of i) (length c.renditions)) (rendition_refusal c (own (rendition_of i) before) i) h)
+
+-- one that is about a date range has attributes
+none_allowed : (x y : Bool) → (if x then Some IdTaken else if y then Some BadAttribute else Some BadAttribute) ≢ None
+none_allowed true y = λ h. cc
+none_allowed false true = λ h. cc
+none_allowed false false = λ h. cc
+
+some_attributes : (c : Configuration) (before : List Item) (r : ℕ) (id : List ℕ) (list : List Attribute) → range.refusal c before (item.Range r id list) ≡ None → list ≢ []
+some_attributes c before r id [] h = λ e. absurd (none_allowed (is_listed id (announced c before) || was_removed (end_time before) id (announced c before)) (is_id id) h)
+some_attributes c before r id (a ∷ list) h = λ e. cc
+
+has_texts : (c : Configuration) (before : List Item) (i : Item) → IsRead i → range.refusal c before i ≡ None → HasTexts i
+has_texts c before (item.Range r id list) read h = (read.0, read.1 (some_attributes c before r id list h))
+has_texts c before (item.Unrange r id) read h = read
+has_texts c before (item.Part r duration independent finish) read h = tt
+has_texts c before (item.Break r) read h = tt
+has_texts c before (item.End r) read h = tt
+
+-- ---- all items of a channel
+
+published_more : (c : Configuration) (before list : List Item) (i : Item) → ArePublished c before list → refusal c (before ++ list) i ≡ None → IsRead i
+    → ArePublished c before (list ++ i ∷ [])
+published_more c before [] i h none read =
+    let p = not_refused c before i (ap (λ all. refusal c all i) (sym (append-nil before)) ∙ none) in
+    (p.0, p.1, has_texts c (own (rendition_of i) before) i read p.1, tt)
+published_more c before (j ∷ list) i h none read =
+    (h.0, h.1, h.2, published_more c (before ++ j ∷ []) list i h.3 (ap (λ all. refusal c all i) (append_assoc before (j ∷ []) list) ∙ none) read)
+
+taken-by : (c : Configuration) (list : List Item) (i : Item) (o : Option PublishFault) → refusal c list i ≡ o → ArePublished c [] list → IsRead i
+    → ArePublished c [] (if is_none o then list ++ i ∷ [] else list)
+taken-by c list i None e h read = published_more c [] list i h e read
+taken-by c list i (Some reason) e h read = h
+
+taken-published : (c : Configuration) (list : List Item) (e : Event) → ArePublished c [] list → IsHeard e → ArePublished c [] (taken c list e)
+taken-published c list (Publish i) h read = taken-by c list i (refusal c list i) refl h read
+taken-published c list (Ask want) h heard = h
+taken-published c list (Collect ticket) h heard = h
+taken-published c list (Close ticket) h heard = h
+taken-published c list (Clock ms) h heard = h
+
+folded-published : (c : Configuration) (es : List Event) (list : List Item) → ArePublished c [] list → Each IsHeard es → ArePublished c [] (fold (taken c) list es)
+folded-published c [] list h heard = h
+folded-published c (e ∷ es) list h heard = folded-published c es (taken c list e) (taken-published c list e h heard.0) heard.1
+
+each-front : (front later all : List Event) → all ≡ front ++ later → Each IsHeard all → Each IsHeard front
+each-front front later all e h = front_of front (subst (Each IsHeard) e h)
+  where
+    front_of : (front : List Event) → Each IsHeard (front ++ later) → Each IsHeard front
+    front_of [] h = tt
+    front_of (e ∷ front) h = (h.0, front_of front h.1)
+
+pub published : PublishedLaw
+published bytes place channel front later h e =
+    let k = channel-kept bytes place channel h in
+    (k.settings, folded-published channel.settings front [] tt (each-front front later channel.events e k.events))
+
+-- ---- the law on texts
+
+-- what is accepted is only added to
+
+taken-by_longer : (list : List Item) (i : Item) (b : Bool) → (more : List Item) × ((if b then list ++ i ∷ [] else list) ≡ list ++ more)
+taken-by_longer list i true = (i ∷ [], refl)
+taken-by_longer list i false = ([], sym (append-nil list))
+
+taken-longer : (c : Configuration) (list : List Item) (e : Event) → (more : List Item) × (taken c list e ≡ list ++ more)
+taken-longer c list (Publish i) = taken-by_longer list i (is_none (refusal c list i))
+taken-longer c list (Ask want) = ([], sym (append-nil list))
+taken-longer c list (Collect ticket) = ([], sym (append-nil list))
+taken-longer c list (Close ticket) = ([], sym (append-nil list))
+taken-longer c list (Clock ms) = ([], sym (append-nil list))
+
+folded-longer : (c : Configuration) (es : List Event) (list : List Item) → (more : List Item) × (fold (taken c) list es ≡ list ++ more)
+folded-longer c [] list = ([], sym (append-nil list))
+folded-longer c (e ∷ es) list =
+    let p = taken-longer c list e in
+    let q = folded-longer c es (taken c list e) in
+    (p.0 ++ q.0, q.1 ∙ ap (λ xs. xs ++ q.0) p.1 ∙ append_assoc list p.0 q.0)
+
+pub players : PlayersLaw
+players bytes place channel first second later r kind h e is_one recent =
+    let c = channel.settings in
+    let p = published bytes place channel (first ++ second) later h (e ∙ sym (append_assoc first second later)) in
+    let q = folded-longer c second (items c first) in
+    let is : items c (first ++ second) ≡ items c first ++ q.0 = fold-append (taken c) [] first second ∙ q.1 in
+    subst (λ all. ArePublished c [] all → end_time (own r all) ≤ end_time (own r (items c first)) + skip_limit c
+    → applied_text (full_text (seen c (items c first) r)) (delta_text kind (seen c all r)) ≡ Ok (full_text (seen c all r)))
+    (sym is) (text c (items c first) q.0 r kind p.0 is_one) p.1 recent

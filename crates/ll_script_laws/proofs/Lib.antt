@@ -1,0 +1,5 @@
+pub mod ActLemmas
+pub mod ChannelLemmas
+pub mod ItemTexts
+pub mod LawProofs
+pub mod ReplyLemmas

@@ -1,0 +1,139 @@
+-- What a request gets is the playlist that it wants, of its own moment or of a later one.
+use Rattle.std.proofs.Common.{◌≡◌, ℕ, ◌+◌, ◌<◌, ◌&&◌, ◌||◌, List, [], ◌∷◌, ◌++◌, Bool, true, false, Option, Some, None, length, length-append, refl, ap, sym, subst, ◌∙◌, append_assoc, arith, bytes_eq, nat_le, nat_lt, if◌then◌else◌, option_map, option_and_then}
+use Rattle.std.proofs.lemmas.Bool.Decides.{nat_tests}
+use Rattle.std.proofs.lemmas.List.Quantifiers.{position-Some}
+use Rattle.ll_directive.specs.Targets.{WantValue}
+use Rattle.ll_item.specs.Items.{rendition_named}
+use Rattle.ll_item.specs.Settings.{Configuration}
+use Rattle.ll_page.specs.Page.{Paged}
+use Rattle.ll_verdict.specs.Events.{Event, Publish, Ask, Collect, Close, Clock, Step, asks, items, until}
+use Rattle.ll_verdict.specs.Verdict.{Request, at_once, closes, comes_after, decided, far, held, held_by, hold_by, is_close, is_there, page_of, reply, reply_at, reply_by, settles, waiting, wanted_at, wanted_of}
+use Rattle.ll_verdict.specs.declared.reply.Reply.{Reply}
+use Rattle.ll_verdict.specs.declared.reply.Reply.TheVariants.{Busy, TooFar}
+use Rattle.ll_verdict.specs.declared.reply.Reply.TheVariants as now
+use Rattle.ll_verdict.specs.declared.reply.Settled.TheVariants.{Text, Timeout}
+use Rattle.ll_verdict.specs.declared.wanted.Wanted.{Wanted}
+use Rattle.ll_verdict.proofs.LawProofs.{first_state}
+use Rattle.ll_verdict.proofs.ListLemmas.{Each, each-append, each-map}
+use Rattle.ll_verdict.proofs.StepLemmas.{along, held-snoc}
+use Rattle.ll_window.specs.Segments.{own}
+use Rattle.ll_script_laws.specs.Laws.{AtOnceLaw, IsWanted, LaterLaw}
+use Rattle.ll_script_laws.proofs.ChannelLemmas.{each-at}
+
+-- what is wanted is of a rendition of the channel
+wanted-at : (c : Configuration) (want : WantValue) (a : Wanted) (o : Option ℕ) → rendition_named c want.rendition ≡ o → option_map (wanted_at want) o ≡ Some a
+    → a.rendition < length c.renditions
+wanted-at c want a None e h = cc
+wanted-at c want a (Some i) e h =
+    let is : wanted_at want i ≡ a = cc in
+    subst (λ (a : Wanted). a.rendition < length c.renditions) is (position-Some (bytes_eq want.rendition) c.renditions i [] e).0
+
+one-of : (c : Configuration) (want : WantValue) (a : Wanted) → wanted_of c want ≡ Some a → a.rendition < length c.renditions
+one-of c want a h = wanted-at c want a (rendition_named c want.rendition) refl h
+
+-- ---- at once
+
+text_by : (x y z : Bool) (p page : Paged) → (if x then Some (now.Text p) else if y then Some TooFar else if z then Some Busy else None) ≡ Some (now.Text page) → page ≡ p
+text_by true y z p page h = cc
+text_by false true z p page h = cc
+text_by false false true p page h = cc
+text_by false false false p page h = cc
+
+text_of : (c : Configuration) (n : ℕ) (events : List Event) (want : WantValue) (page : Paged) (o : Option Wanted) → wanted_of c want ≡ o
+    → reply_by c n (items c events) o ≡ Some (now.Text page) → (a : Wanted) × (o ≡ Some a) × IsWanted c events a page
+text_of c n events want page None e h = cc
+text_of c n events want page (Some a) e h = (
+  a,
+  refl,
+  record {
+    rendition = one-of c want a e;
+    is =
+        text_by (is_there c (items c events) a) (far c (own a.rendition (items c events)) a.awaited) (nat_le 65536 n) (page_of c (items c events) a) page h;
+  },
+)
+
+pub at-once : AtOnceLaw
+at-once c earlier events want page h = text_of c (waiting c events earlier) events want page (wanted_of c want) refl h
+
+-- ---- later
+
+-- a request that had to wait is an event of the channel
+abbrev IsAsked : Configuration → List Event → Request → Type 0
+IsAsked c es r = (want : WantValue) × (rest : List Event) × (es ≡ r.before ++ Ask want ∷ rest) × (wanted_of c want ≡ Some r.wanted)
+
+still_asked : (c : Configuration) (es : List Event) (e : Event) (r : Request) → IsAsked c es r → IsAsked c (es ++ e ∷ []) r
+still_asked c es e r h = (h.0, h.1 ++ e ∷ [], ap (λ xs. xs ++ e ∷ []) h.2 ∙ append_assoc r.before (Ask h.0 ∷ h.1) (e ∷ []), h.3)
+
+kept_asked : (c : Configuration) (es : List Event) (e : Event) (rs : List Request) → Each (IsAsked c es) rs → Each (IsAsked c (es ++ e ∷ [])) rs
+kept_asked c es e rs h = each-map (IsAsked c es) (IsAsked c (es ++ e ∷ [])) (still_asked c es e) rs h
+
+added_asked : (c : Configuration) (es : List Event) (want : WantValue) (n : ℕ) (reply : Option Reply) (o : Option Wanted) → wanted_of c want ≡ o
+    → Each (IsAsked c (es ++ Ask want ∷ [])) (held_by reply n es o)
+added_asked c es want n None (Some a) e = ((want, [], refl, e), tt)
+added_asked c es want n None None e = tt
+added_asked c es want n (Some reply) o e = tt
+
+hold_asked : (c : Configuration) (es : List Event) (e : Event) (rs : List Request) → Each (IsAsked c es) rs → Each (IsAsked c (es ++ e ∷ [])) (hold_by c rs es e)
+hold_asked c es (Publish item) rs h = kept_asked c es (Publish item) rs h
+hold_asked c es (Ask want) rs h =
+    each-append (IsAsked c (es ++ Ask want ∷ [])) rs (held_by (at_once c rs es want) (asks es + 1) es (wanted_of c want)) (kept_asked c es (Ask want) rs h)
+    (added_asked c es want (asks es + 1) (at_once c rs es want) (wanted_of c want) refl)
+hold_asked c es (Collect ticket) rs h = kept_asked c es (Collect ticket) rs h
+hold_asked c es (Close ticket) rs h = kept_asked c es (Close ticket) rs h
+hold_asked c es (Clock ms) rs h = kept_asked c es (Clock ms) rs h
+
+held_asked : (c : Configuration) (es : List Event) → Each (IsAsked c es) (held c es)
+held_asked c es = along (λ es. Each (IsAsked c es) (held c es)) tt
+    (λ es e h. subst (Each (IsAsked c (es ++ e ∷ []))) (sym (held-snoc c es e)) (hold_asked c es e (held c es) h)) es
+
+-- a front that is longer than what stands before an event has that event
+front-has : (before front : List Event) (e : Event) (rest later : List Event) → before ++ e ∷ rest ≡ front ++ later → length before < length front
+    → (between : List Event) × (front ≡ before ++ e ∷ between)
+front-has before [] e rest later h lt = absurd (omega arith)
+front-has [] (f ∷ front) e rest later h lt = let is : e ≡ f = cc in (front, ap (λ x. x ∷ front) (sym is))
+front-has (b ∷ before) (f ∷ front) e rest later h lt =
+    let is : b ≡ f = cc in
+    let tails : before ++ e ∷ rest ≡ front ++ later = cc in
+    let p = front-has before front e rest later tails (omega arith) in
+    (p.0, ap (λ x. x ∷ front) (sym is) ∙ ap (λ xs. b ∷ xs) p.1)
+
+-- what decides a request comes after it
+after_by : (x y z : Bool) → (x && y || x && z) ≡ true → x ≡ true
+after_by true y z h = refl
+after_by false y z h = cc
+
+comes-after : (c : Configuration) (r : Request) (s : Step) → (settles c r s || closes r s) ≡ true → length r.before < length (until s)
+comes-after c r s h =
+    let after : nat_lt (length r.before) (length s.before) ≡ true = after_by (comes_after r s) _ (is_close r.ticket s.event) h in
+    let lt : length r.before < length s.before = grind (arith, nat_tests) in
+    omega (arith, length-append s.before (s.event ∷ []))
+
+settled_by : (x y : Bool) (p page : Paged) → (if x then None else Some (if y then Text p else Timeout)) ≡ Some (Text page) → page ≡ p
+settled_by true y p page h = cc
+settled_by false true p page h = cc
+settled_by false false p page h = cc
+
+by_decision : (c : Configuration) (events : List Event) (r : Request) (page : Paged) (o : Option Step) → decided c events r ≡ o → IsAsked c events r
+    → option_and_then (reply_at c r) o ≡ Some (Text page)
+    → (want : WantValue) × (between : List Event) × (later : List Event) × (events ≡ (r.before ++ Ask want ∷ between) ++ later)
+    × (wanted_of c want ≡ Some r.wanted) × IsWanted c (r.before ++ Ask want ∷ between) r.wanted page
+by_decision c events r page None e asked h = cc
+by_decision c events r page (Some s) e asked h =
+    let f = first_state c events r s e in
+    let p = front-has r.before (until s) (Ask asked.0) asked.1 f.rest (sym asked.2 ∙ f.place) (comes-after c r s f.decides) in
+    let same : page ≡ page_of c (items c (until s)) r.wanted =
+    settled_by (closes r s) (is_there c (items c (until s)) r.wanted) (page_of c (items c (until s)) r.wanted) page h in (
+      asked.0,
+      p.0,
+      f.rest,
+      f.place ∙ ap (λ xs. xs ++ f.rest) p.1,
+      asked.3,
+      record {
+        rendition = one-of c asked.0 r.wanted asked.3;
+        is = same ∙ ap (λ es. page_of c (items c es) r.wanted) p.1;
+      },
+    )
+
+pub later : LaterLaw
+later c events place r page h e =
+    by_decision c events r page (decided c events r) refl (each-at (IsAsked c events) (held c events) place r (held_asked c events) h) e

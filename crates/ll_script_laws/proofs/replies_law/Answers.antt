@@ -1,0 +1,9 @@
+-- The laws have a file of their own.
+use Rattle.ll_script_laws.proofs.ReplyLemmas.{at-once, later}
+use Rattle.ll_script_laws.proofs.replies_law.Goals as goal
+
+pub returns-clause-at_once : goal.returns-clause-at_once
+returns-clause-at_once c = at-once
+
+pub returns-clause-later : goal.returns-clause-later
+returns-clause-later c = later

@@ -1,0 +1,59 @@
+-- Laws of what a script comes to: of its channels, and of the texts that their requests get.
+use Rattle.std.specs.Prelude.{◌≡◌, ℕ, ◌+◌, ◌≤◌, ◌<◌, List, [], ◌∷◌, ◌++◌, Some, Ok, length, slice_get}
+use Rattle.ll_item.specs.Settings.{Configuration, IsWithin}
+use Rattle.ll_directive.specs.Targets.{WantValue}
+use Rattle.ll_window.specs.Segments.{own, end_time}
+use Rattle.ll_window.specs.Window.{skip_limit}
+use Rattle.ll_page.specs.Page.{Paged, page_text}
+use Rattle.ll_page.specs.View.{seen}
+use Rattle.ll_page.specs.declared.form.Form.{Form}
+use Rattle.ll_page.specs.declared.form.Form.TheVariants.{Full, Delta}
+use Rattle.ll_page.specs.declared.skip_kind.SkipKind.{SkipKind}
+use Rattle.ll_verdict.specs.Events.{Event, Ask, items}
+use Rattle.ll_verdict.specs.Verdict.{Request, at_once, held, reply, wanted_of}
+use Rattle.ll_verdict.specs.declared.reply.Reply.TheVariants as now
+use Rattle.ll_verdict.specs.declared.reply.Settled.TheVariants.{Text}
+use Rattle.ll_verdict.specs.declared.wanted.Wanted.{Wanted}
+use Rattle.ll_world.specs.World.{Channel}
+use Rattle.ll_replay.specs.Stream.{world_of}
+use Rattle.ll_apply.specs.Texts.{applied_text}
+use Rattle.ll_laws.specs.Published.{ArePublished}
+
+-- the playlist of a rendition in this form, after these events of its channel
+abbrev pub page_after : Configuration → List Event → ℕ → Form → Paged
+page_after c events rendition form = record { seen = seen c (items c events) rendition; form = form }
+
+-- at each moment of each channel of a script the settings are within their limits, and the accepted items may stand one after another
+abbrev pub PublishedLaw : Type 0
+PublishedLaw = (bytes : List ℕ) (place : ℕ) (channel : Channel) (front later : List Event)
+    → slice_get (world_of bytes).rooms.channels place ≡ Some channel → channel.events ≡ front ++ later
+    → IsWithin channel.settings × ArePublished channel.settings [] (items channel.settings front)
+
+-- For each channel of a script: the text of a delta update, applied to that of an earlier full playlist, is the text of the full
+-- playlist of its own moment, where the parts accepted in between last no longer than the skip limit.
+abbrev pub PlayersLaw : Type 0
+PlayersLaw = (bytes : List ℕ) (place : ℕ) (channel : Channel) (first second later : List Event) (rendition : ℕ) (kind : SkipKind)
+    → slice_get (world_of bytes).rooms.channels place ≡ Some channel → channel.events ≡ first ++ (second ++ later)
+    → rendition < length channel.settings.renditions
+    → end_time (own rendition (items channel.settings (first ++ second)))
+    ≤ end_time (own rendition (items channel.settings first)) + skip_limit channel.settings
+    → applied_text (page_text (page_after channel.settings first rendition Full)) (page_text (page_after channel.settings (first ++ second) rendition (Delta kind)))
+    ≡ Ok (page_text (page_after channel.settings (first ++ second) rendition Full))
+
+-- a page is the playlist that is wanted, of a rendition that the channel has, after these events
+pub record IsWanted (c : Configuration) (events : List Event) (a : Wanted) (page : Paged) : Type 0 where
+  pub rendition : a.rendition < length c.renditions
+  pub is : page ≡ page_after c events a.rendition a.form
+
+-- a text that a request gets at once is the playlist that it wants, of that very moment
+abbrev pub AtOnceLaw : Type 0
+AtOnceLaw = (c : Configuration) (earlier : List Request) (events : List Event) (want : WantValue) (page : Paged)
+    → at_once c earlier events want ≡ Some (now.Text page)
+    → (a : Wanted) × (wanted_of c want ≡ Some a) × IsWanted c events a page
+
+-- A request that had to wait is one of the channel's events. A text that it gets is the playlist that it wants, of a moment after it.
+abbrev pub LaterLaw : Type 0
+LaterLaw = (c : Configuration) (events : List Event) (place : ℕ) (r : Request) (page : Paged)
+    → slice_get (held c events) place ≡ Some r → reply c events r ≡ Some (Text page)
+    → (want : WantValue) × (between : List Event) × (later : List Event) × (events ≡ (r.before ++ Ask want ∷ between) ++ later)
+    × (wanted_of c want ≡ Some r.wanted) × IsWanted c (r.before ++ Ask want ∷ between) r.wanted page

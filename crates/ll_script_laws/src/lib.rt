@@ -1,0 +1,27 @@
+//! Laws of whole scripts: what the channels of a script have accepted, and what the playlists that their requests get are good for.
+//! Each is proved once, as the contract of an empty function; none of these does anything. Sections are those of
+//! draft-pantos-hls-rfc8216bis.
+#![tactic(auto)]
+
+ghost use Rattle.ll_script_laws.specs.Laws.{AtOnceLaw, LaterLaw, PlayersLaw, PublishedLaw};
+
+/// For every input of `ll_replay::run`, at each moment of each of its channels: the settings are within their limits, and the items
+/// that the channel has accepted are such as the laws of playlists and delta updates speak of.
+pub fn published_law()
+    ensures { PublishedLaw }
+{}
+
+/// The promise to players, for every script: take a rendition of one of its channels, a full playlist of some moment, and a delta
+/// update of that or a later moment. If the parts accepted in between last no longer than the skip limit, the update's text, applied
+/// to the playlist's text, gives the text of the full playlist of the update's own moment (section 6.2.5.1).
+pub fn players_law()
+    ensures { PlayersLaw }
+{}
+
+/// Each text that a request of a channel gets is a playlist of which `players_law` speaks: in the form that the request asks for, of
+/// the rendition that it names, after all events of the channel up to some moment. `at_once` says it of a reply without waiting,
+/// where the moment is that of the request; `later` of the reply to a request that had to wait.
+pub fn replies_law()
+    ensures at_once { AtOnceLaw }
+    ensures later { LaterLaw }
+{}
