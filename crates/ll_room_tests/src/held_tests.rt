@@ -4,6 +4,7 @@ use ll_item::{Item, Settings};
 use ll_verdict::Reply;
 use ll_world::{Answer, Rooms};
 use std::alloc::Global;
+use std::process::Abort;
 use std::test::Fail;
 
 /// The most requests of a channel that wait at one time.
@@ -92,6 +93,22 @@ const EARLIER_READINGS: &[(Step, &str)] = &[
     (Step::Due, ""),
 ];
 
+/// Requests that don't wait.
+const AT_ONCE: &[(Step, &str)] = &[
+    (PART, "ok 1"),
+    (
+        Step::Ask(1, "/cam/hi/live.m3u8"),
+        "1 #EXT-X-PRELOAD-HINT:TYPE=PART,URI=\"s0.1.m4s\"",
+    ),
+    (Step::Ask(2, "/cam/lo/live.m3u8"), "2 NotFound"),
+    (Step::Ask(3, "/cam/hi/live.m3u8?_HLS_msn=3"), "3 TooFar"),
+    (
+        Step::Ask(4, "/cam/hi/live.m3u8?_HLS_msn=0&_HLS_part=4"),
+        "4 TooFar",
+    ),
+    (Step::Due, ""),
+];
+
 /// What comes of a step: the answer, or nothing; none where a line can't be read or no memory is found.
 fn take(alloc: Global, rooms: &mut Rooms, step: Step) -> Option<String> {
     let answer = match step {
@@ -136,20 +153,32 @@ fn reply_told(reply: &Reply) -> &str {
     }
 }
 
+/// Takes these steps in turn, each of which comes to what stands beside it.
+fn follow(
+    rt: &impl Abort,
+    alloc: Global,
+    rooms: &mut Rooms,
+    script: &str,
+    rows: &[(Step, &'static str)],
+) {
+    for (row, (step, wanted)) in rows.iter().enumerate() {
+        let found = take(alloc, rooms, *step);
+        assert_eq!(rt; found.as_deref(), Some(*wanted), "{script}: row {row}");
+    }
+}
+
 #[test]
 fn held_requests_are_answered(rt: HostRuntime) -> Result<(), Fail> {
     for (script, rows) in [
         ("later", LATER),
         ("past the last", PAST_THE_LAST),
         ("earlier readings", EARLIER_READINGS),
+        ("at once", AT_ONCE),
     ] {
         let settings = Settings::read(rt.alloc(), CHANNEL)?;
         let mut rooms = Rooms::new(rt.alloc());
         assert!(rt; rooms.declare(settings).is_ok());
-        for (row, (step, wanted)) in rows.iter().enumerate() {
-            let found = take(rt.alloc(), &mut rooms, *step);
-            assert_eq!(rt; found.as_deref(), Some(*wanted), "{script}: row {row}");
-        }
+        follow(&rt, rt.alloc(), &mut rooms, script, rows);
         rooms.finish();
     }
     Ok(())

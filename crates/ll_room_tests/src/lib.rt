@@ -3,3 +3,5 @@
 
 #[cfg(test)]
 mod held_tests;
+#[cfg(test)]
+mod room_tests;
