@@ -2,7 +2,7 @@ ghost use Rattle.std.specs.Prelude.{◌≡◌, IfOk};
 
 use ll_range::Ranges;
 use ll_window::Window;
-use std::alloc::AllocError;
+use std::alloc::{AllocError, Global};
 
 /// What is kept of one rendition.
 #[derive(Debug, Drop)]
@@ -22,5 +22,16 @@ impl Rendition {
             window: self.window.copy()?,
             ranges: self.ranges.copy()?,
         })
+    }
+
+    /// What is equal to each of these, in their order, or an error where no memory is found.
+    pub fn copy_all(alloc: Global, renditions: &[Rendition]) -> Result<Vec<Rendition>, AllocError>
+        ensures { IfOk result (λ copies. copies.items ≡ renditions.now) }
+    {
+        let mut copies = Vec::with_capacity(alloc, renditions.len())?;
+        for rendition in renditions {
+            copies.push(rendition.copy()?)?;
+        }
+        Ok(copies)
     }
 }

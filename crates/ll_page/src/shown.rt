@@ -49,7 +49,7 @@ impl Shown {
     {
         let kept = Kept {
             settings: settings.copy(alloc)?,
-            renditions: copied(alloc, renditions)?,
+            renditions: Rendition::copy_all(alloc, renditions)?,
             count,
         };
         Ok(Shown {
@@ -74,15 +74,4 @@ impl Shown {
             kept: Arc::try_clone(&self.kept)?,
         })
     }
-}
-
-/// Renditions equal to these.
-fn copied(alloc: Global, renditions: &[Rendition]) -> Result<Vec<Rendition>, AllocError>
-    ensures { IfOk result (λ copies. copies.items ≡ renditions.now) }
-{
-    let mut copies = Vec::with_capacity(alloc, renditions.len())?;
-    for rendition in renditions {
-        copies.push(rendition.copy()?)?;
-    }
-    Ok(copies)
 }

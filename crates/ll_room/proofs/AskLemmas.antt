@@ -26,7 +26,7 @@ use Rattle.ll_room.specs.Answers.{asked}
 use Rattle.ll_room.specs.Home.{Home, Stands, home, less, tickets}
 use Rattle.ll_room.specs.Kept.{page_now, with_answer, with_held}
 use Rattle.ll_room.proofs.IdleLemmas.{idle, same_slots}
-use Rattle.ll_room.proofs.RoomLemmas.{newest}
+use Rattle.ll_room.proofs.KeptLemmas.{newest}
 use Rattle.ll_room.proofs.StandLemmas.{all_stay, stands-by}
 
 -- the state that a room stands for

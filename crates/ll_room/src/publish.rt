@@ -18,7 +18,7 @@ use ll_book::{Holders, Pages, Release};
 use ll_item::Item;
 use ll_page::{Rendition, Shown};
 use ll_verdict::PublishFault;
-use std::alloc::{AllocError, Global};
+use std::alloc::AllocError;
 
 impl Room {
     /// Accepts an item and answers how many were accepted with it, or answers the first rule that refuses it. The requests for which
@@ -173,7 +173,7 @@ impl Room {
         ensures many { IfOk result (λ x. length x.0.items ≡ length self.now.renditions) }
         ensures shown { IfOk result (λ x. x.1 ≡ record { settings = self.now.settings; renditions = x.0.items; count = self.now.count + 1 }) }
     {
-        let mut renditions = copied(self.alloc, &self.renditions)?;
+        let mut renditions = Rendition::copy_all(self.alloc, &self.renditions)?;
         accept_at(&mut renditions, item)?;
         let shown = Shown::of(self.alloc, &self.settings, &renditions, self.count + 1)?;
         Ok((renditions, shown))
@@ -221,15 +221,4 @@ fn accept_at(renditions: &mut Vec<Rendition>, item: Item) -> Result<(), AllocErr
         Some(kept) => accept(kept, item),
         None => Ok(()),
     }
-}
-
-/// What is kept of each rendition, once more.
-fn copied(alloc: Global, renditions: &[Rendition]) -> Result<Vec<Rendition>, AllocError>
-    ensures { IfOk result (λ copies. copies.items ≡ renditions.now) }
-{
-    let mut copies = Vec::with_capacity(alloc, renditions.len())?;
-    for rendition in renditions {
-        copies.push(rendition.copy()?)?;
-    }
-    Ok(copies)
 }

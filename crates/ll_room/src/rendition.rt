@@ -39,6 +39,8 @@ fn test_ranges(end: u64, ranges: &Ranges, item: &Item) -> Result<(), RangeFault>
     }
 }
 
+// A test answers no Memory. The fault of either crate has it for the calls that take an item in at once, and so it has its name here.
+
 /// What a window refuses, by its name in a channel.
 fn push_fault(fault: PushFault) -> PublishFault
     ensures { result ≡ of_push fault }

@@ -69,8 +69,8 @@ impl Room {
     pub fn new(alloc: Global, channel: u64, settings: Settings) -> Result<Room, AllocError>
         ensures { IfOk result (λ r. r ≡ home channel settings (state_of settings [])) }
     {
-        // told here for what the room keeps true: a target duration is at least a second
-        let _ = settings.target();
+        // so that no request is due when it is made
+        prove!(settings.target() >= 1);
         let renditions = no_items(alloc, &settings)?;
         Ok(Room {
             alloc,

@@ -1,5 +1,5 @@
 -- One more request, which isn't open.
-use Rattle.ll_room.proofs.RoomLemmas.{few-events, kept-answer}
+use Rattle.ll_room.proofs.KeptLemmas.{few-events, kept-answer}
 use Rattle.ll_room.specs.contracts.room.Room.{the_view}
 use Rattle.ll_room.proofs.room.Room.answer.Goals as goal
 

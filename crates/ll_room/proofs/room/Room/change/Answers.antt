@@ -2,7 +2,7 @@
 use Rattle.ll_room.specs.contracts.room.Room.{the_view}
 use Rattle.ll_room.proofs.PublishLemmas.{changed-is, coming-of, has-those, has-those-after, kept-change}
 use Rattle.ll_room.specs.Coming.{pages}
-use Rattle.ll_room.proofs.RoomLemmas.{few-events}
+use Rattle.ll_room.proofs.KeptLemmas.{few-events}
 use Rattle.ll_room.proofs.room.Room.change.Goals as goal
 
 pub release-requires : goal.release-requires

@@ -1,6 +1,6 @@
 -- One more open request, with the next ticket.
 use Rattle.std.proofs.Common.{refl, ◌+◌, ◌*◌}
-use Rattle.ll_room.proofs.RoomLemmas.{few-events, kept-held}
+use Rattle.ll_room.proofs.KeptLemmas.{few-events, kept-held}
 use Rattle.ll_room.specs.contracts.room.Room.{the_view}
 use Rattle.ll_room.proofs.room.Room.hold.Goals as goal
 

@@ -1,6 +1,6 @@
 -- Nothing has happened.
 use Rattle.std.proofs.Common.{◌≤◌, subst}
-use Rattle.ll_room.proofs.RoomLemmas.{kept-new}
+use Rattle.ll_room.proofs.KeptLemmas.{kept-new}
 use Rattle.ll_room.proofs.room.Room.new.Goals as goal
 
 pub invariant_of-result : goal.invariant_of-result
