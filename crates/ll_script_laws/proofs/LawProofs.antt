@@ -111,7 +111,7 @@ published bytes place channel front later h e =
 
 -- ---- the law on texts
 
--- what is accepted is only added to
+-- items that were accepted stay, and others come after them
 
 taken-by_longer : (list : List Item) (i : Item) (b : Bool) → (more : List Item) × ((if b then list ++ i ∷ [] else list) ≡ list ++ more)
 taken-by_longer list i true = (i ∷ [], refl)

@@ -23,7 +23,8 @@ use Rattle.ll_laws.specs.Published.{ArePublished}
 abbrev pub page_after : Configuration → List Event → ℕ → Form → Paged
 page_after c events rendition form = record { seen = seen c (items c events) rendition; form = form }
 
--- at each moment of each channel of a script the settings are within their limits, and the accepted items may stand one after another
+-- For each channel of a script, after each front of its events: the settings are within their limits, and of the accepted items each
+-- may follow those before it.
 abbrev pub PublishedLaw : Type 0
 PublishedLaw = (bytes : List ℕ) (place : ℕ) (channel : Channel) (front later : List Event)
     → slice_get (world_of bytes).rooms.channels place ≡ Some channel → channel.events ≡ front ++ later
