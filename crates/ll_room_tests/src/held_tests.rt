@@ -7,9 +7,6 @@ use std::alloc::Global;
 use std::process::Abort;
 use std::test::Fail;
 
-/// The most requests of a channel that wait at one time.
-const LIMIT: u64 = 65_536;
-
 const CHANNEL: &str =
     "channel cam target=4 part=1000000 skip=24 window=36 renditions=hi first=0 start=0";
 
@@ -113,7 +110,8 @@ const AT_ONCE: &[(Step, &str)] = &[
 fn take(alloc: Global, rooms: &mut Rooms, step: Step) -> Option<String> {
     let answer = match step {
         Step::Offer(line) => {
-            let item = Item::read(alloc, rooms.settings(0)?, line).ok()?;
+            let settings = Settings::read(alloc, CHANNEL).ok()?;
+            let item = Item::read(alloc, &settings, line).ok()?;
             rooms.offer(0, item).ok()?
         }
         Step::Ask(id, target) => {
@@ -181,48 +179,5 @@ fn held_requests_are_answered(rt: HostRuntime) -> Result<(), Fail> {
         follow(&rt, rt.alloc(), &mut rooms, script, rows);
         rooms.finish();
     }
-    Ok(())
-}
-
-/// Makes requests under the numbers from 1 on, and tells how many of them wait.
-fn ask_many(alloc: Global, rooms: &mut Rooms, count: u64) -> usize {
-    for id in 1..=count {
-        let _ = take(alloc, rooms, Step::Ask(id, "/cam/hi/live.m3u8?_HLS_msn=1"));
-    }
-    rooms.waiting()
-}
-
-#[test]
-fn so_many_requests_wait(rt: HostRuntime) -> Result<(), Fail> {
-    let settings = Settings::read(rt.alloc(), CHANNEL)?;
-    let mut rooms = Rooms::new(rt.alloc());
-    assert!(rt; rooms.declare(settings).is_ok());
-    assert_eq!(rt; ask_many(rt.alloc(), &mut rooms, LIMIT), 65_536);
-    for (step, wanted, waiting) in [
-        (
-            Step::Ask(65_537, "/cam/hi/live.m3u8?_HLS_msn=1"),
-            "65537 Busy",
-            65_536,
-        ),
-        (Step::Close(65_537), "", 65_536),
-        (Step::Close(40_000), "", 65_535),
-        (
-            Step::Ask(65_538, "/cam/hi/live.m3u8?_HLS_msn=1"),
-            "",
-            65_536,
-        ),
-        (
-            Step::Ask(65_539, "/cam/hi/live.m3u8?_HLS_msn=1"),
-            "65539 Busy",
-            65_536,
-        ),
-    ] {
-        let found = take(rt.alloc(), &mut rooms, step);
-        assert_eq!(rt;
-            (found.as_deref(), rooms.waiting()),
-            (Some(wanted), waiting)
-        );
-    }
-    rooms.finish();
     Ok(())
 }
