@@ -55,9 +55,13 @@ pub cut-later : (base written : Option (List ℕ)) (w v u : World) (f : RunFault
 cut-later base written w v u (fault.BadLine n) a c = c
 cut-later base written w v u (fault.LineTooLong n) a c = c
 cut-later base written w v u fault.Write a c = c
-cut-later base written w v u fault.Memory a c =
-    (a.0 ++ c.0, c.1, c.2 ∙ ap (λ t. t ++ (c.0 ++ c.1)) a.1 ∙ append_assoc w.text a.0 (c.0 ++ c.1) ∙ ap (λ t. w.text ++ t) (sym (append_assoc a.0 c.0 c.1)),
-    subst (Appends base written) (ap (λ t. t ++ c.0) a.1 ∙ append_assoc w.text a.0 c.0) c.3, c.4)
+cut-later base written w v u fault.Memory a c = (
+  a.0 ++ c.0,
+  c.1,
+  c.2 ∙ ap (λ t. t ++ (c.0 ++ c.1)) a.1 ∙ append_assoc w.text a.0 (c.0 ++ c.1) ∙ ap (λ t. w.text ++ t) (sym (append_assoc a.0 c.0 c.1)),
+  subst (Appends base written) (ap (λ t. t ++ c.0) a.1 ∙ append_assoc w.text a.0 c.0) c.3,
+  c.4,
+)
 cut-later base written w v u fault.Read a c = c
 cut-later base written w v u fault.Endless a c = c
 

@@ -35,8 +35,8 @@ heard-says old held n w v a t k leads same count text =
         stands =
             ap (λ o. hears o held n) k.stands
             ∙ stands held n w v leads.stands same
-              (up_to_end n (reply_count v.answers) w.replies count_end
-              (count ∙ ap₂ (λ (o : Kept) list. min (o.replies + reply_count list) count_end) k.stands (sym are)));
+            (up_to_end n (reply_count v.answers) w.replies count_end
+            (count ∙ ap₂ (λ (o : Kept) list. min (o.replies + reply_count list) count_end) k.stands (sym are)));
         silent = refl;
       };
       text = ap (λ list. w.text ++ flat_map spelled list) are ∙ ap (λ more. w.text ++ more) (sym text);
@@ -76,8 +76,10 @@ heard-still w v quiet same =
   where
     still : (r : world.World) → r.answers ≡ [] → silent r ≡ r
     still r e = ap (λ list. record r { answers = list }) (sym e)
+
     no_more : (n : ℕ) → n + 0 ≡ n
     no_more n = omega arith
+
     nothing : record w { replies = w.replies + 0; text = w.text ++ [] } ≡ w
     nothing = ap₂ (λ n text. record w { replies = n; text = text }) (no_more w.replies) (append-nil w.text)
 

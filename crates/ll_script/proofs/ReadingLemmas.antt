@@ -56,6 +56,7 @@ get_of-more channels last id target (Some x) m more = ap (λ ws. get_of channels
     three : (ws : List ℕ) (next : List ℕ) (later : List (List ℕ)) → get_of channels last (id ∷ ws ∷ next ∷ later) ≡ None
     three [] next later = refl
     three (b ∷ bs) next later = refl
+
     by_rest : (rest : List (List ℕ)) → words x.1.now ≡ rest → get_of channels last (id ∷ x.0.now ∷ rest) ≡ None
     by_rest [] e = absurd (some-part 32 x.1.now e)
     by_rest (next ∷ later) e = three x.0.now next later

@@ -17,7 +17,7 @@ returns-in_err-done-clause-cut g c =
     (clocks-cut f _ c.loop-place.self _ _ _ c.args.self.now.declared c.loop-place.place c.args.ms within c.loop-place.invariant.goes c.in_err-done.ensures.cut)
 
 pub returns-in_err-done-clause-write_failed : goal.returns-in_err-done-clause-write_failed
-returns-in_err-done-clause-write_failed g c e = 
+returns-in_err-done-clause-write_failed g c e =
     omega (arith, c.in_err-done.ensures.write_failed (ap Err (same_fault c.from_residual.result c.in_err-done.field-0.0 _ c.from_residual.ensures.1 e)), c.loop-place.invariant.steady)
 
 pub loop-place-preserved : goal.loop-place-preserved
