@@ -23,7 +23,7 @@ use Rattle.ll_laws.specs.Published.{ArePublished}
 abbrev pub page_after : Configuration → List Event → ℕ → Form → Paged
 page_after c events rendition form = record { seen = seen c (items c events) rendition; form = form }
 
--- For each channel of a script, after each front of its events: the settings are within their limits, and of the accepted items each
+-- For each channel of a script, after each prefix of its events: the settings are within their limits, and of the accepted items each
 -- may follow those before it.
 abbrev pub PublishedLaw : Type 0
 PublishedLaw = (bytes : List ℕ) (place : ℕ) (channel : Channel) (front later : List Event)

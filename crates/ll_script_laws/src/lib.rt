@@ -5,16 +5,16 @@
 
 ghost use Rattle.ll_script_laws.specs.Laws.{AtOnceLaw, LaterLaw, PlayersLaw, PublishedLaw};
 
-/// For every input of `ll_replay::run`, each of its channels and each front of that channel's events: the settings are within their
-/// limits, and the items that the channel accepts with these events are such as the laws of `ll_laws` speak of.
+/// For every input of `ll_replay::run`, at each moment of each of its channels: the settings are within their limits, and the items
+/// that the channel has accepted by then are such as the laws of `ll_laws` speak of. A moment is a prefix of the channel's events.
 pub fn published_law()
     ensures { PublishedLaw }
 {}
 
-/// The promise to players, for every script: take a rendition of one of its channels, its full playlist after a front of the
-/// channel's events, and a delta update after that front or a longer one. If the parts accepted in between last no longer than the
-/// skip limit, the update's text, applied to the playlist's text, gives the text of the full playlist of the update's own moment
-/// (section 6.2.5.1). `ll_apply::apply`, where it finds memory, answers the text of which this speaks.
+/// The promise to players, for every script: take a rendition of one of its channels, its full playlist of some moment, and a delta
+/// update of that moment or a later one. If the parts accepted in between last no longer than the Skip Boundary, the update's text,
+/// applied to the playlist's text, gives the text of the full playlist of the update's own moment (section 6.2.5.1).
+/// `ll_apply::apply`, where it finds memory, answers the text of which this speaks.
 pub fn players_law()
     ensures { PlayersLaw }
 {}
