@@ -1,16 +1,23 @@
 -- The requests that wait, in order of asking.
-use Rattle.std.specs.Prelude.{ℕ, ◌==◌, ◌&&◌, Bool, List, Option, find}
+use Rattle.std.specs.Prelude.{ℕ, ◌==◌, ◌&&◌, Bool, false, List, Option, find}
 use Rattle.std.specs.Set.{remove_key}
 use Rattle.ll_room.specs.Ticket.{Ticket}
+use Rattle.ll_held.specs.declared.owner.Owner.{Owner}
+use Rattle.ll_held.specs.declared.owner.Owner.TheVariants.{Get, Connection}
 use Rattle.ll_held.specs.declared.wait.Wait.{Wait}
 
 -- whether it waits at this place under this ticket
 abbrev pub is_under : ℕ → ℕ → Wait → Bool
 is_under place ticket x = x.place == place && x.ticket == ticket
 
--- whether its reply is told under this number
-abbrev pub has_id : ℕ → Wait → Bool
-has_id id x = x.id == id
+abbrev pub is_same : Owner → Owner → Bool
+is_same (Get a) (Get b) = a == b
+is_same (Connection a) (Connection b) = a == b
+is_same other owner = false
+
+-- whether its reply is told to this one
+abbrev pub is_of : Owner → Wait → Bool
+is_of owner x = is_same x.owner owner
 
 -- the value that stands for it: the number of a room is its place
 abbrev pub parked_of : Wait → Ticket
@@ -20,9 +27,9 @@ parked_of x = record { channel = x.place; ticket = x.ticket }
 abbrev pub under : ℕ → ℕ → List Wait → Option Wait
 under place ticket waits = find (is_under place ticket) waits
 
--- the request whose reply is told under this number
-abbrev pub with_id : ℕ → List Wait → Option Wait
-with_id id waits = find (has_id id) waits
+-- the first request whose reply is told to this one
+abbrev pub wait_of : Owner → List Wait → Option Wait
+wait_of owner waits = find (is_of owner) waits
 
 -- without the request that waits at this place under this ticket
 abbrev pub without : ℕ → ℕ → List Wait → List Wait

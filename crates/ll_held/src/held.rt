@@ -1,7 +1,8 @@
 ghost use Rattle.std.specs.Prelude.{◌≡◌, ◌↔◌, ◌++◌, ◌∷◌, [], IfErr, IsOk, OnOk, find, length, option_map, position, slice_get};
 ghost use Rattle.ll_held.specs.Book.{at_wait, wait_in};
-ghost use Rattle.ll_held.specs.Waits.{has_id, is_under, parked_of, under, with_id, without};
+ghost use Rattle.ll_held.specs.Waits.{is_of, is_under, parked_of, under, wait_of, without};
 
+use crate::owner::Owner;
 use crate::wait::Wait;
 use ll_room::{Parked, Shelf};
 use std::alloc::Global;
@@ -56,17 +57,17 @@ impl Held {
         }
     }
 
-    /// Keeps the value of a request, whose reply is told under this number. It hands the value back where no memory is found, and where
+    /// Keeps the value of a request, whose reply is told to this owner. It hands the value back where no memory is found, and where
     /// 2^64 - 1 requests were kept.
-    pub fn put(&mut self, id: u64, parked: Parked) -> Result<(), Parked>
-        ensures put { OnOk result (self.new ≡ self.old ++ (record { id = id; place = parked.channel; ticket = parked.ticket }) ∷ []) }
+    pub fn put(&mut self, owner: Owner, parked: Parked) -> Result<(), Parked>
+        ensures put { OnOk result (self.new ≡ self.old ++ (record { owner = owner; place = parked.channel; ticket = parked.ticket }) ∷ []) }
         ensures handed_back { IfErr result (λ p. (p ≡ parked) × (self.new ≡ self.old)) }
     {
         if self.rows.reserve(1).is_err() {
             return Err(parked);
         }
         let wait = Wait {
-            id,
+            owner,
             place: parked.channel() as usize,
             ticket: parked.ticket(),
         };
@@ -101,11 +102,11 @@ impl Held {
         wait_under(&self.rows, place, ticket)
     }
 
-    /// The request whose reply is told under this number, where it waits.
-    pub fn of(&self, id: u64) -> Option<Wait>
-        ensures { result ≡ with_id id self.now }
+    /// The first request whose reply is told to this owner, where one waits.
+    pub fn of(&self, owner: Owner) -> Option<Wait>
+        ensures { result ≡ wait_of owner self.now }
     {
-        wait_with_id(&self.rows, id)
+        first_of(&self.rows, owner)
     }
 
     /// Takes the value of the request that waits at this place under this ticket, which then is kept no longer.
@@ -144,11 +145,11 @@ fn wait_under(rows: &[Row], place: usize, ticket: u64) -> Option<Wait>
     Some(row.wait)
 }
 
-/// The request whose reply is told under this number.
-fn wait_with_id(rows: &[Row], id: u64) -> Option<Wait>
-    ensures { result ≡ option_map wait_in (find (at_wait (has_id id)) rows.now) }
+/// The first request whose reply is told to this owner.
+fn first_of(rows: &[Row], owner: Owner) -> Option<Wait>
+    ensures { result ≡ option_map wait_in (find (at_wait (is_of owner)) rows.now) }
 {
-    let row = rows.iter().find(|row| row.wait.id == id)?;
+    let row = rows.iter().find(|row| row.wait.owner.is(owner))?;
     Some(row.wait)
 }
 

@@ -2,7 +2,9 @@
 #![tactic(auto)]
 
 mod held;
+mod owner;
 mod wait;
 
 pub use held::Held;
+pub use owner::Owner;
 pub use wait::Wait;

@@ -1,5 +1,6 @@
 //! Requests that wait in a channel, step by step.
 use ll_directive::read_target;
+use ll_held::Owner;
 use ll_item::{Item, Settings};
 use ll_verdict::Reply;
 use ll_world::{Answer, Rooms};
@@ -116,10 +117,10 @@ fn take(alloc: Global, rooms: &mut Rooms, step: Step) -> Option<String> {
         }
         Step::Ask(id, target) => {
             let want = read_target(alloc, target.as_bytes()).ok()?;
-            rooms.ask(id, 0, want).ok()?
+            rooms.ask(Owner::Get(id), 0, want).ok()?
         }
         Step::Close(id) => {
-            rooms.close(id);
+            rooms.close(Owner::Get(id));
             None
         }
         Step::Clock(ms) => rooms.clock(0, ms),
@@ -133,10 +134,10 @@ fn told(alloc: Global, answer: Option<Answer>) -> Option<String> {
     match answer {
         None => Some(String::new(alloc)),
         Some(Answer::Accepted(count)) => format!(in alloc; "ok {count}").ok(),
-        Some(Answer::Replied(id, reply)) => format!(in alloc; "{id} {}", reply_told(&reply)).ok(),
-        Some(Answer::Refused(_)) | Some(Answer::ClockRefused(_)) | Some(Answer::Unavailable(_)) => {
-            None
+        Some(Answer::Replied(Owner::Get(id), reply)) => {
+            format!(in alloc; "{id} {}", reply_told(&reply)).ok()
         }
+        Some(_) => None,
     }
 }
 

@@ -25,7 +25,8 @@ use Rattle.ll_room.specs.declared.asked.Closed.TheVariants as given_up
 use Rattle.ll_room.specs.declared.asked.Collected.{Collected}
 use Rattle.ll_room.specs.declared.asked.Collected.TheVariants.{Got, Still, Stranger}
 use Rattle.ll_room.specs.declared.fault.ClockFault.TheVariants.{ClockRange, RecordFull}
-use Rattle.ll_held.specs.Waits.{has_id, is_under, under, with_id, without}
+use Rattle.ll_held.specs.Waits.{is_of, is_under, under, wait_of, without}
+use Rattle.ll_held.specs.declared.owner.Owner.{Owner}
 use Rattle.ll_held.specs.declared.wait.Wait.{Wait}
 use Rattle.ll_world.specs.Kept.{AreTied, Kept, Leads, home_at, homes_from, kept_world, open_in}
 use Rattle.ll_world.specs.World.{Channel, World, count_end, event_count, is_brought, with_event, happens, waits_less, told, told_to, tick, tick_at, tick_of, first_due, offer, offer_at, offered, ask, ask_at, asked, asked_if, brought, close, close_at, close_of, clock, clock_at, clocked, declare}
@@ -104,8 +105,8 @@ settings_of i c h is = ap (λ (h : Home). h.settings) is
 pub offer_nowhere : (old : Kept) (w : World) (i : ℕ) (item : Item) → old ≡ kept_world w → slice_get old.rooms i ≡ None → Leads old None w (offer i item w)
 offer_nowhere old w i item e at = no_channel old.rooms w.channels i (rooms_of old w e) at (λ d. Leads old None w (offer_at w i item d)) (stays old w e)
 
-pub ask_nowhere : (old : Kept) (w : World) (id i : ℕ) (want : WantValue) → old ≡ kept_world w → slice_get old.rooms i ≡ None → Leads old None w (ask id i want w)
-ask_nowhere old w id i want e at = no_channel old.rooms w.channels i (rooms_of old w e) at (λ d. Leads old None w (ask_at w id i want d)) (stays old w e)
+pub ask_nowhere : (old : Kept) (w : World) (owner : Owner) (i : ℕ) (want : WantValue) → old ≡ kept_world w → slice_get old.rooms i ≡ None → Leads old None w (ask owner i want w)
+ask_nowhere old w owner i want e at = no_channel old.rooms w.channels i (rooms_of old w e) at (λ d. Leads old None w (ask_at w owner i want d)) (stays old w e)
 
 pub clock_nowhere : (old : Kept) (w : World) (i ms : ℕ) → old ≡ kept_world w → slice_get old.rooms i ≡ None → Leads old None w (clock i ms w)
 clock_nowhere old w i ms e at = no_channel old.rooms w.channels i (rooms_of old w e) at (λ d. Leads old None w (clock_at w i ms d)) (stays old w e)
@@ -217,43 +218,43 @@ held_is rooms waits i h want p tied at answer =
 not_full : (i : ℕ) (c : Channel) (h : Home) → h ≡ home_at i c → h.events < event_end → is_full (length c.events) ≡ false
 not_full i c h is few = ap (λ (h : Home). is_full h.events) (sym is) ∙ out_of_range h.events event_end few
 
-pub asked_now : (n2 : ℕ) (old : Kept) (w : World) (id i : ℕ) (want : WantValue) (m : Mark Reply) (h h2 : Home) → n2 ≡ one_more old.events → old ≡ kept_world w → slice_get old.rooms i ≡ Some h → IsSame h h2
+pub asked_now : (n2 : ℕ) (old : Kept) (w : World) (owner : Owner) (i : ℕ) (want : WantValue) (m : Mark Reply) (h h2 : Home) → n2 ≡ one_more old.events → old ≡ kept_world w → slice_get old.rooms i ≡ Some h → IsSame h h2
     → GoesOn h h2 (Ask want) → Answered h want (Now m) → h.events < event_end
-    → Leads (record { rooms = slice_set old.rooms i h2; waits = old.waits; events = n2 }) (Some (Replied id m.value)) w (ask id i want w)
-asked_now n2 old w id i want m h h2 more e at same goes answer few =
+    → Leads (record { rooms = slice_set old.rooms i h2; waits = old.waits; events = n2 }) (Some (Replied owner m.value)) w (ask owner i want w)
+asked_now n2 old w owner i want m h h2 more e at same goes answer few =
     channel_of old.rooms w.channels i h (rooms_of old w e) at
-    (λ d. Leads (record { rooms = slice_set old.rooms i h2; waits = old.waits; events = n2 }) (Some (Replied id m.value)) w (ask_at w id i want d))
-    (λ c there is. subst (λ b. Leads (record { rooms = slice_set old.rooms i h2; waits = old.waits; events = n2 }) (Some (Replied id m.value)) w (asked_if b w id i c want))
+    (λ d. Leads (record { rooms = slice_set old.rooms i h2; waits = old.waits; events = n2 }) (Some (Replied owner m.value)) w (ask_at w owner i want d))
+    (λ c there is. subst (λ b. Leads (record { rooms = slice_set old.rooms i h2; waits = old.waits; events = n2 }) (Some (Replied owner m.value)) w (asked_if b w owner i c want))
     (sym (not_full i c h is few))
-    (subst (λ o. Leads (record { rooms = slice_set old.rooms i h2; waits = old.waits; events = n2 }) (Some (Replied id m.value)) w (asked w id i c want o))
+    (subst (λ o. Leads (record { rooms = slice_set old.rooms i h2; waits = old.waits; events = n2 }) (Some (Replied owner m.value)) w (asked w owner i c want o))
     (sym (reply_here i c h want (Now m) is answer))
-    (leads (slice_set old.rooms i h2) old.waits n2 (Some (Replied id m.value)) w (asked w id i c want (Some m.value))
+    (leads (slice_set old.rooms i h2) old.waits n2 (Some (Replied owner m.value)) w (asked w owner i c want (Some m.value))
     (changed old.rooms w.channels i h h2 c (Ask want) (rooms_of old w e) is same goes) (waits_of old w e) (more_events n2 old w i c (Ask want) more e there refl) refl)))
 
-pub asked_held : (n2 : ℕ) (old : Kept) (w : World) (id i : ℕ) (want : WantValue) (p : Ticket) (h h2 : Home) → n2 ≡ one_more old.events → old ≡ kept_world w → AreTied old.rooms old.waits → slice_get old.rooms i ≡ Some h → IsSame h h2
+pub asked_held : (n2 : ℕ) (old : Kept) (w : World) (owner : Owner) (i : ℕ) (want : WantValue) (p : Ticket) (h h2 : Home) → n2 ≡ one_more old.events → old ≡ kept_world w → AreTied old.rooms old.waits → slice_get old.rooms i ≡ Some h → IsSame h h2
     → GoesOn h h2 (Ask want) → Answered h want (Held p) → h.events < event_end
-    → Leads (record { rooms = slice_set old.rooms i h2; waits = old.waits ++ (record { id = id; place = p.channel; ticket = p.ticket }) ∷ []; events = n2 }) None w (ask id i want w)
-asked_held n2 old w id i want p h h2 more e tied at same goes answer few =
+    → Leads (record { rooms = slice_set old.rooms i h2; waits = old.waits ++ (record { owner = owner; place = p.channel; ticket = p.ticket }) ∷ []; events = n2 }) None w (ask owner i want w)
+asked_held n2 old w owner i want p h h2 more e tied at same goes answer few =
     channel_of old.rooms w.channels i h (rooms_of old w e) at
-    (λ d. Leads (record { rooms = slice_set old.rooms i h2; waits = old.waits ++ (record { id = id; place = p.channel; ticket = p.ticket }) ∷ []; events = n2 }) None w (ask_at w id i want d))
-    (λ c there is. subst (λ b. Leads (record { rooms = slice_set old.rooms i h2; waits = old.waits ++ (record { id = id; place = p.channel; ticket = p.ticket }) ∷ []; events = n2 }) None w (asked_if b w id i c want))
+    (λ d. Leads (record { rooms = slice_set old.rooms i h2; waits = old.waits ++ (record { owner = owner; place = p.channel; ticket = p.ticket }) ∷ []; events = n2 }) None w (ask_at w owner i want d))
+    (λ c there is. subst (λ b. Leads (record { rooms = slice_set old.rooms i h2; waits = old.waits ++ (record { owner = owner; place = p.channel; ticket = p.ticket }) ∷ []; events = n2 }) None w (asked_if b w owner i c want))
     (sym (not_full i c h is few))
-    (subst (λ o. Leads (record { rooms = slice_set old.rooms i h2; waits = old.waits ++ (record { id = id; place = p.channel; ticket = p.ticket }) ∷ []; events = n2 }) None w (asked w id i c want o))
+    (subst (λ o. Leads (record { rooms = slice_set old.rooms i h2; waits = old.waits ++ (record { owner = owner; place = p.channel; ticket = p.ticket }) ∷ []; events = n2 }) None w (asked w owner i c want o))
     (sym (reply_here i c h want (Held p) is answer))
-    (leads (slice_set old.rooms i h2) (old.waits ++ (record { id = id; place = p.channel; ticket = p.ticket }) ∷ []) n2 None w (asked w id i c want None)
+    (leads (slice_set old.rooms i h2) (old.waits ++ (record { owner = owner; place = p.channel; ticket = p.ticket }) ∷ []) n2 None w (asked w owner i c want None)
     (changed old.rooms w.channels i h h2 c (Ask want) (rooms_of old w e) is same goes)
-    (ap₂ (λ (xs : List Wait) (p : Ticket). xs ++ (record { id = id; place = p.channel; ticket = p.ticket }) ∷ []) (waits_of old w e)
+    (ap₂ (λ (xs : List Wait) (p : Ticket). xs ++ (record { owner = owner; place = p.channel; ticket = p.ticket }) ∷ []) (waits_of old w e)
     (held_is old.rooms old.waits i h want p tied at answer ∙ ap (λ (h : Home). record { channel = i; ticket = h.asks + 1 }) is))
     (more_events n2 old w i c (Ask want) more e there refl) (stays old w e).answers)))
 
-pub asked_full : (old : Kept) (w : World) (id i : ℕ) (want : WantValue) (h h2 : Home) → old ≡ kept_world w → slice_get old.rooms i ≡ Some h → h2 ≡ h → event_end ≤ h.events
-    → Leads (record { rooms = slice_set old.rooms i h2; waits = old.waits; events = old.events }) (Some (Unavailable id)) w (ask id i want w)
-asked_full old w id i want h h2 e at u full =
+pub asked_full : (old : Kept) (w : World) (owner : Owner) (i : ℕ) (want : WantValue) (h h2 : Home) → old ≡ kept_world w → slice_get old.rooms i ≡ Some h → h2 ≡ h → event_end ≤ h.events
+    → Leads (record { rooms = slice_set old.rooms i h2; waits = old.waits; events = old.events }) (Some (Unavailable owner)) w (ask owner i want w)
+asked_full old w owner i want h h2 e at u full =
     channel_of old.rooms w.channels i h (rooms_of old w e) at
-    (λ d. Leads (record { rooms = slice_set old.rooms i h2; waits = old.waits; events = old.events }) (Some (Unavailable id)) w (ask_at w id i want d))
-    (λ c there is. subst (λ b. Leads (record { rooms = slice_set old.rooms i h2; waits = old.waits; events = old.events }) (Some (Unavailable id)) w (asked_if b w id i c want))
+    (λ d. Leads (record { rooms = slice_set old.rooms i h2; waits = old.waits; events = old.events }) (Some (Unavailable owner)) w (ask_at w owner i want d))
+    (λ c there is. subst (λ b. Leads (record { rooms = slice_set old.rooms i h2; waits = old.waits; events = old.events }) (Some (Unavailable owner)) w (asked_if b w owner i c want))
     (sym (ap (λ (h : Home). is_full h.events) (sym is) ∙ in_range h.events event_end full))
-    (leads (slice_set old.rooms i h2) old.waits old.events (Some (Unavailable id)) w (asked_if true w id i c want)
+    (leads (slice_set old.rooms i h2) old.waits old.events (Some (Unavailable owner)) w (asked_if true w owner i c want)
     (unset old.rooms i h h2 at u ∙ rooms_of old w e) (waits_of old w e) (events_of old w e) refl))
 
 -- ---- a reply that is due
@@ -306,33 +307,33 @@ due_by i t c h (Some r) is ready e P f =
 
 told_there : (old : Kept) (w : World) (i t : ℕ) (c : Channel) (h h2 : Home) (x : Wait) (s : Settled) (r : Request) → old ≡ kept_world w → h ≡ home_at i c → IsSame h h2 → GoesOn h h2 (Collect t)
     → slice_get w.channels i ≡ Some c → under i t old.waits ≡ Some x → reply_at t h.slots ≡ Some s → first_due c.settings c.events ≡ Some r → r.ticket ≡ t
-    → Leads (record { rooms = slice_set old.rooms i h2; waits = without i t old.waits; events = old.events }) (Some (Replied x.id (reply_of s))) w (told_to w i c r (under i r.ticket w.waits))
+    → Leads (record { rooms = slice_set old.rooms i h2; waits = without i t old.waits; events = old.events }) (Some (Replied x.owner (reply_of s))) w (told_to w i c r (under i r.ticket w.waits))
 told_there old w i t c h h2 x s r e is same goes here found there due k =
-    subst (λ o. Leads (record { rooms = slice_set old.rooms i h2; waits = without i t old.waits; events = old.events }) (Some (Replied x.id (reply_of s))) w (told_to w i c r o))
+    subst (λ o. Leads (record { rooms = slice_set old.rooms i h2; waits = without i t old.waits; events = old.events }) (Some (Replied x.owner (reply_of s))) w (told_to w i c r o))
     (sym (ap₂ (λ n xs. under i n xs) k (sym (waits_of old w e)) ∙ found))
-    (subst (λ o. Leads (record { rooms = slice_set old.rooms i h2; waits = without i t old.waits; events = old.events }) (Some (Replied x.id (reply_of s))) w
-    (waits_less (told (happens w i c (Collect r.ticket)) x.id o) i r.ticket))
+    (subst (λ o. Leads (record { rooms = slice_set old.rooms i h2; waits = without i t old.waits; events = old.events }) (Some (Replied x.owner (reply_of s))) w
+    (waits_less (told (happens w i c (Collect r.ticket)) x.owner o) i r.ticket))
     (sym (sym (reply_is c.settings c.events r due) ∙ ap₂ (λ n (h : Home). reply_at n h.slots) k (sym is) ∙ there))
-    (leads (slice_set old.rooms i h2) (without i t old.waits) old.events (Some (Replied x.id (reply_of s))) w (waits_less (told (happens w i c (Collect r.ticket)) x.id (Some s)) i r.ticket)
+    (leads (slice_set old.rooms i h2) (without i t old.waits) old.events (Some (Replied x.owner (reply_of s))) w (waits_less (told (happens w i c (Collect r.ticket)) x.owner (Some s)) i r.ticket)
     (changed old.rooms w.channels i h h2 c (Collect t) (rooms_of old w e) is same goes ∙ ap (λ n. homes_from 0 (slice_set w.channels i (with_event (Collect n) c))) (sym k))
     (ap₂ (λ n xs. without i n xs) (sym k) (waits_of old w e)) (same_events old w i c (Collect r.ticket) e here refl) refl))
 
 -- the reply of a channel that is due first is told
 pub ticked : (old : Kept) (w : World) (i t : ℕ) (h h2 : Home) (p : Ticket) (m : Mark Reply) (x : Wait) → old ≡ kept_world w → slice_get old.rooms i ≡ Some h → IsSame h h2
     → GoesOn h h2 (Collect p.ticket) → p.ticket ≡ t → first_ready h.slots ≡ Some t → under i t old.waits ≡ Some x → Got m ≡ room.collected h p
-    → Leads (record { rooms = slice_set old.rooms i h2; waits = without i t old.waits; events = old.events }) (Some (Replied x.id m.value)) w (tick i w)
+    → Leads (record { rooms = slice_set old.rooms i h2; waits = without i t old.waits; events = old.events }) (Some (Replied x.owner m.value)) w (tick i w)
 ticked old w i t h h2 p m x e at same goes pt ready found handed =
     channel_of old.rooms w.channels i h (rooms_of old w e) at
-    (λ d. Leads (record { rooms = slice_set old.rooms i h2; waits = without i t old.waits; events = old.events }) (Some (Replied x.id m.value)) w (tick_at w i d))
+    (λ d. Leads (record { rooms = slice_set old.rooms i h2; waits = without i t old.waits; events = old.events }) (Some (Replied x.owner m.value)) w (tick_at w i d))
     (λ c there is. due_by i t c h (first_due c.settings c.events) is ready refl
-    (λ o. Leads (record { rooms = slice_set old.rooms i h2; waits = without i t old.waits; events = old.events }) (Some (Replied x.id m.value)) w (tick_of w i c o))
+    (λ o. Leads (record { rooms = slice_set old.rooms i h2; waits = without i t old.waits; events = old.events }) (Some (Replied x.owner m.value)) w (tick_of w i c o))
     (λ r due k. by_reply c there is r due k (reply_at t h.slots) refl (ap (λ n. option_map reply_of (reply_at n h.slots)) (sym pt) ∙ handed_is h p m handed)))
   where
     by_reply : (c : Channel) → slice_get w.channels i ≡ Some c → h ≡ home_at i c → (r : Request) → first_due c.settings c.events ≡ Some r → r.ticket ≡ t → (o : Option Settled) → reply_at t h.slots ≡ o → option_map reply_of o ≡ Some m.value
-        → Leads (record { rooms = slice_set old.rooms i h2; waits = without i t old.waits; events = old.events }) (Some (Replied x.id m.value)) w (told_to w i c r (under i r.ticket w.waits))
+        → Leads (record { rooms = slice_set old.rooms i h2; waits = without i t old.waits; events = old.events }) (Some (Replied x.owner m.value)) w (told_to w i c r (under i r.ticket w.waits))
     by_reply c here is r due k None there v = absurd (none_some m.value v)
     by_reply c here is r due k (Some s) there v =
-        subst (λ v. Leads (record { rooms = slice_set old.rooms i h2; waits = without i t old.waits; events = old.events }) (Some (Replied x.id v)) w (told_to w i c r (under i r.ticket w.waits)))
+        subst (λ v. Leads (record { rooms = slice_set old.rooms i h2; waits = without i t old.waits; events = old.events }) (Some (Replied x.owner v)) w (told_to w i c r (under i r.ticket w.waits)))
         (some_is (reply_of s) m.value v)
         (told_there old w i t c h h2 x s r e is same (subst (λ n. GoesOn h h2 (Collect n)) pt goes) here found there due k)
 
@@ -394,19 +395,19 @@ pub own_test : (x : Wait) → is_under x.place x.ticket x ≡ true
 own_test x = ap₂ (λ a b. a && b) (same_test x.place) (same_test x.ticket)
 
 -- a request that is found by its number waits under its ticket
-pub id_waits : (id : ℕ) (x : Wait) (waits : List Wait) → with_id id waits ≡ Some x → is_some (under x.place x.ticket waits) ≡ true
-id_waits id x waits h = found_too (has_id id) (is_under x.place x.ticket) x waits h (own_test x)
+pub id_waits : (owner : Owner) (x : Wait) (waits : List Wait) → wait_of owner waits ≡ Some x → is_some (under x.place x.ticket waits) ≡ true
+id_waits owner x waits h = found_too (is_of owner) (is_under x.place x.ticket) x waits h (own_test x)
 
 -- the first of all waits under its ticket
 pub first_waits : (x : Wait) (waits : List Wait) → slice_get waits 0 ≡ Some x → is_some (under x.place x.ticket waits) ≡ true
 first_waits x [] h = absurd (none_some x h)
 first_waits x (y ∷ xs) h = found_too (λ z. true) (is_under x.place x.ticket) x (y ∷ xs) h (own_test x)
 
-pub closed_id : (old new : Kept) (w : World) (id : ℕ) (x : Wait) → old ≡ kept_world w → with_id id old.waits ≡ Some x → Leads new None w (close_at w x (slice_get w.channels x.place)) → Leads new None w (close id w)
-closed_id old new w id x e found l = subst (λ o. Leads new None w (close_of w o)) (sym (ap (with_id id) (sym (waits_of old w e)) ∙ found)) l
+pub closed_id : (old new : Kept) (w : World) (owner : Owner) (x : Wait) → old ≡ kept_world w → wait_of owner old.waits ≡ Some x → Leads new None w (close_at w x (slice_get w.channels x.place)) → Leads new None w (close owner w)
+closed_id old new w owner x e found l = subst (λ o. Leads new None w (close_of w o)) (sym (ap (wait_of owner) (sym (waits_of old w e)) ∙ found)) l
 
-pub closed_none : (old : Kept) (w : World) (id : ℕ) → old ≡ kept_world w → with_id id old.waits ≡ None → Leads old None w (close id w)
-closed_none old w id e found = subst (λ o. Leads old None w (close_of w o)) (sym (ap (with_id id) (sym (waits_of old w e)) ∙ found)) (stays old w e)
+pub closed_none : (old : Kept) (w : World) (owner : Owner) → old ≡ kept_world w → wait_of owner old.waits ≡ None → Leads old None w (close owner w)
+closed_none old w owner e found = subst (λ o. Leads old None w (close_of w o)) (sym (ap (wait_of owner) (sym (waits_of old w e)) ∙ found)) (stays old w e)
 
 -- ---- a channel is declared
 

@@ -17,6 +17,7 @@ use Rattle.ll_room.specs.declared.asked.Collected.TheVariants.{Got}
 use Rattle.ll_room.specs.declared.fault.ClockFault.{ClockFault}
 use Rattle.ll_room.specs.declared.fault.ClockFault.TheVariants.{ClockRange, RecordFull}
 use Rattle.ll_held.specs.Waits.{is_under, parked_of, under, without}
+use Rattle.ll_held.specs.declared.owner.Owner.{Owner}
 use Rattle.ll_held.specs.declared.wait.Wait.{Wait}
 use Rattle.ll_world.specs.Kept.{AreTied, Kept, Leads, kept_world}
 use Rattle.ll_world.specs.World.{World, ask, clock, close_at, tick}
@@ -83,10 +84,10 @@ tied_gave_up rooms waits waits2 i t h h2 p tied at same goes fewer value left =
 pub told_due : (rooms : List Home) (waits waits2 : List Wait) (n : ℕ) (w : World) (i t : ℕ) (h h2 : Home) (p : Ticket) (m : Mark Reply) (v : Reply) (x : Wait)
     → kept_of rooms waits n ≡ kept_world w → slice_get rooms i ≡ Some h → IsSame h h2 → GoesOn h h2 (Collect p.ticket) → first_ready h.slots ≡ Some t → Some x ≡ under i t waits
     → Some p ≡ option_map parked_of (under i t waits) → waits2 ≡ without i t waits → Got m ≡ room.collected h p → v ≡ m.value
-    → Leads (kept_of (slice_set rooms i h2) waits2 n) (Some (Replied x.id v)) w (tick i w)
+    → Leads (kept_of (slice_set rooms i h2) waits2 n) (Some (Replied x.owner v)) w (tick i w)
 told_due rooms waits waits2 n w i t h h2 p m v x e at same goes ready found value left handed is =
-    subst (λ v. Leads (kept_of (slice_set rooms i h2) waits2 n) (Some (Replied x.id v)) w (tick i w)) (sym is)
-    (subst (λ xs. Leads (kept_of (slice_set rooms i h2) xs n) (Some (Replied x.id m.value)) w (tick i w)) (sym left)
+    subst (λ v. Leads (kept_of (slice_set rooms i h2) waits2 n) (Some (Replied x.owner v)) w (tick i w)) (sym is)
+    (subst (λ xs. Leads (kept_of (slice_set rooms i h2) xs n) (Some (Replied x.owner m.value)) w (tick i w)) (sym left)
     (ticked (kept_of rooms waits n) w i t h h2 p m x e at same goes (ticket_is i t p waits value) ready (sym found) handed))
 
 pub gave_up_one : (rooms : List Home) (waits waits2 : List Wait) (n n2 : ℕ) (w : World) (x : Wait) (h h2 : Home) (p : Ticket)
@@ -136,20 +137,20 @@ shorter q (x ∷ xs) h = shorter_by q x (q x) xs h (shorter q xs)
 pub smaller : (xs ys : List Wait) (x : Wait) → ys ≡ without x.place x.ticket xs → is_some (under x.place x.ticket xs) ≡ true → length ys < length xs
 smaller xs ys x e h = subst (λ zs. length zs < length xs) (sym e) (shorter (is_under x.place x.ticket) xs h)
 
-pub tied_held : (rooms : List Home) (waits waits2 : List Wait) (i id : ℕ) (want : WantValue) (p : Ticket) (h h2 : Home) → AreTied rooms waits → slice_get rooms i ≡ Some h → IsSame h h2
+pub tied_held : (rooms : List Home) (waits waits2 : List Wait) (i : ℕ) (owner : Owner) (want : WantValue) (p : Ticket) (h h2 : Home) → AreTied rooms waits → slice_get rooms i ≡ Some h → IsSame h h2
     → GoesOn h h2 (Ask want) → Answered h want (Held p) → tickets h2 ≡ tickets h ++ p.ticket ∷ [] → less p.ticket (tickets h2) ≡ tickets h
-    → waits2 ≡ waits ++ (record { id = id; place = p.channel; ticket = p.ticket }) ∷ [] → AreTied (slice_set rooms i h2) waits2
-tied_held rooms waits waits2 i id want p h h2 tied at same goes answer more back left =
+    → waits2 ≡ waits ++ (record { owner = owner; place = p.channel; ticket = p.ticket }) ∷ [] → AreTied (slice_set rooms i h2) waits2
+tied_held rooms waits waits2 i owner want p h h2 tied at same goes answer more back left =
     subst (λ xs. AreTied (slice_set rooms i h2) xs) (sym left)
-    (subst (λ n. AreTied (slice_set rooms i h2) (waits ++ (record { id = id; place = n; ticket = p.ticket }) ∷ [])) (sym (ap (λ (p : Ticket). p.channel) (held_is rooms waits i h want p tied at answer)))
-    (still_more rooms waits (record { id = id; place = i; ticket = p.ticket }) h h2 (Ask want) tied at same goes more back))
+    (subst (λ n. AreTied (slice_set rooms i h2) (waits ++ (record { owner = owner; place = n; ticket = p.ticket }) ∷ [])) (sym (ap (λ (p : Ticket). p.channel) (held_is rooms waits i h want p tied at answer)))
+    (still_more rooms waits (record { owner = owner; place = i; ticket = p.ticket }) h h2 (Ask want) tied at same goes more back))
 
-pub held_leads : (rooms : List Home) (waits waits2 : List Wait) (n n2 : ℕ) (w : World) (id i : ℕ) (want : WantValue) (p : Ticket) (h h2 : Home) → n2 ≡ one_more n → kept_of rooms waits n ≡ kept_world w → AreTied rooms waits
+pub held_leads : (rooms : List Home) (waits waits2 : List Wait) (n n2 : ℕ) (w : World) (owner : Owner) (i : ℕ) (want : WantValue) (p : Ticket) (h h2 : Home) → n2 ≡ one_more n → kept_of rooms waits n ≡ kept_world w → AreTied rooms waits
     → slice_get rooms i ≡ Some h → IsSame h h2 → GoesOn h h2 (Ask want) → Answered h want (Held p) → h.events < event_end
-    → waits2 ≡ waits ++ (record { id = id; place = p.channel; ticket = p.ticket }) ∷ [] → Leads (kept_of (slice_set rooms i h2) waits2 n2) None w (ask id i want w)
-held_leads rooms waits waits2 n n2 w id i want p h h2 more e tied at same goes answer few left =
-    subst (λ xs. Leads (kept_of (slice_set rooms i h2) xs n2) None w (ask id i want w)) (sym left)
-    (asked_held n2 (kept_of rooms waits n) w id i want p h h2 more e tied at same goes answer few)
+    → waits2 ≡ waits ++ (record { owner = owner; place = p.channel; ticket = p.ticket }) ∷ [] → Leads (kept_of (slice_set rooms i h2) waits2 n2) None w (ask owner i want w)
+held_leads rooms waits waits2 n n2 w owner i want p h h2 more e tied at same goes answer few left =
+    subst (λ xs. Leads (kept_of (slice_set rooms i h2) xs n2) None w (ask owner i want w)) (sym left)
+    (asked_held n2 (kept_of rooms waits n) w owner i want p h h2 more e tied at same goes answer few)
 
 last_by : (y : Wait) (b : Bool) (o : Option Wait) → is_some o ≡ true → is_some (if b then Some y else o) ≡ true
 last_by y true o h = refl
@@ -160,13 +161,13 @@ last_waits [] x = ap (λ b. is_some (if b then Some x else None)) (own_test x)
 last_waits (y ∷ xs) x = last_by y (is_under x.place x.ticket y) (under x.place x.ticket (xs ++ x ∷ [])) (last_waits xs x)
 
 -- the newest request is open
-pub newest_closes : (rooms : List Home) (waits : List Wait) (i id : ℕ) (want : WantValue) (p q : Ticket) (h h2 : Home) → AreTied rooms waits → slice_get rooms i ≡ Some h → IsSame h h2
+pub newest_closes : (rooms : List Home) (waits : List Wait) (i : ℕ) (owner : Owner) (want : WantValue) (p q : Ticket) (h h2 : Home) → AreTied rooms waits → slice_get rooms i ≡ Some h → IsSame h h2
     → GoesOn h h2 (Ask want) → Answered h want (Held p) → tickets h2 ≡ tickets h ++ p.ticket ∷ [] → less p.ticket (tickets h2) ≡ tickets h → q ≡ p
     → room.is_done (room.closed h2 q) ≡ false → ⊥
-newest_closes rooms waits i id want p q h h2 tied at same goes answer more back e lost =
-    true≢false (sym (closes (slice_set rooms i h2) (waits ++ (record { id = id; place = i; ticket = p.ticket }) ∷ []) i p.ticket h2 q
-    (still_more rooms waits (record { id = id; place = i; ticket = p.ticket }) h h2 (Ask want) tied at same goes more back) (get_set rooms i h h2 at)
-    (last_waits waits (record { id = id; place = i; ticket = p.ticket }))
+newest_closes rooms waits i owner want p q h h2 tied at same goes answer more back e lost =
+    true≢false (sym (closes (slice_set rooms i h2) (waits ++ (record { owner = owner; place = i; ticket = p.ticket }) ∷ []) i p.ticket h2 q
+    (still_more rooms waits (record { owner = owner; place = i; ticket = p.ticket }) h h2 (Ask want) tied at same goes more back) (get_set rooms i h h2 at)
+    (last_waits waits (record { owner = owner; place = i; ticket = p.ticket }))
     (e ∙ ap (λ n. record { channel = n; ticket = p.ticket }) (ap (λ (p : Ticket). p.channel) (held_is rooms waits i h want p tied at answer)))) ∙ lost)
 
 pub tied_back : (rooms : List Home) (waits waits2 : List Wait) (i : ℕ) (want : WantValue) (p q : Ticket) (h h2 h3 : Home) → AreTied rooms waits → slice_get rooms i ≡ Some h → IsSame h h2

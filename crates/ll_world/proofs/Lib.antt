@@ -1,5 +1,6 @@
 pub mod ActLemmas
 pub mod CallLemmas
 pub mod DueLemmas
+pub mod SettingsLaws
 pub mod StandLemmas
 pub mod TieLemmas

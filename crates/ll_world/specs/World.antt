@@ -1,5 +1,5 @@
 -- What the acts of a script come to in its channels, act by act.
-use Rattle.std.specs.Prelude.{ℕ, zero, suc, ◌+◌, ◌-◌, ◌^◌, ◌&&◌, List, [], ◌∷◌, ◌++◌, Bool, true, false, not, Option, Some, None, is_some, length, filter, find, fold, min, nat_le, slice_get, slice_set, sum_by, if◌then◌else◌}
+use Rattle.std.specs.Prelude.{ℕ, zero, suc, ◌+◌, ◌-◌, ◌^◌, ◌&&◌, List, [], ◌∷◌, ◌++◌, Bool, true, false, not, Option, Some, None, is_some, length, filter, find, fold, map, min, nat_le, slice_get, slice_set, sum_by, if◌then◌else◌}
 use Rattle.ll_directive.specs.Targets.{WantValue}
 use Rattle.ll_item.specs.Settings.{Configuration}
 use Rattle.ll_item.specs.declared.item.Item.{Item}
@@ -12,7 +12,8 @@ use Rattle.ll_verdict.specs.declared.reply.Settled.{Settled}
 use Rattle.ll_room.specs.Full.{is_full, refusal_after}
 use Rattle.ll_room.specs.declared.fault.ClockFault.{ClockFault}
 use Rattle.ll_room.specs.declared.fault.ClockFault.TheVariants.{ClockRange, RecordFull}
-use Rattle.ll_held.specs.Waits.{under, with_id, without}
+use Rattle.ll_held.specs.Waits.{under, wait_of, without}
+use Rattle.ll_held.specs.declared.owner.Owner.{Owner}
 use Rattle.ll_held.specs.declared.wait.Wait.{Wait}
 use Rattle.ll_world.specs.declared.answer.Answer.{Answer}
 use Rattle.ll_world.specs.declared.answer.Answer.TheVariants.{Accepted, Refused, ClockRefused, Replied, Unavailable}
@@ -32,6 +33,10 @@ pub record World : Type 0 where
 abbrev pub start : World
 start = record { channels = []; waits = []; answers = [] }
 
+-- the settings of all channels, in order of declaration
+abbrev pub all_settings : World → List Configuration
+all_settings w = map (λ (c : Channel). c.settings) w.channels
+
 abbrev pub with_event : Event → Channel → Channel
 with_event event channel = record { settings = channel.settings; events = channel.events ++ event ∷ [] }
 
@@ -40,6 +45,10 @@ happens w place channel event = record w { channels = slice_set w.channels place
 
 abbrev pub says : World → Answer → World
 says w answer = record w { answers = w.answers ++ answer ∷ [] }
+
+-- what was answered is heard
+abbrev pub silent : World → World
+silent w = record w { answers = [] }
 
 abbrev pub waits_more : World → Wait → World
 waits_more w x = record w { waits = w.waits ++ x ∷ [] }
@@ -67,22 +76,22 @@ offer place item w = offer_at w place item (slice_get w.channels place)
 
 -- a request is answered at once, or it waits
 
-abbrev pub asked : World → ℕ → ℕ → Channel → WantValue → Option Reply → World
-asked w id place channel want (Some answer) = says (happens w place channel (Ask want)) (Replied id answer)
-asked w id place channel want None = waits_more (happens w place channel (Ask want)) (record { id = id; place = place; ticket = asks channel.events + 1 })
+abbrev pub asked : World → Owner → ℕ → Channel → WantValue → Option Reply → World
+asked w owner place channel want (Some answer) = says (happens w place channel (Ask want)) (Replied owner answer)
+asked w owner place channel want None = waits_more (happens w place channel (Ask want)) (record { owner = owner; place = place; ticket = asks channel.events + 1 })
 
 -- a channel that has taken all its events takes no request
-abbrev pub asked_if : Bool → World → ℕ → ℕ → Channel → WantValue → World
-asked_if true w id place channel want = says w (Unavailable id)
-asked_if false w id place channel want = asked w id place channel want (at_once channel.settings (held channel.settings channel.events) channel.events want)
+abbrev pub asked_if : Bool → World → Owner → ℕ → Channel → WantValue → World
+asked_if true w owner place channel want = says w (Unavailable owner)
+asked_if false w owner place channel want = asked w owner place channel want (at_once channel.settings (held channel.settings channel.events) channel.events want)
 
-abbrev pub ask_at : World → ℕ → ℕ → WantValue → Option Channel → World
-ask_at w id place want None = w
-ask_at w id place want (Some channel) = asked_if (is_full (length channel.events)) w id place channel want
+abbrev pub ask_at : World → Owner → ℕ → WantValue → Option Channel → World
+ask_at w owner place want None = w
+ask_at w owner place want (Some channel) = asked_if (is_full (length channel.events)) w owner place channel want
 
--- a request under this number is made of the channel at this place
-abbrev pub ask : ℕ → ℕ → WantValue → World → World
-ask id place want w = ask_at w id place want (slice_get w.channels place)
+-- a request of the channel at this place, whose reply is told to this owner
+abbrev pub ask : Owner → ℕ → WantValue → World → World
+ask owner place want w = ask_at w owner place want (slice_get w.channels place)
 
 -- a request that waits is given up: it gets no reply
 
@@ -94,9 +103,9 @@ abbrev pub close_of : World → Option Wait → World
 close_of w None = w
 close_of w (Some x) = close_at w x (slice_get w.channels x.place)
 
--- the request under this number is given up, where it waits
-abbrev pub close : ℕ → World → World
-close id w = close_of w (with_id id w.waits)
+-- the owner's request is given up, where one waits
+abbrev pub close : Owner → World → World
+close owner w = close_of w (wait_of owner w.waits)
 
 -- the clock of a channel shows a time
 
@@ -128,15 +137,15 @@ is_due c events r = not (gone c events r) && is_some (reply c events r)
 abbrev pub first_due : Configuration → List Event → Option Request
 first_due c events = find (is_due c events) (held c events)
 
-abbrev pub told : World → ℕ → Option Settled → World
-told w id None = w
-told w id (Some settled) = says w (Replied id (reply_of settled))
+abbrev pub told : World → Owner → Option Settled → World
+told w owner None = w
+told w owner (Some settled) = says w (Replied owner (reply_of settled))
 
--- a reply that is due is told under the number of its request, which waits no more
+-- a reply that is due is told to the owner of its request, which waits no more
 abbrev pub told_to : World → ℕ → Channel → Request → Option Wait → World
 told_to w place channel r None = w
 told_to w place channel r (Some x) =
-    waits_less (told (happens w place channel (Collect r.ticket)) x.id (reply channel.settings channel.events r)) place r.ticket
+    waits_less (told (happens w place channel (Collect r.ticket)) x.owner (reply channel.settings channel.events r)) place r.ticket
 
 abbrev pub tick_of : World → ℕ → Channel → Option Request → World
 tick_of w place channel None = w

@@ -1,3 +1,4 @@
+use ll_held::Owner;
 use ll_room::ClockFault;
 use ll_verdict::{PublishFault, Reply};
 
@@ -10,8 +11,8 @@ pub enum Answer {
     Refused(PublishFault),
     /// A reading of the clock was refused.
     ClockRefused(ClockFault),
-    /// The request under this number gets its reply.
-    Replied(u64, Reply),
-    /// The request under this number can't be made: its channel has taken all events that it takes.
-    Unavailable(u64),
+    /// The owner's request gets its reply.
+    Replied(Owner, Reply),
+    /// The owner's request can't be made: its channel has taken all events that it takes.
+    Unavailable(Owner),
 }

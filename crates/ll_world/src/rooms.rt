@@ -3,11 +3,11 @@ ghost use Rattle.std.specs.Prelude.{◌≢◌, ◌≡◌, ◌<◌, ◌++◌, ◌
 ghost use Rattle.ll_world.specs.Kept.{Leads, kept_world};
 ghost use Rattle.ll_world.specs.World as world;
 ghost use Rattle.ll_world.specs.World.{World, start};
-ghost use Rattle.ll_held.specs.Waits.{under, with_id, without};
+ghost use Rattle.ll_held.specs.Waits.{under, wait_of, without};
 
 use crate::answer::Answer;
 use ll_directive::Want;
-use ll_held::{Held, Wait};
+use ll_held::{Held, Owner, Wait};
 use ll_item::{Item, Settings};
 use ll_room::{AskFault, Asked, Closed, Collected, Room};
 use ll_verdict::PublishFault;
@@ -103,10 +103,15 @@ impl Rooms {
         Ok(Some(Answer::Accepted(count)))
     }
 
-    /// Makes a request of the channel at this place, whose reply is told under this number: now, or once it is due. It fails only where
+    /// Makes a request of the channel at this place, whose reply is told to this owner: now, or once it is due. It fails only where
     /// no memory is found.
-    pub fn ask(&mut self, id: u64, place: usize, want: Want) -> Result<Option<Answer>, AllocError>
-        ensures asked { (w : World) → self.old ≡ kept_world w → IfOk result (λ a. Leads self.new a w (world.ask id place want w)) }
+    pub fn ask(
+        &mut self,
+        owner: Owner,
+        place: usize,
+        want: Want,
+    ) -> Result<Option<Answer>, AllocError>
+        ensures asked { (w : World) → self.old ≡ kept_world w → IfOk result (λ a. Leads self.new a w (world.ask owner place want w)) }
     {
         let Some(room) = self.rooms.get_mut(place) else {
             return Ok(None);
@@ -114,9 +119,9 @@ impl Rooms {
         match room.ask(want) {
             Ok(Asked::Now(reply)) => {
                 self.events = self.events.saturating_add(1);
-                Ok(Some(Answer::Replied(id, reply.into_inner())))
+                Ok(Some(Answer::Replied(owner, reply.into_inner())))
             }
-            Ok(Asked::Held(parked)) => match self.held.put(id, parked) {
+            Ok(Asked::Held(parked)) => match self.held.put(owner, parked) {
                 Ok(()) => {
                     self.events = self.events.saturating_add(1);
                     Ok(None)
@@ -126,17 +131,17 @@ impl Rooms {
                     Closed::Stranger(_parked) => unreachable!(),
                 },
             },
-            Err(AskFault::RecordFull) => Ok(Some(Answer::Unavailable(id))),
+            Err(AskFault::RecordFull) => Ok(Some(Answer::Unavailable(owner))),
             Err(AskFault::Memory) => Err(AllocError),
         }
     }
 
-    /// Gives the request under this number up, where it waits: it gets no reply. Answers whether it waited.
-    pub fn close(&mut self, id: u64) -> bool
-        ensures waited { result ≡ is_some (with_id id self.old.waits) }
-        ensures closed { (w : World) → self.old ≡ kept_world w → Leads self.new None w (world.close id w) }
+    /// Gives the owner's request up, where one waits: it gets no reply. Answers whether one waited.
+    pub fn close(&mut self, owner: Owner) -> bool
+        ensures waited { result ≡ is_some (wait_of owner self.old.waits) }
+        ensures closed { (w : World) → self.old ≡ kept_world w → Leads self.new None w (world.close owner w) }
     {
-        match self.held.of(id) {
+        match self.held.of(owner) {
             Some(wait) => {
                 self.give_up(wait);
                 true
@@ -189,7 +194,7 @@ impl Rooms {
             unreachable!();
         };
         match room.collect(parked) {
-            Collected::Got(reply) => Some(Answer::Replied(wait.id, reply.into_inner())),
+            Collected::Got(reply) => Some(Answer::Replied(wait.owner, reply.into_inner())),
             Collected::Still(_parked) => unreachable!(),
             Collected::Stranger(_parked) => unreachable!(),
         }

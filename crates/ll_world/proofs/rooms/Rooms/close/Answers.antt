@@ -7,4 +7,4 @@ use Rattle.ll_world.proofs.rooms.Rooms.close.Goals as goal
 pub give_up-requires : goal.give_up-requires
 give_up-requires c =
     subst (λ (k : Kept). is_some (under c.in-Some.wait.place c.in-Some.wait.ticket k.waits) ≡ true) c.self.view_is
-    (id_waits c.args.id c.in-Some.wait c.self.inside.held (sym c.in-Some.ensures))
+    (id_waits c.args.owner c.in-Some.wait c.self.inside.held (sym c.in-Some.ensures))

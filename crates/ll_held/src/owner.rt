@@ -1,0 +1,24 @@
+ghost use Rattle.std.specs.Prelude.{◌≡◌};
+ghost use Rattle.ll_held.specs.Waits.{is_same};
+
+/// To whom the reply to a request is told.
+#[derive(Clone, Copy)]
+pub enum Owner {
+    /// The `get` line of this number.
+    Get(u64),
+    /// The connection of this number.
+    Connection(u64),
+}
+
+impl Owner {
+    /// Whether they are the same.
+    pub fn is(self, other: Owner) -> bool
+        ensures { result ≡ is_same self other }
+    {
+        match (self, other) {
+            (Owner::Get(a), Owner::Get(b)) => a == b,
+            (Owner::Connection(a), Owner::Connection(b)) => a == b,
+            _ => false,
+        }
+    }
+}
