@@ -1,3 +1,4 @@
+pub mod HexLemmas
 pub mod NameLemmas
 pub mod ReadingLemmas
 pub mod SettingsLemmas

@@ -12,10 +12,12 @@ use Rattle.std.proofs.lemmas.Str.Pattern.{IsSplitOnceResult, split_once_first}
 use Rattle.std.specs.List.{All, list_any, position_or_len, starts_with}
 use Rattle.std.specs.Str.{IsUtf8, is_utf8, chars}
 use lib.Utf8.{encode}
+use Rattle.ll_attr.specs.Numbers.{number_in}
 use Rattle.ll_attr.specs.Words.{after, parts_at, words}
-use Rattle.ll_item.specs.Settings.{Configuration}
+use Rattle.ll_item.specs.Settings.{Configuration, settings_in}
 use Rattle.std.specs.List.{list_any}
-use Rattle.ll_script.specs.Lines.{acts, acts_of, channel_of_name, get_of, offer, offer_to}
+use Rattle.ll_script.specs.Hex.{bytes_in_hex}
+use Rattle.ll_script.specs.Lines.{acts, alone, begun, bytes_by, bytes_of, channel_of_name, declaration, get_of, kinds, offer, offer_to}
 use Rattle.ll_script.specs.declared.act.Act.TheVariants.{Refuse}
 use Rattle.ll_script.specs.declared.refusal.Refusal.TheVariants as refused
 
@@ -61,6 +63,42 @@ get_of-more channels last id target (Some x) m more = ap (λ ws. get_of channels
     by_rest [] e = absurd (some-part 32 x.1.now e)
     by_rest (next ∷ later) e = three x.0.now next later
 
+-- what follows the number has one word
+pub bytes_of-one : (number hex : List ℕ) (r : Option (Bor (List ℕ) × Bor (List ℕ)))
+    → MatchOption r (words hex ≡ hex ∷ []) (λ x. words hex ≡ x.0.now ∷ words x.1.now) → false ≡ is_some r → false ≡ (length hex == 0)
+    → bytes_of (number ∷ words hex) ≡ bytes_by (number_in 9 number) (bytes_in_hex hex)
+bytes_of-one number hex (Some x) m one some = absurd (cc)
+bytes_of-one number hex None m one some = ap (λ ws. bytes_of (number ∷ ws)) m ∙ by_text hex some
+  where
+    by_text : (text : List ℕ) → false ≡ (length text == 0) → bytes_of (number ∷ text ∷ []) ≡ bytes_by (number_in 9 number) (bytes_in_hex text)
+    by_text [] e = absurd (cc)
+    by_text (b ∷ bs) e = refl
+
+-- what follows the number has more words
+pub bytes_of-more : (number hex : List ℕ) (r : Option (Bor (List ℕ) × Bor (List ℕ)))
+    → MatchOption r (words hex ≡ hex ∷ []) (λ x. words hex ≡ x.0.now ∷ words x.1.now) → is_some r ≡ true → bytes_of (number ∷ words hex) ≡ None
+bytes_of-more number hex None m more = absurd (cc)
+bytes_of-more number hex (Some x) m more = ap (λ ws. bytes_of (number ∷ ws)) m ∙ by_rest (words x.1.now) refl
+  where
+    three : (ws : List ℕ) (next : List ℕ) (later : List (List ℕ)) → bytes_of (number ∷ ws ∷ next ∷ later) ≡ None
+    three [] next later = refl
+    three (b ∷ bs) next later = refl
+
+    by_rest : (rest : List (List ℕ)) → words x.1.now ≡ rest → bytes_of (number ∷ x.0.now ∷ rest) ≡ None
+    by_rest [] e = absurd (some-part 32 x.1.now e)
+    by_rest (next ∷ later) e = three x.0.now next later
+
+-- digits that spell no bytes mean nothing
+pub bytes_by-none : (number : Option ℕ) (bytes : Option (List ℕ)) → false ≡ is_some bytes → bytes_by number bytes ≡ None
+bytes_by-none None bytes e = refl
+bytes_by-none (Some n) None e = refl
+bytes_by-none (Some n) (Some bytes) e = absurd (cc)
+
+-- digits that spell bytes mean something
+pub bytes_by-some : (number : ℕ) (bytes : Option (List ℕ)) → is_some bytes ≡ true → is_some (alone (bytes_by (Some number) bytes)) ≡ true
+bytes_by-some number None e = absurd (cc)
+bytes_by-some number (Some bytes) e = refl
+
 -- what stands after a text is no UTF-8 where the whole isn't
 not-utf8-after : (front rest : List ℕ) → is_utf8 front ≡ true → is_utf8 (front ++ rest) ≡ false → is_utf8 rest ≡ false
 not-utf8-after front rest u raw = by_test (is_utf8 rest) refl
@@ -95,7 +133,7 @@ acts-raw channels last (b ∷ bs) raw comment offers = let other : (b == 35) ≡
 -- a line that is neither passed over nor a publisher's
 pub acts-other : (channels : List Configuration) (last : Option ℕ) (line : List ℕ) → is_utf8 line ≡ true → false ≡ (length line == 0) → false ≡ (slice_index line 0 == 35)
     → after (codes "pub ") line ≡ None
-    → acts channels last line ≡ acts_of channels last line (after (codes "get ") line) (after (codes "close ") line) (after (codes "clock ") line)
+    → acts channels last line ≡ begun (kinds channels last) line (alone (declaration channels (settings_in line)))
 acts-other channels last [] utf8 some other offers = absurd (cc)
 acts-other channels last (b ∷ bs) utf8 some other offers = rw (sym other, offers, utf8) refl
 

@@ -6,7 +6,7 @@ use Rattle.std.specs.Str.{is_utf8, chars}
 use Rattle.form_urlencoded.specs.Form.{raw_pairs, split}
 use Rattle.percent_encoding.specs.Percent.{percent_decode}
 use Rattle.ll_item.specs.Settings.{configuration_of}
-use Rattle.ll_script.specs.Answers.{named_reply, ok_line, refusal_line}
+use Rattle.ll_script.specs.Answers.{named_reply, ok_line, refusal_line, sent_line, shut_line}
 use Rattle.ll_script.specs.Worked.{WorkedAnswers, WorkedLines}
 
 pub lines : WorkedLines
@@ -27,10 +27,19 @@ lines = record {
   late = refl;
   too_late = refl;
   unknown = refl;
+  came = refl;
+  zeros_in_front = refl;
+  capital = refl;
+  half_a_byte = refl;
+  no_bytes = refl;
+  two_pieces = refl;
+  long_connection = refl;
+  dropped = refl;
+  no_connection = refl;
   comment = refl;
   other = refl;
 }
 
 pub answers : WorkedAnswers
-unfolding digits ok_line refusal_line named_reply
-answers = record { accepted = refl; refused = refl; late = refl; busy = refl; part_alone = refl }
+unfolding digits ok_line refusal_line named_reply sent_line shut_line
+answers = record { accepted = refl; refused = refl; late = refl; busy = refl; part_alone = refl; sent = refl; shut = refl }

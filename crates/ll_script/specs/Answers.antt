@@ -120,3 +120,13 @@ ask_name ask.Memory = codes "Memory"
 -- a request is no event of its channel, which can't take it now
 abbrev pub unasked_line : ℕ → AskRefusal → List ℕ
 unasked_line id r = named_reply id 503 (ask_name r)
+
+-- ---- connections
+
+-- an answer of a connection, with its length
+unfoldable pub sent_line : ℕ → List ℕ → List ℕ
+sent_line number bytes = codes "sent " ++ (decimal number ++ (codes " " ++ (decimal (length bytes) ++ (codes "\n" ++ bytes))))
+
+-- a connection has shut by itself
+unfoldable pub shut_line : ℕ → List ℕ
+shut_line number = codes "shut " ++ (decimal number ++ codes "\n")

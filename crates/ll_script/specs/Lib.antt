@@ -1,4 +1,5 @@
 pub mod Answers
+pub mod Hex
 pub mod Lines
 pub mod Places
 pub mod Reads

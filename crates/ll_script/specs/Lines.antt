@@ -13,8 +13,9 @@ use Rattle.ll_item.specs.declared.item.Item.{Item}
 use Rattle.ll_item.specs.declared.item.ItemFault.{ItemFault}
 use Rattle.ll_item.specs.declared.item.ItemFault.TheVariants as item
 use Rattle.ll_item.specs.declared.settings.SettingsFault.{SettingsFault}
+use Rattle.ll_script.specs.Hex.{bytes_in_hex}
 use Rattle.ll_script.specs.declared.act.Act.{Act}
-use Rattle.ll_script.specs.declared.act.Act.TheVariants.{Declare, Offer, Refuse, Ask, Answer, Close, Clock, RefuseClock}
+use Rattle.ll_script.specs.declared.act.Act.TheVariants.{Declare, Offer, Refuse, Ask, Answer, Close, Clock, RefuseClock, Bytes, Drop}
 use Rattle.ll_script.specs.declared.act.Acts.{Acts}
 use Rattle.ll_script.specs.declared.act.Acts.TheVariants as list
 use Rattle.ll_script.specs.declared.refusal.Refusal.TheVariants as refused
@@ -93,6 +94,21 @@ reading channels ms = if nat_le ms (2 ^ 60) then clocks_from 0 channels ms else 
 abbrev pub clock_of : List Configuration → List ℕ → Option (List Act)
 clock_of channels text = option_map (reading channels) (number_in 20 text)
 
+-- ---- connections
+
+abbrev pub bytes_by : Option ℕ → Option (List ℕ) → Option Act
+bytes_by (Some number) (Some piece) = Some (Bytes number piece)
+bytes_by number piece = None
+
+-- `CONNECTION HEX`; numbers have 1 to 9 digits, and there is at least one byte
+abbrev pub bytes_of : List (List ℕ) → Option Act
+bytes_of (number ∷ (b ∷ hex) ∷ []) = bytes_by (number_in 9 number) (bytes_in_hex (b ∷ hex))
+bytes_of other = None
+
+-- `CONNECTION`, of 1 to 9 digits
+abbrev pub drop_of : List ℕ → Option Act
+drop_of text = option_map (λ number. Drop number) (number_in 9 text)
+
 -- ---- lines
 
 -- a channel whose name no other has
@@ -103,18 +119,35 @@ declaration channels (Ok c) = if is_none (channel_of_name channels 0 c.channel) 
 abbrev pub alone : Option Act → Option (List Act)
 alone act = option_map (λ a. a ∷ []) act
 
--- what a line means, where these are what stands after `get `, `close ` and `clock ` in it
-abbrev pub acts_of : List Configuration → Option ℕ → List ℕ → (get close clock : Option (List ℕ)) → Option (List Act)
-acts_of channels last line (Some text) close clock = alone (get_of channels last (words text))
-acts_of channels last line None (Some text) clock = alone (close_of text)
-acts_of channels last line None None (Some text) = clock_of channels text
-acts_of channels last line None None None = alone (declaration channels (settings_in line))
+-- what a keyword's line means, by what follows the keyword
+abbrev pub Kind : Type 0
+Kind = List ℕ × (List ℕ → Option (List Act))
+
+-- every kind of line but a publisher's and a declaration
+abbrev pub kinds : List Configuration → Option ℕ → List Kind
+kinds channels last =
+    (codes "get ", λ text. alone (get_of channels last (words text)))
+    ∷ (codes "close ", λ text. alone (close_of text))
+    ∷ (codes "clock ", λ text. clock_of channels text)
+    ∷ (codes "bytes ", λ text. alone (bytes_of (words text)))
+    ∷ (codes "drop ", λ text. alone (drop_of text))
+    ∷ []
+
+-- a keyword's line means this by what follows the keyword, and a line that doesn't begin with the keyword means the other
+abbrev pub begun_by : Option (List ℕ) → (List ℕ → Option (List Act)) → Option (List Act) → Option (List Act)
+begun_by None means other = other
+begun_by (Some text) means other = means text
+
+-- what a line means by the first of these keywords that it begins with; one that begins with none of them means the other
+abbrev pub begun : List Kind → List ℕ → Option (List Act) → Option (List Act)
+begun [] line other = other
+begun (kind ∷ more) line other = begun_by (after kind.0 line) kind.1 (begun more line other)
 
 abbrev pub acts_by : List Configuration → Option ℕ → List ℕ → Option (List ℕ) → Option (List Act)
 acts_by channels last line (Some text) = Some (offer channels text ∷ [])
 acts_by channels last line None =
     if is_utf8 line
-    then acts_of channels last line (after (codes "get ") line) (after (codes "close ") line) (after (codes "clock ") line)
+    then begun (kinds channels last) line (alone (declaration channels (settings_in line)))
     else None
 
 -- What a line makes happen, one after another, where these channels are declared and the last request had this number; a line that

@@ -6,9 +6,9 @@ use Rattle.ll_directive.specs.declared.want.Awaited.{Awaited}
 use Rattle.ll_directive.specs.declared.want.Awaited.TheVariants as awaited
 use Rattle.ll_directive.specs.declared.want.Skip.TheVariants as skip
 use Rattle.ll_item.specs.Settings.{Configuration}
-use Rattle.ll_script.specs.Answers.{clock_line, fault_line, no_line, ok_line, reply_lines}
+use Rattle.ll_script.specs.Answers.{clock_line, fault_line, no_line, ok_line, reply_lines, sent_line, shut_line}
 use Rattle.ll_script.specs.Lines.{acts}
-use Rattle.ll_script.specs.declared.act.Act.TheVariants.{Refuse, Ask, Answer, Close, Clock, RefuseClock}
+use Rattle.ll_script.specs.declared.act.Act.TheVariants.{Refuse, Ask, Answer, Close, Clock, RefuseClock, Bytes, Drop}
 use Rattle.ll_script.specs.declared.clock.ClockRefusal.TheVariants as clock
 use Rattle.ll_script.specs.declared.refusal.Refusal.TheVariants as refused
 use Rattle.ll_verdict.specs.declared.reply.Reply.TheVariants as reply
@@ -42,6 +42,15 @@ pub record WorkedLines : Type 0 where
   pub late : acts both (Some 6) (codes "clock 1152921504606846977") ≡ Some (RefuseClock ∷ [])
   pub too_late : acts both (Some 6) (codes "clock 18446744073709551616") ≡ None
   pub unknown : acts both (Some 6) (codes "pub three end hi") ≡ Some (Refuse refused.UnknownChannel ∷ [])
+  pub came : acts both (Some 6) (codes "bytes 1 474554") ≡ Some (Bytes 1 (codes "GET") ∷ [])
+  pub zeros_in_front : acts both (Some 6) (codes "bytes 01 0a") ≡ Some (Bytes 1 (10 ∷ []) ∷ [])
+  pub capital : acts both (Some 6) (codes "bytes 1 0A") ≡ None
+  pub half_a_byte : acts both (Some 6) (codes "bytes 1 0") ≡ None
+  pub no_bytes : acts both (Some 6) (codes "bytes 1 ") ≡ None
+  pub two_pieces : acts both (Some 6) (codes "bytes 1 00 00") ≡ None
+  pub long_connection : acts both (Some 6) (codes "bytes 1234567890 00") ≡ None
+  pub dropped : acts both (Some 6) (codes "drop 7") ≡ Some (Drop 7 ∷ [])
+  pub no_connection : acts both (Some 6) (codes "drop") ≡ None
   pub comment : acts both (Some 6) (codes "# close 6") ≡ Some []
   pub other : acts both (Some 6) (codes "wait") ≡ None
 
@@ -51,3 +60,5 @@ pub record WorkedAnswers : Type 0 where
   pub late : clock_line clock.ClockRange ≡ codes "no 1 ClockRange\n"
   pub busy : reply_lines 7 reply.Busy ≡ codes "reply 7 503 Busy\n"
   pub part_alone : fault_line 7 target.PartAlone ≡ codes "reply 7 400 PartAlone\n"
+  pub sent : sent_line 7 (codes "HTTP") ≡ codes "sent 7 4\nHTTP"
+  pub shut : shut_line 7 ≡ codes "shut 7\n"

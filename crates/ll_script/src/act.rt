@@ -1,3 +1,4 @@
+use crate::piece::Piece;
 use crate::refusal::Refusal;
 use ll_directive::{TargetFault, Want};
 use ll_item::{Item, Settings};
@@ -21,6 +22,10 @@ pub enum Act {
     Clock { place: usize, ms: u64 },
     /// A reading of the clock above 2^60.
     RefuseClock,
+    /// These bytes came on the connection of this number.
+    Bytes { number: u64, piece: Piece },
+    /// The connection of this number ended: it sends no more, and reads no more.
+    Drop(u64),
 }
 
 /// What a line of a script makes happen: a list of acts.

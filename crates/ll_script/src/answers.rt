@@ -1,5 +1,5 @@
 //! The lines that answer the lines of a script. Each fails only where no memory is found.
-ghost use Rattle.std.specs.Prelude.{◌≡◌, IfOk, string_bytes};
+ghost use Rattle.std.specs.Prelude.{◌≡◌, ◌++◌, IfOk, OnOk, decimal, string_bytes};
 ghost use Rattle.ll_script.specs.Answers as spec;
 
 use crate::ask::AskRefusal;
@@ -62,6 +62,36 @@ pub fn unasked_line(alloc: Global, id: u64, refusal: AskRefusal) -> Result<Strin
     ensures { IfOk result (λ t. string_bytes t ≡ spec.unasked_line id refusal) }
 {
     named_reply(alloc, id, 503, refusal.name())
+}
+
+/// An answer of a connection, after the text so far. Where no memory is found, the text may have got some of it.
+pub fn push_sent(text: &mut Vec<u8>, number: u64, bytes: &[u8]) -> Result<(), AllocError>
+    ensures { OnOk result (text.new.items ≡ text.old.items ++ spec.sent_line number bytes.now) }
+{
+    text.extend_from_slice(b"sent ")?;
+    push_number(text, number)?;
+    text.extend_from_slice(b" ")?;
+    push_number(text, bytes.len() as u64)?;
+    text.extend_from_slice(b"\n")?;
+    text.extend_from_slice(bytes)
+}
+
+/// A connection has shut by itself.
+#[tactic(auto, unfolding(crate::specs::Answers::shut_line))]
+pub fn push_shut(text: &mut Vec<u8>, number: u64) -> Result<(), AllocError>
+    ensures { OnOk result (text.new.items ≡ text.old.items ++ spec.shut_line number) }
+{
+    text.extend_from_slice(b"shut ")?;
+    push_number(text, number)?;
+    text.extend_from_slice(b"\n")
+}
+
+/// A number in decimal digits, after the text so far.
+fn push_number(text: &mut Vec<u8>, number: u64) -> Result<(), AllocError>
+    ensures { OnOk result (text.new.items ≡ text.old.items ++ decimal number) }
+{
+    let mut digits = Buffer::new();
+    text.extend_from_slice(digits.format(number).as_bytes())
 }
 
 /// A line that refuses.

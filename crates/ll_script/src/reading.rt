@@ -1,17 +1,18 @@
 //! What the lines of a script mean.
-ghost use Rattle.std.specs.Prelude.{◌≡◌, ◌∷◌, [], codes, IfOk, IsErrOf, IsSome, MatchOption, Ok, None, Some, is_some, false, ℕ, List, Option};
+ghost use Rattle.std.specs.Prelude.{◌≡◌, ◌∷◌, [], IfOk, IsErrOf, IsSome, MatchOption, Ok, None, Some, is_some, false, ℕ, List, Option};
 ghost use Rattle.std.specs.Str.{is_utf8};
 ghost use Rattle.ll_attr.specs.Words.{words};
-ghost use Rattle.ll_attr.specs.Words as words;
 ghost use Rattle.ll_directive.specs.Targets.{want_in};
 ghost use Rattle.ll_item.specs.Items.{item_in};
 ghost use Rattle.ll_item.specs.Settings.{Configuration, settings_in};
+ghost use Rattle.ll_script.specs.Hex.{bytes_in_hex};
 ghost use Rattle.ll_script.specs.Lines.{alone};
 ghost use Rattle.ll_script.specs.Lines as spec;
 ghost use Rattle.ll_script.specs.Reads.{IsRead};
 
 use crate::act::{Act, Acts};
 use crate::declared::Declared;
+use crate::hex::{is_hex, read_hex};
 use crate::refusal::Refusal;
 use ll_attr::{after, cut, parse_number};
 use ll_directive::{TargetFault, read_target};
@@ -35,8 +36,8 @@ pub enum LineFault {
 }
 
 /// What a line without its end makes happen, where these channels are declared and the last request had this number: a new channel, an
-/// item, a request, the end of one, or readings of the clock; a comment or an empty line, nothing. Memory is answered only for a line
-/// that has its place.
+/// item, a request, the end of one, readings of the clock, bytes on a connection, or the end of one; a comment or an empty line,
+/// nothing. Memory is answered only for a line that has its place.
 pub fn read_line(
     alloc: Global,
     declared: &Declared,
@@ -105,8 +106,8 @@ fn read_other(
     last: Option<u64>,
     line: &str,
 ) -> Result<Acts, LineFault>
-    ensures { IsRead declared.now (spec.acts_of declared.now last line.now (words.after (codes "get ") line.now)
-        (words.after (codes "close ") line.now) (words.after (codes "clock ") line.now)) result }
+    ensures { IsRead declared.now (spec.begun (spec.kinds declared.now last) line.now
+        (alone (spec.declaration declared.now (settings_in line.now)))) result }
 {
     if let Some(text) = after(line, "get ") {
         return read_get(alloc, declared, last, text);
@@ -114,8 +115,14 @@ fn read_other(
     if let Some(text) = after(line, "close ") {
         return read_close(text);
     }
-    match after(line, "clock ") {
-        Some(text) => read_clock(text),
+    if let Some(text) = after(line, "clock ") {
+        return read_clock(text);
+    }
+    if let Some(text) = after(line, "bytes ") {
+        return read_piece(alloc, text);
+    }
+    match after(line, "drop ") {
+        Some(text) => read_drop(text),
         None => read_declaration(alloc, declared, line),
     }
 }
@@ -219,6 +226,49 @@ fn read_clock(text: &str) -> Result<Acts, LineFault>
     match parse_number(text, 20) {
         Some(ms) if ms <= LAST_TIME => Ok(Acts::Clock(ms)),
         Some(_) => Ok(Acts::One(Act::RefuseClock)),
+        None => Err(LineFault::BadLine),
+    }
+}
+
+/// Bytes that came on a connection.
+fn read_piece(alloc: Global, text: &str) -> Result<Acts, LineFault>
+    ensures { (channels : List Configuration) → IsRead channels (alone (spec.bytes_of (words text.now))) result }
+{
+    let Some((number, hex)) = piece_words(text) else {
+        return Err(LineFault::BadLine);
+    };
+    match read_hex(alloc, hex) {
+        Ok(piece) => Ok(Acts::One(Act::Bytes { number, piece })),
+        Err(_) => Err(LineFault::Memory),
+    }
+}
+
+/// The number of a connection, and hexadecimal digits that spell at least one byte. It takes no memory.
+fn piece_words(text: &str) -> Option<(u64, &str)>
+    ensures { MatchOption result (spec.bytes_of (words text.now) ≡ None)
+        (λ g. IsSome (bytes_in_hex g.1.now) × (spec.bytes_of (words text.now) ≡ spec.bytes_by (Some g.0) (bytes_in_hex g.1.now))) }
+{
+    let (number, hex) = cut(text, ' ')?;
+    if hex.is_empty() {
+        return None;
+    }
+    if cut(hex, ' ').is_some() {
+        return None;
+    }
+    let number = parse_number(number, 9)?;
+    if is_hex(hex) {
+        Some((number, hex))
+    } else {
+        None
+    }
+}
+
+/// The end of a connection.
+fn read_drop(text: &str) -> Result<Acts, LineFault>
+    ensures { (channels : List Configuration) → IsRead channels (alone (spec.drop_of text.now)) result }
+{
+    match parse_number(text, 9) {
+        Some(number) => Ok(Acts::One(Act::Drop(number))),
         None => Err(LineFault::BadLine),
     }
 }

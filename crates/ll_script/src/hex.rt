@@ -1,0 +1,47 @@
+//! Bytes in hexadecimal digits.
+ghost use Rattle.std.specs.Prelude.{◌≡◌, IfOk, IsSome, Some, is_some};
+ghost use Rattle.std.specs.List.{list_all};
+ghost use Rattle.ll_script.specs.Hex.{bytes_in_hex, hex_digit};
+
+use crate::piece::Piece;
+use std::alloc::{AllocError, Global};
+
+/// Whether a text spells bytes by two digits each.
+pub(crate) fn is_hex(text: &str) -> bool
+    ensures { result ≡ is_some (bytes_in_hex text.now) }
+{
+    text.len() % 2 == 0 && all_digits(text)
+}
+
+/// Whether each byte is a digit.
+fn all_digits(text: &str) -> bool
+    ensures { result ≡ list_all (λ b. is_some (hex_digit b)) text.now }
+{
+    text.bytes().all(|b| digit(b).is_some())
+}
+
+/// The bytes that a text spells by two digits each. They take memory once.
+pub(crate) fn read_hex(alloc: Global, text: &str) -> Result<Piece, AllocError>
+    requires { IsSome (bytes_in_hex text.now) }
+    ensures { IfOk result (λ p. bytes_in_hex text.now ≡ Some p) }
+{
+    let mut bytes = Vec::with_capacity(alloc, text.len() / 2)?;
+    // Each byte of the text is a digit, so neither 0 is taken.
+    for pair in text.as_bytes().chunks_exact(2) {
+        let high = digit(pair[0]).unwrap_or(0);
+        let low = digit(pair[1]).unwrap_or(0);
+        bytes.push_reserved(16 * high + low);
+    }
+    Ok(Piece::new(bytes))
+}
+
+/// What a digit stands for: 0 to 9, and a to f in lower case alone.
+fn digit(byte: u8) -> Option<u8>
+    ensures { result ≡ hex_digit byte }
+{
+    match byte {
+        b'0'..=b'9' => Some(byte - b'0'),
+        b'a'..=b'f' => Some(byte - b'a' + 10),
+        _ => None,
+    }
+}
