@@ -85,6 +85,16 @@ impl Output {
         drop_lengths(&mut self.lengths, whole, part);
     }
 
+    /// The first one was sent, or what was left of it.
+    pub(crate) fn drop_first(&mut self)
+        ensures { self.new ≡ drop 1 self.old }
+    {
+        if let Some(length) = self.lengths.first().copied() {
+            drop_front(&mut self.bytes, length);
+            self.lengths.drain(..1);
+        }
+    }
+
     /// Forgets all of them.
     pub(crate) fn clear(&mut self)
         ensures { self.new ≡ [] }

@@ -1,5 +1,5 @@
 //! One connection's session.
-ghost use Rattle.std.specs.Prelude.{◌≡◌, ◌++◌, IfOk, IsSome, OnErr, OnOk, false, is_some, length, nat_lt};
+ghost use Rattle.std.specs.Prelude.{◌≡◌, ◌++◌, IfOk, IsSome, OnErr, OnOk, drop, false, is_some, length, nat_lt};
 ghost use Rattle.std.specs.List.{concat};
 ghost use Rattle.ll_wire.specs.Response.{response_bytes};
 ghost use Rattle.ll_session.specs.Output.{first_length};
@@ -157,6 +157,13 @@ impl Session {
         ensures { self.new ≡ talk.sent self.old n }
     {
         self.output.drop_front(n);
+    }
+
+    /// The first answer of the output was sent, or what was left of it.
+    pub fn first_sent(&mut self)
+        ensures { self.new ≡ record self.old { answers = drop 1 self.old.answers } }
+    {
+        self.output.drop_first();
     }
 
     /// Whether the session has shut: no want is out, and none will come.

@@ -1,0 +1,5 @@
+pub mod CutLemmas
+pub mod OpenLemmas
+pub mod RoomsLaws
+pub mod StepLemmas
+pub mod TurnLemmas

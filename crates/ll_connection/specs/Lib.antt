@@ -1,0 +1,4 @@
+pub mod Laws
+pub mod Stands
+pub mod Turn
+pub mod Visit

@@ -1,0 +1,190 @@
+//! All connections of a script.
+ghost use Rattle.std.specs.Prelude.{◌≡◌, ◌++◌, ◌==◌, [], None, Some, IfOk, OnOk, if◌then◌else◌};
+ghost use Rattle.std.specs.Map.{set_value};
+ghost use Rattle.ll_world.specs.Kept.{kept_world};
+ghost use Rattle.ll_world.specs.World.{World, all_settings};
+ghost use Rattle.ll_connection.specs.Turn as turn;
+ghost use Rattle.ll_connection.specs.Stands.{IsTurn, open_in, opened};
+
+use crate::open::Open;
+use crate::sent::Sent;
+use indexmap::IndexMap;
+use ll_held::Owner;
+use ll_script::{Declared, push_shut};
+use ll_session::Session;
+use ll_verdict::Reply;
+use ll_world::Rooms;
+use std::alloc::{AllocError, AllocFailed, Global};
+use std::marker::Model;
+
+/// The connections of a script by their numbers, in order of opening; of one that has ended, the number alone. It must be spent by
+/// [`Connections::finish`].
+pub struct Connections {
+    alloc: Global,
+    sessions: IndexMap<u64, Option<Session>>,
+}
+
+impl Model for Connections {
+    ghost use Rattle.ll_connection.specs.Turn as turn;
+
+    ghost Value = { turn.Connections };
+
+    ghost view = { λ c. c.sessions.entries };
+}
+
+/// Only an empty one may be let go: a session that is forgotten in it is a failed proof.
+impl Drop for Connections {
+    fn drop(self)
+        requires { self ≡ [] }
+    {
+        let Connections { alloc: _, sessions } = self;
+        sessions.destroy_empty();
+    }
+}
+
+impl Connections {
+    /// No connection.
+    pub fn new(alloc: Global) -> Connections
+        ensures { result ≡ [] }
+    {
+        Connections {
+            alloc,
+            sessions: IndexMap::new(alloc),
+        }
+    }
+
+    /// These bytes came on the connection of this number, which they open where it is new. One that has ended takes none. Its requests
+    /// are handed in, up to one that waits; what is written are the answers, in order, and whether it has shut. It fails only where no
+    /// memory is found.
+    pub fn bytes(
+        &mut self,
+        rooms: &mut Rooms,
+        declared: &Declared,
+        number: u64,
+        piece: &[u8],
+    ) -> Result<Sent, AllocError>
+        ensures { (w : World) → rooms.old ≡ kept_world w → declared.now ≡ all_settings w
+            → IfOk result (λ sent. IsTurn self.new rooms.new sent (turn.bytes number piece.now self.old w)) }
+    {
+        let Some(session) = self.take_or_open(number) else {
+            return Ok(Sent::nothing(self.alloc));
+        };
+        let mut sent = Sent::nothing(self.alloc);
+        let mut open = Open { number, session };
+        match open.arrive(rooms, declared, piece, &mut sent) {
+            Ok(()) => {}
+            Err(AllocError) => return Err(open.fail()),
+        }
+        let sent = self.put_back(open, sent)?;
+        Ok(sent)
+    }
+
+    /// The connection of this number ended: its request that waits is given up. One that isn't there, or has ended, is passed over.
+    pub fn end(&mut self, rooms: &mut Rooms, number: u64)
+        ensures { (w : World) → rooms.old ≡ kept_world w
+            → (self.new ≡ (turn.end number self.old w).connections) × (rooms.new ≡ kept_world (turn.end number self.old w).rooms) }
+    {
+        let Some(session) = self.take(number) else {
+            return;
+        };
+        session.end();
+        rooms.close(Owner::Connection(number));
+    }
+
+    /// The request of the connection of this number, which waited, gets its reply; then its next requests are handed in, up to one that
+    /// waits. One that isn't there, or has ended, is passed over. It fails only where no memory is found.
+    pub fn reply(
+        &mut self,
+        rooms: &mut Rooms,
+        declared: &Declared,
+        number: u64,
+        reply: Reply,
+    ) -> Result<Sent, AllocError>
+        ensures { (w : World) → rooms.old ≡ kept_world w → declared.now ≡ all_settings w
+            → IfOk result (λ sent. IsTurn self.new rooms.new sent (turn.reply number reply self.old w)) }
+    {
+        let Some(session) = self.take(number) else {
+            return Ok(Sent::nothing(self.alloc));
+        };
+        let mut sent = Sent::nothing(self.alloc);
+        let mut open = Open { number, session };
+        match open.release(rooms, declared, reply, &mut sent) {
+            Ok(()) => {}
+            Err(AllocError) => return Err(open.fail()),
+        }
+        let sent = self.put_back(open, sent)?;
+        Ok(sent)
+    }
+
+    /// Ends all connections; nothing is written. Requests that wait in the rooms are the rooms' to give up.
+    pub fn finish(self) {
+        let Connections {
+            alloc: _,
+            mut sessions,
+        } = self;
+        while let Some((_, slot)) = sessions.pop() {
+            spend(slot);
+        }
+        sessions.destroy_empty();
+    }
+
+    /// Takes the session of this number out; of a number that is new it is a new one.
+    fn take_or_open(&mut self, number: u64) -> Option<Session>
+        ensures session { result ≡ opened (turn.session_of number self.old) }
+        ensures left { self.new ≡ set_value (λ m. number == m) self.old None }
+    {
+        if !self.sessions.contains_key(&number) {
+            return Some(Session::new(self.alloc));
+        }
+        self.take(number)
+    }
+
+    /// Takes the session of this number out, where one is open.
+    fn take(&mut self, number: u64) -> Option<Session>
+        ensures session { result ≡ open_in (turn.session_of number self.old) }
+        ensures left { self.new ≡ set_value (λ m. number == m) self.old None }
+    {
+        self.sessions.get_mut(&number)?.take()
+    }
+
+    /// Puts a session back under its number, of which all answers were sent; one that has shut ends, and so much is written.
+    fn put_back(&mut self, connection: Open, mut sent: Sent) -> Result<Sent, AllocError>
+        ensures kept { OnOk result (self.new ≡ turn.with_session connection.number (if connection.session.shut then None else Some connection.session) self.old) }
+        ensures text { IfOk result (λ all. all.text.items ≡ sent.text.items ++ turn.shut_text connection.session.shut connection.number) }
+        ensures replies { IfOk result (λ all. all.replies ≡ sent.replies) }
+    {
+        let Open { number, session } = connection;
+        if !session.shut() {
+            self.put(number, Some(session))?;
+            return Ok(sent);
+        }
+        session.end();
+        self.put(number, None)?;
+        push_shut(&mut sent.text, number)?;
+        Ok(sent)
+    }
+
+    /// Puts this in place of what stands under the number.
+    fn put(&mut self, number: u64, slot: Option<Session>) -> Result<(), AllocError>
+        ensures { OnOk result (self.new ≡ turn.with_session number slot self.old) }
+    {
+        let old = match self.sessions.insert(number, slot) {
+            Ok(old) => old,
+            Err(AllocFailed { value: (_, slot) }) => {
+                spend(slot);
+                return Err(AllocError);
+            }
+        };
+        if let Some(slot) = old {
+            spend(slot);
+        }
+        Ok(())
+    }
+}
+
+/// Ends the session, where there is one.
+fn spend(slot: Option<Session>) {
+    if let Some(session) = slot {
+        session.end();
+    }
+}

@@ -1,0 +1,178 @@
+//! One connection that hasn't ended.
+ghost use Rattle.std.specs.Prelude.{◌≡◌, ◌<◌, [], Ok, IfOk, OnOk, false, length, true};
+ghost use Rattle.ll_session.specs.Talk.{fed};
+ghost use Rattle.ll_world.specs.Kept.{answers_of, kept_world};
+ghost use Rattle.ll_world.specs.World.{World, all_settings};
+ghost use Rattle.ll_connection.specs.Visit as visit;
+ghost use Rattle.ll_connection.specs.Stands.{AreTold, IsStill, IsToldVisit, IsVisit};
+
+use crate::sent::Sent;
+use ll_directive::{TargetFault, Want};
+use ll_held::Owner;
+use ll_script::{Declared, push_sent};
+use ll_session::Session;
+use ll_verdict::Reply;
+use ll_wire::{Answer, Unavailable};
+use ll_world::{Answer as Said, Rooms};
+use std::alloc::AllocError;
+
+/// A connection with its session. It must be spent.
+pub(crate) struct Open {
+    pub(crate) number: u64,
+    pub(crate) session: Session,
+}
+
+impl Open {
+    /// These bytes came, with all that they make happen.
+    pub(crate) fn arrive(
+        &mut self,
+        rooms: &mut Rooms,
+        declared: &Declared,
+        piece: &[u8],
+        sent: &mut Sent,
+    ) -> Result<(), AllocError>
+        ensures arrived { (w : World) → rooms.old ≡ kept_world w → declared.now ≡ all_settings w
+            → OnOk result (IsToldVisit self.old.number sent.old sent.new self.new.session rooms.new
+            (visit.arrived self.old.number piece.now (record { session = self.old.session; rooms = w }))) }
+        ensures number { self.new.number ≡ self.old.number }
+    {
+        self.come(rooms, piece)?;
+        self.hand_in(rooms, declared, sent)?;
+        Ok(())
+    }
+
+    /// Its request that waited gets this reply, with all that this makes happen.
+    pub(crate) fn release(
+        &mut self,
+        rooms: &mut Rooms,
+        declared: &Declared,
+        reply: Reply,
+        sent: &mut Sent,
+    ) -> Result<(), AllocError>
+        ensures released { (w : World) → rooms.old ≡ kept_world w → declared.now ≡ all_settings w
+            → OnOk result (IsToldVisit self.old.number sent.old sent.new self.new.session rooms.new
+            (visit.released self.old.number reply (record { session = self.old.session; rooms = w }))) }
+        ensures number { self.new.number ≡ self.old.number }
+    {
+        if self.session.waiting() {
+            self.session.answered(&Answer::Reply(reply))?;
+        }
+        self.hand_in(rooms, declared, sent)?;
+        Ok(())
+    }
+
+    /// These bytes came. Where they are too many after a request that waits, it is given up.
+    fn come(&mut self, rooms: &mut Rooms, piece: &[u8]) -> Result<(), AllocError>
+        ensures came { (w : World) → rooms.old ≡ kept_world w
+            → OnOk result (IsVisit self.new.session rooms.new (visit.came self.old.number piece.now (record { session = self.old.session; rooms = w }))) }
+        ensures fed { OnOk result (self.new.session ≡ fed self.old.session piece.now) }
+        ensures number { self.new.number ≡ self.old.number }
+    {
+        if self.session.shut() {
+            return Ok(());
+        }
+        self.session.feed(piece)?;
+        if !self.session.shut() {
+            return Ok(());
+        }
+        rooms.close(Owner::Connection(self.number));
+        Ok(())
+    }
+
+    /// Hands in all requests up to one that waits, and writes the answers.
+    fn hand_in(
+        &mut self,
+        rooms: &mut Rooms,
+        declared: &Declared,
+        sent: &mut Sent,
+    ) -> Result<(), AllocError>
+        ensures handed_in { (w : World) → rooms.old ≡ kept_world w → declared.now ≡ all_settings w
+            → OnOk result (IsToldVisit self.old.number sent.old sent.new self.new.session rooms.new
+            (visit.hand_in self.old.number (record { session = self.old.session; rooms = w }))) }
+        ensures number { self.new.number ≡ self.old.number }
+    {
+        loop {
+            let more = self.step(rooms, declared)?;
+            self.tell(sent)?;
+            if !more {
+                return Ok(());
+            }
+        }
+    }
+
+    /// Hands in the next request, where there is one. Answers whether another may follow.
+    fn step(&mut self, rooms: &mut Rooms, declared: &Declared) -> Result<bool, AllocError>
+        ensures stepped { (w : World) → rooms.old ≡ kept_world w → declared.now ≡ all_settings w
+            → OnOk result (IsVisit self.new.session rooms.new (visit.step self.old.number (record { session = self.old.session; rooms = w }))) }
+        ensures last { IfOk result (λ more. more ≡ false → IsStill self.old.number self.new.session) }
+        ensures fewer { IfOk result (λ more. more ≡ true → length self.new.session.unread < length self.old.session.unread) }
+        ensures number { self.new.number ≡ self.old.number }
+    {
+        let Some(want) = self.session.next_want()? else {
+            return Ok(false);
+        };
+        match self.ask(rooms, declared, want)? {
+            Some(answer) => {
+                self.session.answered(&answer)?;
+                Ok(true)
+            }
+            None => {
+                self.come(rooms, &[])?;
+                Ok(false)
+            }
+        }
+    }
+
+    /// Makes a request. What it is answered, where it needn't wait.
+    fn ask(
+        &self,
+        rooms: &mut Rooms,
+        declared: &Declared,
+        want: Want,
+    ) -> Result<Option<Answer>, AllocError>
+        ensures asked { (w : World) → rooms.old ≡ kept_world w → declared.now ≡ all_settings w
+            → IfOk result (λ answer. (rooms.new ≡ kept_world (visit.asked self.now.number want w).rooms) × (answer ≡ (visit.asked self.now.number want w).answer)) }
+    {
+        let Some((place, _)) = declared.find(want.channel()) else {
+            return Ok(Some(Answer::Target(TargetFault::NotFound)));
+        };
+        let said = rooms.ask(Owner::Connection(self.number), place, want)?;
+        Ok(spoken(said))
+    }
+
+    /// No memory was found: its session is spent.
+    pub(crate) fn fail(self) -> AllocError {
+        let Open { number: _, session } = self;
+        session.end();
+        AllocError
+    }
+
+    /// Writes the answers that are there.
+    fn tell(&mut self, sent: &mut Sent) -> Result<(), AllocError>
+        ensures told { OnOk result (AreTold self.old.number self.old.session.answers sent.old sent.new) }
+        ensures session { OnOk result (self.new.session ≡ record self.old.session { answers = [] }) }
+        ensures number { self.new.number ≡ self.old.number }
+    {
+        while let Some(length) = self.session.first_answer() {
+            push_sent(
+                &mut sent.text,
+                self.number,
+                &self.session.output()[..length],
+            )?;
+            self.session.first_sent();
+            sent.replies = sent.replies.saturating_add(1);
+        }
+        Ok(())
+    }
+}
+
+/// What the rooms' answer to a request is to a player, where there is one.
+fn spoken(said: Option<Said>) -> Option<Answer>
+    ensures { result ≡ visit.first_spoken (answers_of said) }
+{
+    match said? {
+        Said::Replied(_, reply) => Some(Answer::Reply(reply)),
+        Said::Unavailable(_) => Some(Answer::Unavailable(Unavailable::RecordFull)),
+        _ => None,
+    }
+}
