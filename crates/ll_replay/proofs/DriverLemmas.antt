@@ -1,7 +1,8 @@
 -- What a driver says of a step of the world, and of one step after another.
 use Rattle.std.proofs.Common.{◌≡◌, ℕ, zero, suc, ◌+◌, ◌-◌, ◌≤◌, List, [], ◌∷◌, ◌++◌, Option, Some, None, refl, ap, sym, ◌∙◌, subst, append_assoc, append-nil, arith}
-use Rattle.std.specs.Prelude.{IfErr, OnErr, OnOk, Result, Ok, Err, String}
+use Rattle.std.specs.Prelude.{IfErr, OnErr, OnOk, Result, Ok, Err}
 use Rattle.std.specs.declared.alloc.Global.{Global}
+use Rattle.std.specs.declared.vec.Vec.{Vec}
 use Rattle.std.specs.Io.KnownBytes.{Appends}
 use Rattle.std.proofs.KnownBytes.{Appends-trans}
 use Rattle.ll_world.specs.World.{repeat}
@@ -15,7 +16,7 @@ use Rattle.ll_replay.proofs.WorldLaws.{Follows, follows_both, ticks-follow}
 use Rattle.ll_replay.proofs.WriteLemmas.{AppendsPrefix-after, AppendsPrefix-longer}
 
 -- a step whose answer was written
-pub said : (new old : Kept) (step : World → World) (follows : (w : World) → Follows w (step w)) (answer : Option (String Global)) (r : Result Unit RunFault)
+pub said : (new old : Kept) (step : World → World) (follows : (w : World) → Follows w (step w)) (answer : Option (Vec ℕ Global)) (r : Result Unit RunFault)
     (mid after : Option (List ℕ)) → ((w : World) → Keeps old w → Says new answer w (step w)) → OnOk r (Appends mid after (told answer))
     → OnOk r ((w : World) (base : Option (List ℕ)) → Stands old base mid w → Stands new base after (step w))
 said new old step follows answer (Err f) mid after says wrote = tt
@@ -27,7 +28,7 @@ said new old step follows answer (Ok x) mid after says wrote = λ w base s.
     }
 
 -- a fault in writing the answer to a step
-pub said-cut : (new old : Kept) (step : World → World) (answer : Option (String Global)) (r : Result Unit RunFault) (mid after : Option (List ℕ))
+pub said-cut : (new old : Kept) (step : World → World) (answer : Option (Vec ℕ Global)) (r : Result Unit RunFault) (mid after : Option (List ℕ))
     → ((w : World) → Keeps old w → Says new answer w (step w)) → IfErr r (λ f. f ≡ fault.Write) → OnErr r (AppendsPrefix mid after (told answer))
     → IfErr r (λ f. (w : World) (base : Option (List ℕ)) → Stands old base mid w → IsCutBetween base after w (step w) f)
 said-cut new old step answer (Ok x) mid after says kind prefix = tt

@@ -1,15 +1,15 @@
 -- What the rooms have come to and what they answered, as a driver keeps and writes it.
 use Rattle.std.proofs.Common.{◌≡◌, ℕ, ◌+◌, List, [], ◌∷◌, ◌++◌, Option, Some, None, refl, ap, ap₂, sym, ◌∙◌, append-nil, min, subst, arith}
-use Rattle.std.specs.Prelude.{String, flat_map, Result, Ok, Err, IfOk}
+use Rattle.std.specs.Prelude.{flat_map, Result, Ok, Err, IfOk}
 use Rattle.std.specs.declared.alloc.Global.{Global}
+use Rattle.std.specs.declared.vec.Vec.{Vec}
 use Rattle.ll_world.specs.Kept as rooms
 use Rattle.ll_world.specs.Kept.{Leads, answers_of}
 use Rattle.ll_world.specs.World as world
-use Rattle.ll_world.specs.World.{count_end}
+use Rattle.ll_world.specs.World.{all_settings, count_end, silent}
 use Rattle.ll_world.specs.declared.answer.Answer.{Answer}
 use Rattle.ll_replay.specs.Kept.{Keeps, Kept, Says, kept_world, told}
-use Rattle.ll_replay.specs.World.{World, asked_under, heard, replied, reply_count, says, silent, spelled}
-use Rattle.ll_replay.proofs.SettingsLaws.{settings_in}
+use Rattle.ll_replay.specs.World.{World, asked_under, heard, replied, reply_count, says, spelled}
 
 abbrev pub hears : Kept → rooms.Kept → ℕ → Kept
 hears k held n = record k { rooms = held; replies = n }
@@ -20,14 +20,14 @@ up_to_end n m r e h = omega arith
 answers_are : (held : rooms.Kept) (a : Option Answer) (w v : world.World) → w.answers ≡ [] → Leads held a w v → v.answers ≡ answers_of a
 answers_are held a w v quiet leads = leads.answers ∙ ap (λ list. list ++ answers_of a) quiet
 
-stands : (held : rooms.Kept) (n : ℕ) (w : World) (v : world.World) → held ≡ rooms.kept_world v → settings_in v ≡ settings_in w.rooms
+stands : (held : rooms.Kept) (n : ℕ) (w : World) (v : world.World) → held ≡ rooms.kept_world v → all_settings v ≡ all_settings w.rooms
     → n ≡ min (w.replies + reply_count v.answers) count_end → hears (kept_world w) held n ≡ kept_world (heard w v)
 stands held n w v is same count =
     ap₂ (λ h m. hears (kept_world w) h m) is count ∙ ap (λ s. record (hears (kept_world w) (rooms.kept_world v) (min (w.replies + reply_count v.answers) count_end)) { declared = s }) (sym same)
 
 -- what the rooms answered is written, and its replies are counted
-pub heard-says : (old : Kept) (held : rooms.Kept) (n : ℕ) (w : World) (v : world.World) (a : Option Answer) (t : Option (String Global))
-    → Keeps old w → Leads held a w.rooms v → settings_in v ≡ settings_in w.rooms → n ≡ min (old.replies + reply_count (answers_of a)) count_end
+pub heard-says : (old : Kept) (held : rooms.Kept) (n : ℕ) (w : World) (v : world.World) (a : Option Answer) (t : Option (Vec ℕ Global))
+    → Keeps old w → Leads held a w.rooms v → all_settings v ≡ all_settings w.rooms → n ≡ min (old.replies + reply_count (answers_of a)) count_end
     → told t ≡ flat_map spelled (answers_of a) → Says (hears old held n) t w (heard w v)
 heard-says old held n w v a t k leads same count text =
     let are = answers_are held a w.rooms v k.silent leads in record {
@@ -43,18 +43,18 @@ heard-says old held n w v a t k leads same count text =
     }
 
 -- a request has its number
-pub asked-says : (k : Kept) (id : ℕ) (t : Option (String Global)) (w v : World) → Says k t w v → Says (record k { last_id = Some id }) t w (asked_under v id)
+pub asked-says : (k : Kept) (id : ℕ) (t : Option (Vec ℕ Global)) (w v : World) → Says k t w v → Says (record k { last_id = Some id }) t w (asked_under v id)
 asked-says k id t w v s = record {
   keeps = record { stands = ap (λ (k : Kept). record k { last_id = Some id }) s.keeps.stands; silent = s.keeps.silent };
   text = s.text;
 }
 
 -- a line that changes nothing is answered
-pub line-says : (k : Kept) (t : Option (String Global)) (w : World) (line : List ℕ) → Keeps k w → told t ≡ line → Says k t w (says w line)
+pub line-says : (k : Kept) (t : Option (Vec ℕ Global)) (w : World) (line : List ℕ) → Keeps k w → told t ≡ line → Says k t w (says w line)
 line-says k t w line s e = record { keeps = record { stands = s.stands; silent = s.silent }; text = ap (λ more. w.text ++ more) (sym e) }
 
 -- a request is answered that is no event of any channel
-pub answer-says : (k : Kept) (id n : ℕ) (t : Option (String Global)) (w : World) (line : List ℕ) → Keeps k w → n ≡ min (k.replies + 1) count_end → told t ≡ line
+pub answer-says : (k : Kept) (id n : ℕ) (t : Option (Vec ℕ Global)) (w : World) (line : List ℕ) → Keeps k w → n ≡ min (k.replies + 1) count_end → told t ≡ line
     → Says (record k { last_id = Some id; replies = n }) t w (replied w id line)
 answer-says k id n t w line s count e = record {
   keeps = record {
@@ -84,8 +84,8 @@ heard-still w v quiet same =
     nothing = ap₂ (λ n text. record w { replies = n; text = text }) (no_more w.replies) (append-nil w.text)
 
 -- a call of the rooms, whose answer is counted and spelled
-pub heard-result : {E : Type 0} (r : Result (Option (String Global)) E) (old now new : Kept) (held : rooms.Kept) (step : world.World → world.World) (a : Option Answer)
-    → old ≡ now → ((v : world.World) → settings_in (step v) ≡ settings_in v) → ((v : world.World) → old.rooms ≡ rooms.kept_world v → Leads held a v (step v))
+pub heard-result : {E : Type 0} (r : Result (Option (Vec ℕ Global)) E) (old now new : Kept) (held : rooms.Kept) (step : world.World → world.World) (a : Option Answer)
+    → old ≡ now → ((v : world.World) → all_settings (step v) ≡ all_settings v) → ((v : world.World) → old.rooms ≡ rooms.kept_world v → Leads held a v (step v))
     → new ≡ hears old held (min (old.replies + reply_count (answers_of a)) count_end) → IfOk r (λ t. told t ≡ flat_map spelled (answers_of a))
     → (w : World) → Keeps now w → IfOk r (λ t. Says new t w (heard w (step w.rooms)))
 heard-result (Err e) old now new held step a same keeps leads is text w k = tt
@@ -95,8 +95,8 @@ heard-result (Ok t) old now new held step a same keeps leads is text w k =
     (heard-says old held (min (old.replies + reply_count (answers_of a)) count_end) w (step w.rooms) a t q (leads w.rooms (ap (λ (s : Kept). s.rooms) q.stands)) (keeps w.rooms) refl text)
 
 -- a request, whose answer is counted and spelled
-pub asked-result : {E : Type 0} (r : Result (Option (String Global)) E) (old now new : Kept) (held : rooms.Kept) (id : ℕ) (step : world.World → world.World) (a : Option Answer)
-    → old ≡ now → ((v : world.World) → settings_in (step v) ≡ settings_in v) → ((v : world.World) → old.rooms ≡ rooms.kept_world v → Leads held a v (step v))
+pub asked-result : {E : Type 0} (r : Result (Option (Vec ℕ Global)) E) (old now new : Kept) (held : rooms.Kept) (id : ℕ) (step : world.World → world.World) (a : Option Answer)
+    → old ≡ now → ((v : world.World) → all_settings (step v) ≡ all_settings v) → ((v : world.World) → old.rooms ≡ rooms.kept_world v → Leads held a v (step v))
     → new ≡ record (hears old held (min (old.replies + reply_count (answers_of a)) count_end)) { last_id = Some id } → IfOk r (λ t. told t ≡ flat_map spelled (answers_of a))
     → (w : World) → Keeps now w → IfOk r (λ t. Says new t w (asked_under (heard w (step w.rooms)) id))
 asked-result (Err e) old now new held id step a same keeps leads is text w k = tt
@@ -107,7 +107,7 @@ asked-result (Ok t) old now new held id step a same keeps leads is text w k =
     (heard-says old held (min (old.replies + reply_count (answers_of a)) count_end) w (step w.rooms) a t q (leads w.rooms (ap (λ (s : Kept). s.rooms) q.stands)) (keeps w.rooms) refl text))
 
 -- a call of the rooms that is never answered
-pub unheard : (old now new : Kept) (held : rooms.Kept) (step : world.World → world.World) → old ≡ now → ((v : world.World) → settings_in (step v) ≡ settings_in v)
+pub unheard : (old now new : Kept) (held : rooms.Kept) (step : world.World → world.World) → old ≡ now → ((v : world.World) → all_settings (step v) ≡ all_settings v)
     → ((v : world.World) → old.rooms ≡ rooms.kept_world v → Leads held None v (step v)) → new ≡ hears old held old.replies → (w : World) → Keeps now w → Says new None w (heard w (step w.rooms))
 unheard old now new held step same keeps leads is w k =
     let q = subst (λ s. Keeps s w) (sym same) k in
@@ -119,7 +119,7 @@ unheard old now new held step same keeps leads is w k =
     within n r e h = omega arith
 
 -- a call of the rooms that tells of nothing
-pub still-result : {E : Type 0} (r : Result (Option (String Global)) E) (old now : Kept) (step : world.World → world.World) (a : Option Answer)
+pub still-result : {E : Type 0} (r : Result (Option (Vec ℕ Global)) E) (old now : Kept) (step : world.World → world.World) (a : Option Answer)
     → old ≡ now → ((v : world.World) → old.rooms ≡ rooms.kept_world v → a ≡ None → step v ≡ v) → IfOk r (λ t. t ≡ None → a ≡ None)
     → (w : World) → Keeps now w → IfOk r (λ t. t ≡ None → heard w (step w.rooms) ≡ w)
 still-result (Err e) old now step a same still none w k = tt

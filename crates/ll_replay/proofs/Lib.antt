@@ -3,9 +3,9 @@ pub mod HeardLemmas
 pub mod LineLemmas
 pub mod RestLemmas
 pub mod RunLemmas
-pub mod SettingsLaws
 pub mod StreamLemmas
 pub mod TakeLemmas
+pub mod TurnLemmas
 pub mod WorkedExamples
 pub mod WorldLaws
 pub mod WriteLemmas

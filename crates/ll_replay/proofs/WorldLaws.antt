@@ -1,15 +1,21 @@
 -- What every line does to a script: an ended one stays as it is, text is only added, an act ends nothing, and a line that is too
 -- long does.
 use Rattle.std.proofs.Common.{◌≡◌, ℕ, zero, suc, ◌+◌, ◌<◌, ◌≤◌, List, ◌++◌, [], ◌∷◌, Bool, true, false, cond, Option, Some, None, length, refl, sym, ap, ◌∙◌, append-nil, append_assoc, nat_lt, arith}
-use Rattle.std.specs.Prelude.{flat_map}
+use Rattle.std.specs.Prelude.{flat_map, fold}
 use Rattle.std.proofs.lemmas.Bool.Decides.{nat_tests}
+use Rattle.ll_connection.specs.Turn as connection
+use Rattle.ll_held.specs.declared.owner.Owner.{Owner}
+use Rattle.ll_held.specs.declared.owner.Owner.TheVariants.{Get, Connection}
 use Rattle.ll_script.specs.Answers.{clock_line, fault_line, no_line}
 use Rattle.ll_script.specs.Lines.{acts}
 use Rattle.ll_script.specs.declared.act.Act.{Act}
-use Rattle.ll_script.specs.declared.act.Act.TheVariants.{Declare, Offer, Refuse, Ask, Answer, Close, Clock, RefuseClock}
+use Rattle.ll_script.specs.declared.act.Act.TheVariants.{Declare, Offer, Refuse, Ask, Answer, Close, Clock, RefuseClock, Bytes, Drop}
 use Rattle.ll_script.specs.declared.clock.ClockRefusal.TheVariants as refused
+use Rattle.ll_verdict.specs.declared.reply.Reply.{Reply}
 use Rattle.ll_world.specs.World as rooms
-use Rattle.ll_replay.specs.World.{World, Ending, LineTooLong, act, acted, all_settings, counted, done, heard, line, line_by, makes_due, read_by, rest, spelled, tick}
+use Rattle.ll_world.specs.declared.answer.Answer as answer
+use Rattle.ll_world.specs.declared.answer.Answer.TheVariants as said
+use Rattle.ll_replay.specs.World.{World, Ending, LineTooLong, act, acted, counted, done, heard, line, line_by, makes_due, passed_on, passed_to, read_by, rest, spelled, tick, turned}
 
 -- a world that says more and ends as the first
 abbrev pub Follows : World → World → Type 0
@@ -25,18 +31,41 @@ follows_both u v w a b = (a.0 ++ b.0, b.1 ∙ ap (λ t. t ++ b.0) a.1 ∙ append
 heard-follows : (w : World) (v : rooms.World) → Follows w (heard w v)
 heard-follows w v = (flat_map spelled v.answers, refl, refl)
 
+-- what is sent on a connection is written
+turned-follows : (w : World) (t : connection.Turn) → Follows w (turned w t)
+turned-follows w t = (t.text, refl, refl)
+
 pub act-follows : (w : World) (a : Act) → Follows w (act w a)
 act-follows w (Declare settings) = heard-follows w (rooms.declare settings w.rooms)
 act-follows w (Offer place item) = heard-follows w (rooms.offer place item w.rooms)
 act-follows w (Refuse reason) = (no_line reason, refl, refl)
-act-follows w (Ask id place want) = (flat_map spelled (rooms.ask id place want w.rooms).answers, refl, refl)
+act-follows w (Ask id place want) = (flat_map spelled (rooms.ask (Get id) place want w.rooms).answers, refl, refl)
 act-follows w (Answer id reason) = (fault_line id reason, refl, refl)
-act-follows w (Close id) = heard-follows w (rooms.close id w.rooms)
+act-follows w (Close id) = heard-follows w (rooms.close (Get id) w.rooms)
 act-follows w (Clock place ms) = heard-follows w (rooms.clock place ms w.rooms)
 act-follows w RefuseClock = (clock_line refused.ClockRange, refl, refl)
+act-follows w (Bytes n piece) = turned-follows w (connection.bytes n piece w.connections w.rooms)
+act-follows w (Drop n) = turned-follows w (connection.end n w.connections w.rooms)
+
+passed_to-follows : (w : World) (o : Owner) (r : Reply) → Follows w (passed_to o r w)
+passed_to-follows w (Get id) r = follows_itself w w refl refl
+passed_to-follows w (Connection n) r = turned-follows w (connection.reply n r w.connections w.rooms)
+
+passed_on-follows : (w : World) (a : answer.Answer) → Follows w (passed_on w a)
+passed_on-follows w (said.Accepted count) = follows_itself w w refl refl
+passed_on-follows w (said.Refused reason) = follows_itself w w refl refl
+passed_on-follows w (said.ClockRefused reason) = follows_itself w w refl refl
+passed_on-follows w (said.Replied o r) = passed_to-follows w o r
+passed_on-follows w (said.Unavailable o) = follows_itself w w refl refl
+
+all_passed_on-follow : (w : World) (answers : List answer.Answer) → Follows w (fold passed_on w answers)
+all_passed_on-follow w [] = follows_itself w w refl refl
+all_passed_on-follow w (a ∷ answers) = follows_both w (passed_on w a) (fold passed_on (passed_on w a) answers) (passed_on-follows w a) (all_passed_on-follow (passed_on w a) answers)
 
 pub tick-follows : (place : ℕ) (w : World) → Follows w (tick place w)
-tick-follows place w = heard-follows w (rooms.tick place w.rooms)
+tick-follows place w =
+    let v = rooms.tick place w.rooms in
+    follows_both w (heard w v) (tick place w) (heard-follows w v) (all_passed_on-follow (heard w v) v.answers)
 
 pub ticks-follow : (place n : ℕ) (w : World) → Follows w (rooms.repeat (tick place) n w)
 ticks-follow place zero w = follows_itself w w refl refl
@@ -64,7 +93,7 @@ acted-text w (Some list) = let f = acted-follows w list in (f.0, f.1)
 
 read_by-text : (b : Bool) (w : World) (l : List ℕ) → Adds w (read_by b w l)
 read_by-text true w l = ([], sym (append-nil w.text))
-read_by-text false w l = acted-text (counted w) (acts (all_settings w) w.last_id l)
+read_by-text false w l = acted-text (counted w) (acts (rooms.all_settings w.rooms) w.last_id l)
 
 line_by-text : (o : Option Ending) (w : World) (l : List ℕ) → Adds w (line_by o w l)
 line_by-text (Some e) w l = ([], sym (append-nil w.text))
@@ -83,7 +112,7 @@ unfolding line
 line-read w l b h e = ap (λ o. line_by o w l) h ∙ ap (λ t. read_by t w l) e
 
 -- a line that isn't too long, by what it means
-pub line-means : (w : World) (l : List ℕ) (o : Option (List Act)) → w.ending ≡ None → length l ≤ 65536 → acts (all_settings w) w.last_id l ≡ o
+pub line-means : (w : World) (l : List ℕ) (o : Option (List Act)) → w.ending ≡ None → length l ≤ 65536 → acts (rooms.all_settings w.rooms) w.last_id l ≡ o
     → line w l ≡ acted (counted w) o
 line-means w l o goes_on short means =
     let fits : nat_lt 65536 (length l) ≡ false = at_most 65536 (length l) short in

@@ -1,14 +1,17 @@
 -- For private contracts: what a driver keeps in place of all events.
-use Rattle.std.specs.Prelude.{◌≡◌, ℕ, List, [], Option, None, Some, String, ◌++◌, min, string_bytes}
+use Rattle.std.specs.Prelude.{◌≡◌, ℕ, List, [], Option, None, Some, ◌++◌, min}
 use Rattle.std.specs.declared.alloc.Global.{Global}
+use Rattle.std.specs.declared.vec.Vec.{Vec}
 use Rattle.std.specs.Io.KnownBytes.{Appends}
+use Rattle.ll_connection.specs.Turn.{Connections}
 use Rattle.ll_item.specs.Settings.{Configuration}
 use Rattle.ll_world.specs.Kept as rooms
 use Rattle.ll_world.specs.World as rooms_world
-use Rattle.ll_replay.specs.World.{World, all_settings}
+use Rattle.ll_replay.specs.World.{World}
 
 pub record Kept : Type 0 where
   pub rooms : rooms.Kept
+  pub connections : Connections
   -- the settings of the channels, in order of declaration
   pub declared : List Configuration
   pub lines : ℕ
@@ -19,7 +22,8 @@ pub record Kept : Type 0 where
 abbrev pub kept_world : World → Kept
 kept_world w = record {
   rooms = rooms.kept_world w.rooms;
-  declared = all_settings w;
+  connections = w.connections;
+  declared = rooms_world.all_settings w.rooms;
   lines = w.lines;
   last_id = w.last_id;
   replies = min w.replies rooms_world.count_end;
@@ -31,12 +35,12 @@ pub record Keeps (driver : Kept) (w : World) : Type 0 where
   pub silent : w.rooms.answers ≡ []
 
 -- an answer, where there is one
-abbrev pub told : Option (String Global) → List ℕ
+abbrev pub told : Option (Vec ℕ Global) → List ℕ
 told None = []
-told (Some line) = string_bytes line
+told (Some text) = text.items
 
 -- a step from one world to the next says this
-pub record Says (driver : Kept) (answer : Option (String Global)) (old new : World) : Type 0 where
+pub record Says (driver : Kept) (answer : Option (Vec ℕ Global)) (old new : World) : Type 0 where
   pub keeps : Keeps driver new
   pub text : new.text ≡ old.text ++ told answer
 

@@ -1,16 +1,21 @@
 -- What a script comes to, line by line.
-use Rattle.std.specs.Prelude.{ℕ, ◌+◌, List, [], ◌∷◌, ◌++◌, Bool, true, false, Option, Some, None, length, filter, flat_map, fold, map, min, nat_lt}
+use Rattle.std.specs.Prelude.{ℕ, ◌+◌, List, [], ◌∷◌, ◌++◌, Bool, true, false, Option, Some, None, length, filter, flat_map, fold, min, nat_lt}
+use Rattle.ll_connection.specs.Turn as connection
+use Rattle.ll_held.specs.declared.owner.Owner.{Owner}
+use Rattle.ll_held.specs.declared.owner.Owner.TheVariants.{Get, Connection}
 use Rattle.ll_item.specs.Settings.{Configuration}
 use Rattle.ll_room.specs.declared.fault.ClockFault.{ClockFault}
 use Rattle.ll_room.specs.declared.fault.ClockFault.TheVariants as fault
 use Rattle.ll_script.specs.Answers.{clock_line, fault_line, no_line, ok_line, refusal_of, reply_lines, unasked_line}
 use Rattle.ll_script.specs.Lines.{acts}
 use Rattle.ll_script.specs.declared.act.Act.{Act}
-use Rattle.ll_script.specs.declared.act.Act.TheVariants.{Declare, Offer, Refuse, Ask, Answer, Close, Clock, RefuseClock}
+use Rattle.ll_script.specs.declared.act.Act.TheVariants.{Declare, Offer, Refuse, Ask, Answer, Close, Clock, RefuseClock, Bytes, Drop}
 use Rattle.ll_script.specs.declared.ask.AskRefusal.TheVariants as unasked
 use Rattle.ll_script.specs.declared.clock.ClockRefusal.{ClockRefusal}
 use Rattle.ll_script.specs.declared.clock.ClockRefusal.TheVariants as refused
 use Rattle.ll_world.specs.World as rooms
+use Rattle.ll_verdict.specs.declared.reply.Reply.{Reply}
+use Rattle.ll_world.specs.World.{all_settings, silent}
 use Rattle.ll_world.specs.declared.answer.Answer as answer
 use Rattle.ll_world.specs.declared.answer.Answer.TheVariants as said
 use Rattle.ll_replay.specs.declared.outcome.Summary.{Summary}
@@ -23,6 +28,8 @@ pub data Ending : Type 0 where
 pub record World : Type 0 where
   -- the channels, and the requests that wait in them; what they answered is written
   pub rooms : rooms.World
+  -- the connections, of which all answers are written
+  pub connections : connection.Connections
   -- how many lines were read
   pub lines : ℕ
   -- the last number of a request
@@ -34,7 +41,7 @@ pub record World : Type 0 where
   pub ending : Option Ending
 
 abbrev pub start : World
-start = record { rooms = rooms.start; lines = 0; last_id = None; replies = 0; text = []; ending = None }
+start = record { rooms = rooms.start; connections = []; lines = 0; last_id = None; replies = 0; text = []; ending = None }
 
 -- ---- answers
 
@@ -42,27 +49,37 @@ abbrev pub clock_refusal : ClockFault → ClockRefusal
 clock_refusal fault.ClockRange = refused.ClockRange
 clock_refusal fault.RecordFull = refused.RecordFull
 
+-- a reply to a `get` line; one to a connection is put out there
+abbrev pub reply_text : Owner → Reply → List ℕ
+reply_text (Get id) reply = reply_lines id reply
+reply_text (Connection n) reply = []
+
+abbrev pub unavailable_text : Owner → List ℕ
+unavailable_text (Get id) = unasked_line id unasked.RecordFull
+unavailable_text (Connection n) = []
+
 -- the lines of an answer
 abbrev pub spelled : answer.Answer → List ℕ
 spelled (said.Accepted count) = ok_line count
 spelled (said.Refused reason) = no_line (refusal_of reason)
 spelled (said.ClockRefused reason) = clock_line (clock_refusal reason)
-spelled (said.Replied id reply) = reply_lines id reply
-spelled (said.Unavailable id) = unasked_line id unasked.RecordFull
+spelled (said.Replied owner reply) = reply_text owner reply
+spelled (said.Unavailable owner) = unavailable_text owner
 
--- whether it answers a request
+abbrev pub is_get : Owner → Bool
+is_get (Get id) = true
+is_get (Connection n) = false
+
+-- whether it answers a `get` line
 abbrev pub is_reply : answer.Answer → Bool
 is_reply (said.Accepted count) = false
 is_reply (said.Refused reason) = false
 is_reply (said.ClockRefused reason) = false
-is_reply (said.Replied id reply) = true
-is_reply (said.Unavailable id) = true
+is_reply (said.Replied owner reply) = is_get owner
+is_reply (said.Unavailable owner) = is_get owner
 
 abbrev pub reply_count : List answer.Answer → ℕ
 reply_count answers = length (filter is_reply answers)
-
-abbrev pub silent : rooms.World → rooms.World
-silent v = record v { answers = [] }
 
 -- what the rooms have come to, and what they answered is written
 abbrev pub heard : World → rooms.World → World
@@ -78,21 +95,42 @@ asked_under w id = record w { last_id = Some id }
 abbrev pub replied : World → ℕ → List ℕ → World
 replied w id text = record w { text = w.text ++ text; replies = w.replies + 1; last_id = Some id }
 
+-- what came of something that came to a connection
+abbrev pub turned : World → connection.Turn → World
+turned w t = record w { rooms = silent t.rooms; connections = t.connections; replies = w.replies + t.replies; text = w.text ++ t.text }
+
 -- ---- acts
 
 abbrev pub act : World → Act → World
 act w (Declare settings) = heard w (rooms.declare settings w.rooms)
 act w (Offer place item) = heard w (rooms.offer place item w.rooms)
 act w (Refuse reason) = says w (no_line reason)
-act w (Ask id place want) = asked_under (heard w (rooms.ask id place want w.rooms)) id
+act w (Ask id place want) = asked_under (heard w (rooms.ask (Get id) place want w.rooms)) id
 act w (Answer id reason) = replied w id (fault_line id reason)
-act w (Close id) = heard w (rooms.close id w.rooms)
+act w (Close id) = heard w (rooms.close (Get id) w.rooms)
 act w (Clock place ms) = heard w (rooms.clock place ms w.rooms)
 act w RefuseClock = says w (clock_line refused.ClockRange)
+act w (Bytes n piece) = turned w (connection.bytes n piece w.connections w.rooms)
+act w (Drop n) = turned w (connection.end n w.connections w.rooms)
+
+-- a reply is passed on to the connection that asked for it, which then makes its next requests
+abbrev pub passed_to : Owner → Reply → World → World
+passed_to (Get id) reply w = w
+passed_to (Connection n) reply w = turned w (connection.reply n reply w.connections w.rooms)
+
+abbrev pub passed_on : World → answer.Answer → World
+passed_on w (said.Accepted count) = w
+passed_on w (said.Refused reason) = w
+passed_on w (said.ClockRefused reason) = w
+passed_on w (said.Replied owner reply) = passed_to owner reply w
+passed_on w (said.Unavailable owner) = w
+
+abbrev pub ticked : World → rooms.World → World
+ticked w v = fold passed_on (heard w v) v.answers
 
 -- of the replies of the channel at this place that are due, the one asked for first is written
 abbrev pub tick : ℕ → World → World
-tick place w = heard w (rooms.tick place w.rooms)
+tick place w = ticked w (rooms.tick place w.rooms)
 
 -- all replies of the channel at this place that are due are written: no more than requests wait
 abbrev pub rest_at : ℕ → World → World
@@ -108,6 +146,8 @@ makes_due (Answer id reason) = None
 makes_due (Close id) = None
 makes_due (Clock place ms) = Some place
 makes_due RefuseClock = None
+makes_due (Bytes n piece) = None
+makes_due (Drop n) = None
 
 -- what happens by itself after an act: the replies that it made due are written
 abbrev pub rest : Option ℕ → World → World
@@ -118,9 +158,6 @@ abbrev pub done : World → Act → World
 done w a = rest (makes_due a) (act w a)
 
 -- ---- lines
-
-abbrev pub all_settings : World → List Configuration
-all_settings w = map (λ (c : rooms.Channel). c.settings) w.rooms.channels
 
 abbrev pub acted : World → Option (List Act) → World
 acted w None = record w { ending = Some (BadLine w.lines) }
@@ -135,7 +172,7 @@ longest_line = 65536
 
 abbrev pub read_by : Bool → World → List ℕ → World
 read_by true w text = record (counted w) { ending = Some (LineTooLong (w.lines + 1)) }
-read_by false w text = acted (counted w) (acts (all_settings w) w.last_id text)
+read_by false w text = acted (counted w) (acts (all_settings w.rooms) w.last_id text)
 
 abbrev pub line_by : Option Ending → World → List ℕ → World
 line_by (Some ending) w text = w

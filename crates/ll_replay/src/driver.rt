@@ -1,7 +1,8 @@
 //! Takes the lines of a script, one after another.
-ghost use Rattle.std.specs.Prelude.{◌≡◌, ◌<◌, ◌+◌, ◌-◌, ◌^◌, ℕ, List, Option, None, Some, IfOk, OnOk, OnErr, IfErr, IsErrOf, flat_map, min, string_bytes};
+ghost use Rattle.std.specs.Prelude.{◌≡◌, ◌<◌, ◌+◌, ◌-◌, ◌^◌, ℕ, List, Option, None, Some, IfOk, OnOk, OnErr, IfErr, IsErrOf, IsSome, flat_map, fold, min, string_bytes};
 ghost use Rattle.std.specs.Io.KnownBytes.{Appends};
 ghost use Rattle.ll_script.specs.Lines.{clocks_from, listed};
+ghost use Rattle.ll_connection.specs.Turn as connection;
 ghost use Rattle.ll_world.specs.Kept.{answers_of};
 ghost use Rattle.ll_world.specs.World as rooms;
 ghost use Rattle.ll_replay.specs.World.{World, start, line, summary_of};
@@ -12,13 +13,16 @@ ghost use Rattle.ll_replay.specs.Stream.{AppendsPrefix};
 
 use crate::device::{Failed, Writer, write_all};
 use crate::outcome::{RunFault, Summary};
+use ll_connection::{Connections, Sent};
 use ll_directive::{TargetFault, Want};
+use ll_held::Owner;
 use ll_item::{Item, Settings};
 use ll_room::ClockFault;
 use ll_script::{
     Act, Acts, AskRefusal, ClockRefusal, Declared, LineFault, Refusal, clock_line, fault_line,
     no_line, ok_line, read_line, reply_lines, unasked_line,
 };
+use ll_verdict::Reply;
 use ll_world::{Answer, Rooms};
 use std::alloc::{AllocError, Global};
 use std::marker::Model;
@@ -26,10 +30,11 @@ use std::marker::Model;
 /// The most bytes of a line, without its end.
 pub(crate) const LONGEST_LINE: usize = 65_536;
 
-/// The channels of a script with the requests that wait in them, and what was counted. It must be finished.
+/// The channels of a script with the requests that wait in them, its connections, and what was counted. It must be finished.
 pub(crate) struct Driver {
     alloc: Global,
     rooms: Rooms,
+    connections: Connections,
     declared: Declared,
     lines: u64,
     last_id: Option<u64>,
@@ -41,7 +46,7 @@ impl Model for Driver {
 
     ghost Value = { Kept };
 
-    ghost view = { λ d. record { rooms = d.rooms; declared = d.declared; lines = d.lines; last_id = d.last_id; replies = d.replies } };
+    ghost view = { λ d. record { rooms = d.rooms; connections = d.connections; declared = d.declared; lines = d.lines; last_id = d.last_id; replies = d.replies } };
 }
 
 impl Driver {
@@ -53,6 +58,7 @@ impl Driver {
         Driver {
             alloc,
             rooms: Rooms::new(alloc),
+            connections: Connections::new(alloc),
             declared: Declared::new(alloc),
             lines: 0,
             last_id: None,
@@ -176,14 +182,31 @@ impl Driver {
     }
 
     /// The first reply of the channel at this place that is due, where one is.
-    fn tick(&mut self, place: usize) -> Result<Option<String>, AllocError>
+    fn tick(&mut self, place: usize) -> Result<Option<Vec<u8>>, AllocError>
         ensures says { (w : World) → Keeps self.old w → IfOk result (λ a. Says self.new a w (world.tick place w)) }
         ensures still { (w : World) → Keeps self.old w → IfOk result (λ a. a ≡ None → world.tick place w ≡ w) }
         ensures lines { OnOk result (self.new.lines ≡ self.old.lines) }
     {
-        let answer = self.rooms.next_due(place);
-        self.count(&answer);
-        spell(self.alloc, answer)
+        match to_connection(self.rooms.next_due(place)) {
+            Ok((number, reply)) => self.reply(number, reply),
+            Err(answer) => {
+                self.count(&answer);
+                spell(self.alloc, answer)
+            }
+        }
+    }
+
+    /// A connection's request gets its reply, and its next requests are made. What is sent on it.
+    fn reply(&mut self, number: u64, reply: Reply) -> Result<Option<Vec<u8>>, AllocError>
+        ensures says { (w : World) → Keeps self.old w
+            → IfOk result (λ a. Says self.new a w (world.turned w (connection.reply number reply w.connections w.rooms))) }
+        ensures something { IfOk result (λ a. IsSome a) }
+        ensures lines { OnOk result (self.new.lines ≡ self.old.lines) }
+    {
+        let sent = self
+            .connections
+            .reply(&mut self.rooms, &self.declared, number, reply)?;
+        Ok(Some(self.sent(sent)))
     }
 
     /// Does what a line makes happen, and writes its answer.
@@ -203,24 +226,29 @@ impl Driver {
     }
 
     /// What an act is answered, where it is answered.
-    fn step(&mut self, act: Act) -> Result<Option<String>, AllocError>
+    fn step(&mut self, act: Act) -> Result<Option<Vec<u8>>, AllocError>
         ensures says { (w : World) → Keeps self.old w → IfOk result (λ a. Says self.new a w (world.act w act)) }
         ensures lines { OnOk result (self.new.lines ≡ self.old.lines) }
     {
         match act {
             Act::Declare(settings) => self.declare(settings),
             Act::Offer { place, item } => self.offer(place, item),
-            Act::Refuse(reason) => Ok(Some(no_line(self.alloc, reason)?)),
+            Act::Refuse(reason) => Ok(Some(no_line(self.alloc, reason)?.into_bytes())),
             Act::Ask { id, place, want } => self.ask(id, place, want),
             Act::Answer { id, fault } => self.answer(id, fault),
             Act::Close(id) => Ok(self.close(id)),
             Act::Clock { place, ms } => self.clock(place, ms),
-            Act::RefuseClock => Ok(Some(clock_line(self.alloc, ClockRefusal::ClockRange)?)),
+            Act::RefuseClock => {
+                let line = clock_line(self.alloc, ClockRefusal::ClockRange)?;
+                Ok(Some(line.into_bytes()))
+            }
+            Act::Bytes { number, piece } => self.bytes(number, piece.as_slice()),
+            Act::Drop(number) => Ok(self.end(number)),
         }
     }
 
     /// Adds a channel, which has no answer.
-    fn declare(&mut self, settings: Settings) -> Result<Option<String>, AllocError>
+    fn declare(&mut self, settings: Settings) -> Result<Option<Vec<u8>>, AllocError>
         ensures says { (w : World) → Keeps self.old w → IfOk result (λ a. Says self.new a w (world.act w (Act.Declare settings))) }
         ensures lines { OnOk result (self.new.lines ≡ self.old.lines) }
     {
@@ -231,7 +259,7 @@ impl Driver {
     }
 
     /// What an item for the channel at this place is answered.
-    fn offer(&mut self, place: usize, item: Item) -> Result<Option<String>, AllocError>
+    fn offer(&mut self, place: usize, item: Item) -> Result<Option<Vec<u8>>, AllocError>
         ensures says { (w : World) → Keeps self.old w → IfOk result (λ a. Says self.new a w (world.act w (Act.Offer place item))) }
         ensures lines { OnOk result (self.new.lines ≡ self.old.lines) }
     {
@@ -241,43 +269,73 @@ impl Driver {
     }
 
     /// What a request to the channel at this place is answered at once, where it need not wait.
-    fn ask(&mut self, id: u64, place: usize, want: Want) -> Result<Option<String>, AllocError>
+    fn ask(&mut self, id: u64, place: usize, want: Want) -> Result<Option<Vec<u8>>, AllocError>
         ensures says { (w : World) → Keeps self.old w → IfOk result (λ a. Says self.new a w (world.act w (Act.Ask id place want))) }
         ensures lines { OnOk result (self.new.lines ≡ self.old.lines) }
     {
-        let answer = self.rooms.ask(id, place, want)?;
+        let answer = self.rooms.ask(Owner::Get(id), place, want)?;
         self.last_id = Some(id);
         self.count(&answer);
         spell(self.alloc, answer)
     }
 
     /// The reply to a request that is no event of any channel.
-    fn answer(&mut self, id: u64, fault: TargetFault) -> Result<Option<String>, AllocError>
+    fn answer(&mut self, id: u64, fault: TargetFault) -> Result<Option<Vec<u8>>, AllocError>
         ensures says { (w : World) → Keeps self.old w → IfOk result (λ a. Says self.new a w (world.act w (Act.Answer id fault))) }
         ensures lines { OnOk result (self.new.lines ≡ self.old.lines) }
     {
         self.last_id = Some(id);
         self.replies = self.replies.saturating_add(1);
-        Ok(Some(fault_line(self.alloc, id, fault)?))
+        Ok(Some(fault_line(self.alloc, id, fault)?.into_bytes()))
     }
 
     /// Gives a request up, where it waits, which has no answer.
-    fn close(&mut self, id: u64) -> Option<String>
+    fn close(&mut self, id: u64) -> Option<Vec<u8>>
         ensures says { (w : World) → Keeps self.old w → Says self.new result w (world.act w (Act.Close id)) }
         ensures lines { self.new.lines ≡ self.old.lines }
     {
-        self.rooms.close(id);
+        self.rooms.close(Owner::Get(id));
         None
     }
 
     /// What a reading of the clock of the channel at this place is answered, where it is refused.
-    fn clock(&mut self, place: usize, ms: u64) -> Result<Option<String>, AllocError>
+    fn clock(&mut self, place: usize, ms: u64) -> Result<Option<Vec<u8>>, AllocError>
         ensures says { (w : World) → Keeps self.old w → IfOk result (λ a. Says self.new a w (world.act w (Act.Clock place ms))) }
         ensures lines { OnOk result (self.new.lines ≡ self.old.lines) }
     {
         let answer = self.rooms.clock(place, ms);
         self.count(&answer);
         spell(self.alloc, answer)
+    }
+
+    /// These bytes came on a connection. What is sent on it.
+    fn bytes(&mut self, number: u64, piece: &[u8]) -> Result<Option<Vec<u8>>, AllocError>
+        ensures says { (w : World) → Keeps self.old w → IfOk result (λ a. Says self.new a w (world.act w (Act.Bytes number piece.now))) }
+        ensures lines { OnOk result (self.new.lines ≡ self.old.lines) }
+    {
+        let sent = self
+            .connections
+            .bytes(&mut self.rooms, &self.declared, number, piece)?;
+        Ok(Some(self.sent(sent)))
+    }
+
+    /// A connection ended, which has no answer.
+    fn end(&mut self, number: u64) -> Option<Vec<u8>>
+        ensures says { (w : World) → Keeps self.old w → Says self.new result w (world.act w (Act.Drop number)) }
+        ensures lines { self.new.lines ≡ self.old.lines }
+    {
+        self.connections.end(&mut self.rooms, number);
+        None
+    }
+
+    /// Counts what is sent on a connection. Its text.
+    fn sent(&mut self, sent: Sent) -> Vec<u8>
+        ensures count { self.new ≡ record self.old { replies = min (self.old.replies + sent.replies) rooms.count_end } }
+        ensures text { result ≡ sent.text }
+    {
+        let Sent { text, replies } = sent;
+        self.replies = self.replies.saturating_add(replies);
+        text
     }
 
     /// Counts a reply, where an answer is one.
@@ -287,16 +345,18 @@ impl Driver {
         self.replies = self.replies.saturating_add(replies_in(answer));
     }
 
-    /// Gives all requests up that still wait; they get no reply.
+    /// Ends all connections, and gives all requests up that still wait; they get no reply.
     pub(crate) fn finish(self) {
         let Driver {
             alloc: _,
             rooms,
+            connections,
             declared: _,
             lines: _,
             last_id: _,
             replies: _,
         } = self;
+        connections.finish();
         rooms.finish();
     }
 }
@@ -311,24 +371,35 @@ fn makes_due(act: &Act) -> Option<usize>
     }
 }
 
-/// How many replies an answer is: one or none.
+/// The reply that goes to a connection, and the connection's number; any other answer is handed back.
+fn to_connection(answer: Option<Answer>) -> Result<(u64, Reply), Option<Answer>>
+    ensures to { IfOk result (λ r. answer ≡ Some (Answer.Replied (Owner.Connection r.0) r.1)) }
+    ensures other { IfErr result (λ a. (a ≡ answer) × ((w : World) → fold world.passed_on w (answers_of a) ≡ w)) }
+{
+    match answer {
+        Some(Answer::Replied(Owner::Connection(number), reply)) => Ok((number, reply)),
+        other => Err(other),
+    }
+}
+
+/// How many replies an answer is: one or none. An answer to a connection is counted there.
 fn replies_in(answer: &Option<Answer>) -> u64
     ensures { result ≡ world.reply_count (answers_of answer.now) }
 {
     match answer {
-        Some(Answer::Replied(..) | Answer::Unavailable(_)) => 1,
+        Some(Answer::Replied(Owner::Get(_), _) | Answer::Unavailable(Owner::Get(_))) => 1,
         _ => 0,
     }
 }
 
 /// The lines of what was answered, where something was.
-fn spell(alloc: Global, answer: Option<Answer>) -> Result<Option<String>, AllocError>
+fn spell(alloc: Global, answer: Option<Answer>) -> Result<Option<Vec<u8>>, AllocError>
     ensures lines { IfOk result (λ t. told t ≡ flat_map world.spelled (answers_of answer)) }
     ensures nothing { IfOk result (λ t. t ≡ None → answer ≡ None) }
 {
     match answer {
         None => Ok(None),
-        Some(answer) => Ok(Some(spell_one(alloc, answer)?)),
+        Some(answer) => Ok(Some(spell_one(alloc, answer)?.into_bytes())),
     }
 }
 
@@ -340,8 +411,11 @@ fn spell_one(alloc: Global, answer: Answer) -> Result<String, AllocError>
         Answer::Accepted(count) => ok_line(alloc, count),
         Answer::Refused(reason) => no_line(alloc, Refusal::from(reason)),
         Answer::ClockRefused(reason) => clock_line(alloc, clock_refusal(reason)),
-        Answer::Replied(id, reply) => reply_lines(alloc, id, &reply),
-        Answer::Unavailable(id) => unasked_line(alloc, id, AskRefusal::RecordFull),
+        Answer::Replied(Owner::Get(id), reply) => reply_lines(alloc, id, &reply),
+        Answer::Unavailable(Owner::Get(id)) => unasked_line(alloc, id, AskRefusal::RecordFull),
+        Answer::Replied(Owner::Connection(_), _) | Answer::Unavailable(Owner::Connection(_)) => {
+            Ok(String::new(alloc))
+        }
     }
 }
 
@@ -356,15 +430,17 @@ fn clock_refusal(fault: ClockFault) -> ClockRefusal
 }
 
 /// Writes an answer, where there is one.
-fn say<W: Writer>(answer: Option<String>, writer: &mut W) -> Result<(), RunFault>
+fn say<W: Writer>(answer: Option<Vec<u8>>, writer: &mut W) -> Result<(), RunFault>
     ensures ok { OnOk result (Appends (W.written writer.old) (W.written writer.new) (told answer)) }
     ensures cut { OnErr result (AppendsPrefix (W.written writer.old) (W.written writer.new) (told answer)) }
     ensures kind { IfErr result (λ f. f ≡ RunFault.Write) }
     ensures steady { OnOk result (W.failures writer.new ≡ W.failures writer.old) }
     ensures write_failed { OnErr result (W.failures writer.old < W.failures writer.new) }
 {
-    let text = answer.as_ref().map_or("", |text| text.as_str());
-    match write_all(writer, text.as_bytes()) {
+    let Some(text) = answer else {
+        return Ok(());
+    };
+    match write_all(writer, &text) {
         Ok(()) => Ok(()),
         Err(Failed) => Err(RunFault::Write),
     }

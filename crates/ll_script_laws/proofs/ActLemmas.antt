@@ -17,9 +17,10 @@ use Rattle.ll_item.specs.declared.item.ItemFault.{ItemFault}
 use Rattle.ll_item.specs.declared.item.ItemFault.TheVariants as item
 use Rattle.ll_item.specs.declared.settings.SettingsFault.{SettingsFault}
 use Rattle.ll_item.proofs.WithinLimits.{within}
-use Rattle.ll_script.specs.Lines.{acts, acts_by, acts_of, alone, ask, ask_in, channel_of_name, clocks_from, close_of, declaration, get_by, get_of, is_passed_over, item_act, offer, offer_to, reading, rises}
+use Rattle.ll_script.specs.Hex.{bytes_in_hex}
+use Rattle.ll_script.specs.Lines.{Kind, acts, acts_by, alone, ask, ask_in, begun, begun_by, bytes_by, bytes_of, channel_of_name, clocks_from, close_of, declaration, drop_of, get_by, get_of, is_passed_over, item_act, kinds, offer, offer_to, reading, rises}
 use Rattle.ll_script.specs.declared.act.Act.{Act}
-use Rattle.ll_script.specs.declared.act.Act.TheVariants.{Declare, Offer, Refuse, Ask, Answer, Close, Clock, RefuseClock}
+use Rattle.ll_script.specs.declared.act.Act.TheVariants.{Declare, Offer, Refuse, Ask, Answer, Close, Clock, RefuseClock, Bytes, Drop}
 use Rattle.ll_script.specs.declared.refusal.Refusal.TheVariants as refused
 use Rattle.ll_verdict.proofs.ListLemmas.{Each}
 use Rattle.ll_script_laws.proofs.ItemTexts.{IsRead, item-read}
@@ -34,6 +35,8 @@ IsSound (Answer id reason) = Unit
 IsSound (Close id) = Unit
 IsSound (Clock place ms) = Unit
 IsSound RefuseClock = Unit
+IsSound (Bytes n piece) = Unit
+IsSound (Drop n) = Unit
 
 abbrev pub AreSound : Option (List Act) → Type 0
 AreSound None = Unit
@@ -136,13 +139,46 @@ declaration-sound channels (Ok c) f = if-sound (is_none (channel_of_name channel
 
 -- ---- lines
 
-acts_of-sound : (channels : List Configuration) (last : Option ℕ) (line : List ℕ) (get close clock : Option (List ℕ)) → AreSound (acts_of channels last line get close clock)
-acts_of-sound channels last line (Some text) close clock = alone-sound (get_of channels last (words text)) (get_of-sound channels last (words text))
-acts_of-sound channels last line None (Some text) clock = alone-sound (close_of text) (close_of-sound (number_in 9 text))
-acts_of-sound channels last line None None (Some text) = clock_of-sound channels (number_in 20 text)
-acts_of-sound channels last line None None None =
-    alone-sound (declaration channels (settings_in line))
-    (declaration-sound channels (settings_in line) (λ c h. settings-within (configuration_of (words line)) c h))
+bytes_by-sound : (number : Option ℕ) (piece : Option (List ℕ)) → IfSound (bytes_by number piece)
+bytes_by-sound None piece = tt
+bytes_by-sound (Some n) None = tt
+bytes_by-sound (Some n) (Some piece) = tt
+
+bytes_of-sound : (ws : List (List ℕ)) → IfSound (bytes_of ws)
+bytes_of-sound (number ∷ (b ∷ hex) ∷ []) = bytes_by-sound (number_in 9 number) (bytes_in_hex (b ∷ hex))
+bytes_of-sound other = tt
+
+drop_of-sound : (number : Option ℕ) → IfSound (option_map (λ n. Drop n) number)
+drop_of-sound None = tt
+drop_of-sound (Some n) = tt
+
+begun_by-sound : (o : Option (List ℕ)) (means : List ℕ → Option (List Act)) (other : Option (List Act)) → ((text : List ℕ) → AreSound (means text)) → AreSound other
+    → AreSound (begun_by o means other)
+begun_by-sound None means other m s = s
+begun_by-sound (Some text) means other m s = m text
+
+begun-sound : (ks : List Kind) (line : List ℕ) (other : Option (List Act)) → Each (λ k. (text : List ℕ) → AreSound (k.1 text)) ks → AreSound other
+    → AreSound (begun ks line other)
+begun-sound [] line other e s = s
+begun-sound (k ∷ ks) line other e s = begun_by-sound (after k.0 line) k.1 (begun ks line other) e.0 (begun-sound ks line other e.1 s)
+
+kinds-sound : (channels : List Configuration) (last : Option ℕ) → Each (λ k. (text : List ℕ) → AreSound (k.1 text)) (kinds channels last)
+kinds-sound channels last = (
+  λ text. alone-sound (get_of channels last (words text)) (get_of-sound channels last (words text)),
+  (
+    λ text. alone-sound (close_of text) (close_of-sound (number_in 9 text)),
+    (
+      λ text. clock_of-sound channels (number_in 20 text),
+      (
+        λ text. alone-sound (bytes_of (words text)) (bytes_of-sound (words text)),
+        (
+          λ text. alone-sound (drop_of text) (drop_of-sound (number_in 9 text)),
+          tt,
+        ),
+      ),
+    ),
+  ),
+)
 
 where-sound : (b : Bool) (o : Option (List Act)) → AreSound o → AreSound (if b then o else None)
 where-sound true o h = h
@@ -151,8 +187,9 @@ where-sound false o h = tt
 acts_by-sound : (channels : List Configuration) (last : Option ℕ) (line : List ℕ) (o : Option (List ℕ)) → AreSound (acts_by channels last line o)
 acts_by-sound channels last line (Some text) = (offer-sound channels text, tt)
 acts_by-sound channels last line None =
-    where-sound (is_utf8 line) (acts_of channels last line (after (codes "get ") line) (after (codes "close ") line) (after (codes "clock ") line))
-    (acts_of-sound channels last line (after (codes "get ") line) (after (codes "close ") line) (after (codes "clock ") line))
+    where-sound (is_utf8 line) (begun (kinds channels last) line (alone (declaration channels (settings_in line))))
+    (begun-sound (kinds channels last) line (alone (declaration channels (settings_in line))) (kinds-sound channels last)
+    (alone-sound (declaration channels (settings_in line)) (declaration-sound channels (settings_in line) (λ c h. settings-within (configuration_of (words line)) c h))))
 
 unless-sound : (b : Bool) (o : Option (List Act)) → AreSound o → AreSound (if b then Some [] else o)
 unless-sound true o h = tt

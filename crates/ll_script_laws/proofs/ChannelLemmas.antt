@@ -2,7 +2,9 @@
 use Rattle.std.proofs.Common.{◌≡◌, ℕ, zero, suc, List, [], ◌∷◌, Bool, true, false, Option, Some, None, length, nat_lt, fold, refl, subst, slice_get, slice_set}
 use Rattle.std.specs.Str.Lines.{lines}
 use Rattle.ll_directive.specs.Targets.{WantValue}
-use Rattle.ll_held.specs.Waits.{under, with_id}
+use Rattle.ll_held.specs.Waits.{under, wait_of}
+use Rattle.ll_held.specs.declared.owner.Owner.{Owner}
+use Rattle.ll_held.specs.declared.owner.Owner.TheVariants.{Get, Connection}
 use Rattle.ll_held.specs.declared.wait.Wait.{Wait}
 use Rattle.ll_item.specs.Settings.{Configuration, IsWithin}
 use Rattle.ll_item.specs.declared.item.Item.{Item}
@@ -10,16 +12,19 @@ use Rattle.ll_room.specs.Full.{is_full, refusal_after}
 use Rattle.ll_room.specs.declared.fault.ClockFault.{ClockFault}
 use Rattle.ll_script.specs.Lines.{acts}
 use Rattle.ll_script.specs.declared.act.Act.{Act}
-use Rattle.ll_script.specs.declared.act.Act.TheVariants.{Declare, Offer, Refuse, Ask, Answer, Close, Clock, RefuseClock}
+use Rattle.ll_script.specs.declared.act.Act.TheVariants.{Declare, Offer, Refuse, Ask, Answer, Close, Clock, RefuseClock, Bytes, Drop}
 use Rattle.ll_verdict.specs.Events as event
 use Rattle.ll_verdict.specs.Verdict.{Request, at_once, held, reply}
 use Rattle.ll_verdict.specs.declared.fault.PublishFault.{PublishFault}
 use Rattle.ll_verdict.specs.declared.reply.Reply.{Reply}
 use Rattle.ll_verdict.specs.declared.reply.Settled.{Settled}
 use Rattle.ll_verdict.proofs.ListLemmas.{Each, each-append}
+use Rattle.ll_connection.proofs.RoomsLaws.{bytes-keeps, end-keeps, reply-keeps}
 use Rattle.ll_world.specs.World as rooms
+use Rattle.ll_world.specs.declared.answer.Answer as answer
+use Rattle.ll_world.specs.declared.answer.Answer.TheVariants as said
 use Rattle.ll_replay.specs.Stream.{world_of}
-use Rattle.ll_replay.specs.World.{World, Ending, act, acted, all_settings, counted, done, line, line_by, makes_due, read_by, rest, start, tick}
+use Rattle.ll_replay.specs.World.{World, Ending, act, acted, counted, done, heard, line, line_by, makes_due, passed_on, read_by, rest, start, tick}
 use Rattle.ll_script_laws.proofs.ActLemmas.{AreSound, IsSound, acts-sound}
 use Rattle.ll_script_laws.proofs.ItemTexts.{IsRead}
 
@@ -69,19 +74,19 @@ offer_at-kept w i item (Some c) k read h = offered-kept w i item c (refusal_afte
 offer-kept : (w : rooms.World) (i : ℕ) (item : Item) → AreKept w → IsRead item → AreKept (rooms.offer i item w)
 offer-kept w i item k read = offer_at-kept w i item (slice_get w.channels i) k read refl
 
-asked-kept : (w : rooms.World) (id i : ℕ) (c : rooms.Channel) (want : WantValue) (r : Option Reply) → AreKept w → slice_get w.channels i ≡ Some c
-    → AreKept (rooms.asked w id i c want r)
-asked-kept w id i c want (Some r) k h = set-kept w.channels i c (event.Ask want) k h tt
-asked-kept w id i c want None k h = set-kept w.channels i c (event.Ask want) k h tt
+asked-kept : (w : rooms.World) (owner : Owner) (i : ℕ) (c : rooms.Channel) (want : WantValue) (r : Option Reply) → AreKept w → slice_get w.channels i ≡ Some c
+    → AreKept (rooms.asked w owner i c want r)
+asked-kept w owner i c want (Some r) k h = set-kept w.channels i c (event.Ask want) k h tt
+asked-kept w owner i c want None k h = set-kept w.channels i c (event.Ask want) k h tt
 
-asked_if-kept : (full : Bool) (w : rooms.World) (id i : ℕ) (c : rooms.Channel) (want : WantValue) → AreKept w → slice_get w.channels i ≡ Some c
-    → AreKept (rooms.asked_if full w id i c want)
-asked_if-kept true w id i c want k h = k
-asked_if-kept false w id i c want k h = asked-kept w id i c want (at_once c.settings (held c.settings c.events) c.events want) k h
+asked_if-kept : (full : Bool) (w : rooms.World) (owner : Owner) (i : ℕ) (c : rooms.Channel) (want : WantValue) → AreKept w → slice_get w.channels i ≡ Some c
+    → AreKept (rooms.asked_if full w owner i c want)
+asked_if-kept true w owner i c want k h = k
+asked_if-kept false w owner i c want k h = asked-kept w owner i c want (at_once c.settings (held c.settings c.events) c.events want) k h
 
-ask_at-kept : (w : rooms.World) (id i : ℕ) (want : WantValue) (d : Option rooms.Channel) → AreKept w → slice_get w.channels i ≡ d → AreKept (rooms.ask_at w id i want d)
-ask_at-kept w id i want None k h = k
-ask_at-kept w id i want (Some c) k h = asked_if-kept (is_full (length c.events)) w id i c want k h
+ask_at-kept : (w : rooms.World) (owner : Owner) (i : ℕ) (want : WantValue) (d : Option rooms.Channel) → AreKept w → slice_get w.channels i ≡ d → AreKept (rooms.ask_at w owner i want d)
+ask_at-kept w owner i want None k h = k
+ask_at-kept w owner i want (Some c) k h = asked_if-kept (is_full (length c.events)) w owner i c want k h
 
 close_at-kept : (w : rooms.World) (x : Wait) (d : Option rooms.Channel) → AreKept w → slice_get w.channels x.place ≡ d → AreKept (rooms.close_at w x d)
 close_at-kept w x None k h = k
@@ -99,14 +104,14 @@ clock_at-kept : (w : rooms.World) (i ms : ℕ) (d : Option rooms.Channel) → Ar
 clock_at-kept w i ms None k h = k
 clock_at-kept w i ms (Some c) k h = clocked-kept w i ms c (rooms.clock_refusal ms c.events) k h
 
-told-kept : (w : rooms.World) (id : ℕ) (s : Option Settled) → AreKept w → AreKept (rooms.told w id s)
-told-kept w id None k = k
-told-kept w id (Some s) k = k
+told-kept : (w : rooms.World) (owner : Owner) (s : Option Settled) → AreKept w → AreKept (rooms.told w owner s)
+told-kept w owner None k = k
+told-kept w owner (Some s) k = k
 
 told_to-kept : (w : rooms.World) (i : ℕ) (c : rooms.Channel) (r : Request) (o : Option Wait) → AreKept w → slice_get w.channels i ≡ Some c → AreKept (rooms.told_to w i c r o)
 told_to-kept w i c r None k h = k
 told_to-kept w i c r (Some x) k h =
-    told-kept (rooms.happens w i c (event.Collect r.ticket)) x.id (reply c.settings c.events r) (set-kept w.channels i c (event.Collect r.ticket) k h tt)
+    told-kept (rooms.happens w i c (event.Collect r.ticket)) x.owner (reply c.settings c.events r) (set-kept w.channels i c (event.Collect r.ticket) k h tt)
 
 tick_of-kept : (w : rooms.World) (i : ℕ) (c : rooms.Channel) (o : Option Request) → AreKept w → slice_get w.channels i ≡ Some c → AreKept (rooms.tick_of w i c o)
 tick_of-kept w i c None k h = k
@@ -116,23 +121,44 @@ tick_at-kept : (w : rooms.World) (i : ℕ) (d : Option rooms.Channel) → AreKep
 tick_at-kept w i None k h = k
 tick_at-kept w i (Some c) k h = tick_of-kept w i c (rooms.first_due c.settings c.events) k h
 
+asks-kept : (w : rooms.World) (owner : Owner) (i : ℕ) (want : WantValue) → AreKept w → AreKept (rooms.silent (rooms.ask owner i want (rooms.silent w)))
+asks-kept w owner i want k = ask_at-kept (rooms.silent w) owner i want (slice_get w.channels i) k refl
+
+closes-kept : (w : rooms.World) (owner : Owner) → AreKept w → AreKept (rooms.close owner w)
+closes-kept w owner k = close_of-kept w (wait_of owner w.waits) k
+
 -- ---- acts and lines
 
 act-kept : (w : World) (a : Act) → AreKept w.rooms → IsSound a → AreKept (act w a).rooms
 act-kept w (Declare settings) k s = declare-kept w.rooms settings k s
 act-kept w (Offer place item) k s = offer-kept w.rooms place item k s
 act-kept w (Refuse reason) k s = k
-act-kept w (Ask id place want) k s = ask_at-kept w.rooms id place want (slice_get w.rooms.channels place) k refl
+act-kept w (Ask id place want) k s = ask_at-kept w.rooms (Get id) place want (slice_get w.rooms.channels place) k refl
 act-kept w (Answer id reason) k s = k
-act-kept w (Close id) k s = close_of-kept w.rooms (with_id id w.rooms.waits) k
+act-kept w (Close id) k s = close_of-kept w.rooms (wait_of (Get id) w.rooms.waits) k
 act-kept w (Clock place ms) k s = clock_at-kept w.rooms place ms (slice_get w.rooms.channels place) k refl
 act-kept w RefuseClock k s = k
+act-kept w (Bytes n piece) k s = bytes-keeps AreKept asks-kept closes-kept n piece w.connections w.rooms k
+act-kept w (Drop n) k s = end-keeps AreKept asks-kept closes-kept n w.connections w.rooms k
+
+passed_on-kept : (w : World) (a : answer.Answer) → AreKept w.rooms → AreKept (passed_on w a).rooms
+passed_on-kept w (said.Accepted count) k = k
+passed_on-kept w (said.Refused reason) k = k
+passed_on-kept w (said.ClockRefused reason) k = k
+passed_on-kept w (said.Replied (Get id) r) k = k
+passed_on-kept w (said.Replied (Connection n) r) k = reply-keeps AreKept asks-kept closes-kept n r w.connections w.rooms k
+passed_on-kept w (said.Unavailable owner) k = k
+
+all_passed_on-kept : (w : World) (answers : List answer.Answer) → AreKept w.rooms → AreKept (fold passed_on w answers).rooms
+all_passed_on-kept w [] k = k
+all_passed_on-kept w (a ∷ answers) k = all_passed_on-kept (passed_on w a) answers (passed_on-kept w a k)
 
 ticks-kept : (place n : ℕ) (w : World) → AreKept w.rooms → AreKept (rooms.repeat (tick place) n w).rooms
 ticks-kept place zero w k = k
 ticks-kept place (suc n) w k =
     let v = rooms.repeat (tick place) n w in
-    tick_at-kept v.rooms place (slice_get v.rooms.channels place) (ticks-kept place n w k) refl
+    let u = rooms.tick place v.rooms in
+    all_passed_on-kept (heard v u) u.answers (tick_at-kept v.rooms place (slice_get v.rooms.channels place) (ticks-kept place n w k) refl)
 
 rest-kept : (place : Option ℕ) (w : World) → AreKept w.rooms → AreKept (rest place w).rooms
 rest-kept None w k = k
@@ -149,7 +175,7 @@ acted_by-kept (Some list) w k s = acted-kept list w k s
 read_by-kept : (long : Bool) (w : World) (text : List ℕ) → AreKept w.rooms → AreKept (read_by long w text).rooms
 read_by-kept true w text k = k
 read_by-kept false w text k =
-    acted_by-kept (acts (all_settings w) w.last_id text) (counted w) k (acts-sound (all_settings w) w.last_id text)
+    acted_by-kept (acts (rooms.all_settings w.rooms) w.last_id text) (counted w) k (acts-sound (rooms.all_settings w.rooms) w.last_id text)
 
 line_by-kept : (o : Option Ending) (w : World) (text : List ℕ) → AreKept w.rooms → AreKept (line_by o w text).rooms
 line_by-kept (Some ending) w text k = k

@@ -1,5 +1,6 @@
 -- Laws of what a script comes to: of its channels, and of the texts that their requests get.
-use Rattle.std.specs.Prelude.{◌≡◌, ℕ, ◌+◌, ◌≤◌, ◌<◌, List, [], ◌∷◌, ◌++◌, Some, Ok, length, slice_get}
+use Rattle.std.specs.Prelude.{◌≡◌, ℕ, ◌+◌, ◌≤◌, ◌<◌, List, [], ◌∷◌, ◌++◌, Option, Some, Ok, length, slice_get}
+use Rattle.std.specs.Str.Lines.{lines}
 use Rattle.ll_item.specs.Settings.{Configuration, IsWithin}
 use Rattle.ll_directive.specs.Targets.{WantValue}
 use Rattle.ll_window.specs.Segments.{own, end_time}
@@ -9,13 +10,16 @@ use Rattle.ll_page.specs.View.{seen}
 use Rattle.ll_page.specs.declared.form.Form.{Form}
 use Rattle.ll_page.specs.declared.form.Form.TheVariants.{Full, Delta}
 use Rattle.ll_page.specs.declared.skip_kind.SkipKind.{SkipKind}
+use Rattle.ll_script.specs.Lines.{acts}
+use Rattle.ll_script.specs.declared.act.Act.TheVariants.{Bytes}
 use Rattle.ll_verdict.specs.Events.{Event, Ask, items}
 use Rattle.ll_verdict.specs.Verdict.{Request, at_once, held, reply, wanted_of}
 use Rattle.ll_verdict.specs.declared.reply.Reply.TheVariants as now
 use Rattle.ll_verdict.specs.declared.reply.Settled.TheVariants.{Text}
 use Rattle.ll_verdict.specs.declared.wanted.Wanted.{Wanted}
 use Rattle.ll_world.specs.World.{Channel}
-use Rattle.ll_replay.specs.Stream.{world_of}
+use Rattle.ll_replay.specs.Stream.{script, world_of}
+use Rattle.ll_replay.specs.World.{longest_line}
 use Rattle.ll_apply.specs.Texts.{applied_text}
 use Rattle.ll_laws.specs.Published.{ArePublished}
 
@@ -58,3 +62,16 @@ LaterLaw = (c : Configuration) (events : List Event) (place : ℕ) (r : Request)
     → slice_get (held c events) place ≡ Some r → reply c events r ≡ Some (Text page)
     → (want : WantValue) × (between : List Event) × (later : List Event) × (events ≡ (r.before ++ Ask want ∷ between) ++ later)
     × (wanted_of c want ≡ Some r.wanted) × IsWanted c (r.before ++ Ask want ∷ between) r.wanted page
+
+-- a line says, wherever it stands, that these bytes came on the connection of this number
+abbrev pub Brings : ℕ → List ℕ → List ℕ → Type 0
+Brings n piece text = (channels : List Configuration) (last : Option ℕ) → acts channels last text ≡ Some (Bytes n piece ∷ [])
+
+-- Of two scripts, one brings bytes of a connection in one line, the other in two lines next to each other, and else they have the same lines. They give the same
+-- text.
+abbrev pub PiecesLaw : Type 0
+PiecesLaw = (one two : List ℕ) (before later : List (List ℕ)) (whole first second : List ℕ) (n : ℕ) (a b : List ℕ)
+    → lines one ≡ before ++ whole ∷ later → lines two ≡ before ++ first ∷ second ∷ later
+    → Brings n (a ++ b) whole → Brings n a first → Brings n b second
+    → length whole ≤ longest_line → length first ≤ longest_line → length second ≤ longest_line
+    → script one ≡ script two

@@ -3,7 +3,7 @@
 //! draft-pantos-hls-rfc8216bis.
 #![tactic(auto)]
 
-ghost use Rattle.ll_script_laws.specs.Laws.{AtOnceLaw, LaterLaw, PlayersLaw, PublishedLaw};
+ghost use Rattle.ll_script_laws.specs.Laws.{AtOnceLaw, LaterLaw, PiecesLaw, PlayersLaw, PublishedLaw};
 
 /// For every input of `ll_replay::run`, at each moment of each of its channels: the settings are within their limits, and the items
 /// that the channel has accepted by then are such as the laws of `ll_laws` speak of. A moment is a prefix of the channel's events.
@@ -25,4 +25,10 @@ pub fn players_law()
 pub fn replies_law()
     ensures at_once { AtOnceLaw }
     ensures later { LaterLaw }
+{}
+
+/// Scripts that differ only in how the bytes of neighbouring `bytes` lines of one connection are cut give the same text: two such
+/// lines may be one, and so any number of them.
+pub fn pieces_law()
+    ensures { PiecesLaw }
 {}

@@ -1,7 +1,7 @@
 -- What the rooms answer to a reading is counted and spelled.
 use Rattle.ll_world.specs.World.{clock}
 use Rattle.ll_replay.proofs.HeardLemmas.{heard-result}
-use Rattle.ll_replay.proofs.SettingsLaws.{clock-keeps}
+use Rattle.ll_world.proofs.SettingsLaws.{clock-keeps}
 use Rattle.ll_replay.specs.contracts.driver.Driver.{the_view}
 use Rattle.ll_replay.proofs.driver.Driver.clock.Goals as goal
 

@@ -1,7 +1,7 @@
 -- What the rooms answer to an item is counted and spelled.
 use Rattle.ll_world.specs.World.{offer}
 use Rattle.ll_replay.proofs.HeardLemmas.{heard-result}
-use Rattle.ll_replay.proofs.SettingsLaws.{offer-keeps}
+use Rattle.ll_world.proofs.SettingsLaws.{offer-keeps}
 use Rattle.ll_replay.specs.contracts.driver.Driver.{the_view}
 use Rattle.ll_replay.proofs.driver.Driver.offer.Goals as goal
 

@@ -1,15 +1,20 @@
--- The first reply that is due is counted and spelled.
-use Rattle.ll_world.specs.World.{tick}
-use Rattle.ll_replay.proofs.HeardLemmas.{heard-result, still-result}
-use Rattle.ll_replay.proofs.SettingsLaws.{tick-keeps}
+-- The first reply that is due goes to its connection, or is counted and spelled.
+use Rattle.std.proofs.Common.{◌≡◌, Option, refl, subst, sym}
+use Rattle.ll_world.specs.Kept.{Leads, kept_world}
+use Rattle.ll_world.specs.World.{World, tick}
+use Rattle.ll_world.specs.declared.answer.Answer.{Answer}
+use Rattle.ll_replay.proofs.TurnLemmas.{tick-heard, tick-passed}
 use Rattle.ll_replay.specs.contracts.driver.Driver.{the_view}
 use Rattle.ll_replay.proofs.driver.Driver.tick.Goals as goal
 
-pub returns-clause-says : goal.returns-clause-says
-returns-clause-says c =
-    heard-result c.spell.result (the_view c.self.inside) _ c.count.new.self c.next_due-answer.new.self (tick c.args.place) c.next_due-answer.result
-    c.self.view_is (λ v. tick-keeps v c.args.place) c.next_due-answer.ensures.told c.count.ensures c.spell.ensures.lines
+pub returns-in-Ok-clause-says : goal.returns-in-Ok-clause-says
+returns-in-Ok-clause-says c =
+    tick-passed (the_view c.self.inside) _ c.next_due.new.self c.args.place c.next_due.result c.self.view_is c.next_due.ensures.told c.reply.result c.in-Ok.number c.in-Ok.reply _ c.reply.new.self
+    c.in-Ok.ensures.to refl c.reply.ensures.says
 
-pub returns-clause-still : goal.returns-clause-still
-returns-clause-still c =
-    still-result c.spell.result (the_view c.self.inside) _ (tick c.args.place) c.next_due-answer.result c.self.view_is c.next_due-answer.ensures.still c.spell.ensures.nothing
+pub returns-in-Err-clause-says : goal.returns-in-Err-clause-says
+returns-in-Err-clause-says c =
+    let held = c.next_due.new.self in
+    let leads =
+    subst (λ (a : Option Answer). (v : World) → (the_view c.self.inside).rooms ≡ kept_world v → Leads held a v (tick c.args.place v)) (sym c.in-Err.ensures.other.0) c.next_due.ensures.told in
+    tick-heard (the_view c.self.inside) _ held c.args.place c.in-Err.answer c.self.view_is leads c.in-Err.ensures.other.1 c.spell.result c.count.new.self c.count.ensures c.spell.ensures.lines
