@@ -27,6 +27,7 @@ bench: kit
 	@$(HERE)bench/replay.sh
 	@$(HERE)bench/apply.sh
 	@$(HERE)bench/waiting.sh
+	@$(HERE)bench/connections.sh
 
 .PHONY: kit
 kit:

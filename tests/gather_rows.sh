@@ -1,11 +1,17 @@
 #!/usr/bin/env bash
-# Puts all rows into a folder: those of tests/rows, the example of README.md, and those of long lines, which are made here.
+# Puts all rows into a folder: those of tests/rows, those of tests/connections with their bytes in one piece, the example of README.md,
+# and those of long lines, which are made here.
 # A row is its script NAME, its output NAME.stdout, and NAME.args where it has words beside `replay`.
 # tests/endings says how a row ends that doesn't end with status 0.
 set -eu
 cd "$(dirname "${BASH_SOURCE[0]}")"
 to=$1
 cp rows/* "$to"
+for output in connections/*.stdout; do
+    name=${output##*/}
+    cp "$output" "$to/$name"
+    ./hex_lines.sh whole <"${output%.stdout}" >"$to/${name%.stdout}"
+done
 cp ../examples/live.script "$to/live_example"
 cp ../examples/live.expected "$to/live_example.stdout"
 

@@ -1,0 +1,105 @@
+#!/usr/bin/env bash
+# mutated_heads.sh PROGRAM: makes a thousand mutated heads from those of tests/connections, feeds each to a connection of its own, in one
+# piece and cut in two, and lets the clock pass all time-outs. Both runs write the same; each writes whole responses alone, as many bytes as
+# it tells, none after `shut`; and another connection, fed before and after, gets its playlist. At least a tenth are answered with a
+# playlist, and a tenth are refused. The last line, `N passed, M failed`, counts heads, and a tenth that was missed.
+set -u
+export LC_ALL=C
+here=$(cd "$(dirname "${BASH_SOURCE[0]}")" && pwd) || exit 2
+program=$(realpath -- "$1")
+room=$(mktemp -d) || exit 2
+trap 'rm -rf "$room"' EXIT
+passed=0
+failed=0
+most=1000
+served=0
+refused=0
+RANDOM=1
+
+if [ ! -x "$program" ]; then
+    echo "$1 is no program"
+    echo "0 passed, 1 failed"
+    exit 1
+fi
+
+settings='channel cam target=4 part=1000000 skip=24 window=36 renditions=hi,lo first=0 start=0'
+heads=()
+while read -r _ _ hex; do
+    if [ "${#hex}" -le 400 ]; then
+        heads+=("$hex")
+    fi
+done < <(for row in "$here"/connections/*.stdout; do "$here/hex_lines.sh" whole <"${row%.stdout}"; done | grep '^bytes')
+plain=474554202f63616d2f68692f6c6976652e6d33753820485454502f312e310d0a486f73743a20610d0a0d0a
+
+# change: changes one or two bytes of hex: another value, one out, one twice, one of those that heads are made of, or its end cut off.
+special=(0d 0a 20 3a 00 2f 3f 26 3d 2c 09 7f c3 25 31 30)
+change() {
+    local times=$((1 + RANDOM % 2)) at
+    while [ "$times" -gt 0 ]; do
+        times=$((times - 1))
+        at=$((2 * (RANDOM % (${#hex} / 2))))
+        case $((RANDOM % 5)) in
+        0) printf -v hex '%s%02x%s' "${hex:0:at}" $((RANDOM % 256)) "${hex:at+2}" ;;
+        1) hex=${hex:0:at}${hex:at+2} ;;
+        2) hex=${hex:0:at+2}${hex:at:2}${hex:at+2} ;;
+        3) hex=${hex:0:at}${special[RANDOM % 16]}${hex:at+2} ;;
+        4) hex=${hex:0:at+2} ;;
+        esac
+        if [ -z "$hex" ]; then
+            hex=0d
+        fi
+    done
+}
+
+# script HEX..: connection 2 is served before and after the bytes of connection 1.
+script() {
+    printf '%s\nbytes 2 %s\n' "$settings" "$plain"
+    printf 'bytes 1 %s\n' "$@"
+    printf 'pub cam part hi 1000000 if\nclock 100000\nbytes 2 %s\n' "$plain"
+}
+
+# Whether the output is made of whole responses, with connection 2's as they should be: leaves in states those of connection 1.
+is_right() {
+    awk 'BEGIN { RS = "\n"; state = "" }
+    left > 0 {
+        left -= length($0) + 1
+        if (left < 0) exit bad = 1
+        if (first) { states[number] = states[number] " " $2; first = 0 }
+        next
+    }
+    $1 == "sent" && NF == 3 && !shut[$2] { number = $2; left = $3; first = 1; next }
+    $1 == "shut" && NF == 2 && $2 == 1 { shut[1] = 1; next }
+    $0 == "ok 1" { next }
+    { exit bad = 1 }
+    END { if (bad || left > 0 || states[2] != " 200 200") exit 1; print states[1] }' "$1"
+}
+
+for ((number = 0; number < most; number++)); do
+    hex=${heads[number % ${#heads[@]}]}
+    change
+    cut=$((2 * (RANDOM % (${#hex} / 2 + 1))))
+    script "$hex" >"$room/whole"
+    if [ "$cut" = 0 ] || [ "$cut" = "${#hex}" ]; then
+        cp "$room/whole" "$room/cut"
+    else
+        script "${hex:0:cut}" "${hex:cut}" >"$room/cut"
+    fi
+    if timeout 10 "$program" replay <"$room/whole" >"$room/stdout" && timeout 10 "$program" replay <"$room/cut" >"$room/again" &&
+        cmp -s "$room/stdout" "$room/again" && states=$(is_right "$room/stdout"); then
+        passed=$((passed + 1))
+        case "$states " in
+        *' 200 '*) served=$((served + 1)) ;;
+        *' 4'*) refused=$((refused + 1)) ;;
+        esac
+    else
+        failed=$((failed + 1))
+        echo "FAILED head $number: $hex, cut at $((cut / 2))"
+    fi
+done
+echo "$served served, $refused refused"
+if [ $((10 * served)) -lt "$most" ] || [ $((10 * refused)) -lt "$most" ]; then
+    echo "FAILED: less than a tenth ended one way"
+    failed=$((failed + 1))
+fi
+echo "$passed passed, $failed failed"
+[ "$failed" = 0 ]
