@@ -1,2 +1,3 @@
 pub mod WithinLimits
 pub mod RangeLines
+pub mod SameLemmas

@@ -2,3 +2,4 @@ pub mod Configured
 pub mod Items
 pub mod Names
 pub mod Settings
+pub mod Same

@@ -3,6 +3,10 @@ ghost use Rattle.ll_item.specs.Configured.{configured};
 ghost use Rattle.ll_item.specs.Settings.{settings_of, limit_broken, number_end, last_milli};
 ghost use Rattle.ll_item.specs.Names.{is_name, are_names};
 ghost use Rattle.ll_item.specs.Items.{rendition_named};
+ghost use Rattle.ll_item.specs.Same.{same_settings};
+ghost use Rattle.std.proofs.Common.{rules};
+ghost use Rattle.std.specs.Bool.{Decides};
+ghost use Rattle.std.specs.Cmp.Rules.{comparing};
 
 use crate::name;
 use ll_attr::Text;
@@ -61,8 +65,35 @@ pub struct Settings {
     renditions: Vec<Text>,
 }
 
+impl PartialEq for Settings {
+    ghost use Rattle.ll_item.specs.Same.{lists_of, same_settings};
+    ghost use Rattle.std.specs.Prelude.{bytes_eq};
+    ghost use Rattle.std.specs.Cmp.{on_per};
+    ghost use Rattle.std.specs.Cmp.Lexicographic.{lists_per};
+
+    ghost eq = { same_settings };
+
+    ghost laws = { on_per lists_of (lists_per {E = bytes_eq} (Prim.search (comparing, rules))) };
+
+    /// Whether the settings are equal.
+    #[tactic(auto, using(crate::proofs::SameLemmas::settings_decided))]
+    fn eq(&self, other: &Settings) -> bool
+        ensures value { result ≡ same_settings self.now other.now }
+        ensures equal { Decides result (self.now ≡ other.now) }
+    {
+        is_same(self, other)
+    }
+}
+
+/// Whether settings are the same, number by number and name by name.
+fn is_same(a: &Settings, b: &Settings) -> bool
+    ensures { result ≡ same_settings a.now b.now }
+{
+    a.channel == b.channel && a.numbers == b.numbers && a.renditions == b.renditions
+}
+
 /// The numbers among the settings.
-#[derive(Clone, Copy, Debug)]
+#[derive(Clone, Copy, Debug, PartialEq, Eq)]
 pub(crate) struct Numbers {
     pub(crate) target: u64,
     pub(crate) part_target: u64,
