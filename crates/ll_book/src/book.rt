@@ -1,9 +1,9 @@
-ghost use Rattle.std.specs.Prelude.{◌≡◌, ◌≤◌, ◌<◌, ◌++◌, ◌∷◌, [], None, Some, true, IfOk, IsErrOf, OnErr, OnOk, filter, is_some, length, map, position};
+ghost use Rattle.std.specs.Prelude.{◌≡◌, ◌≤◌, ◌<◌, ◌++◌, ◌∷◌, [], None, Some, true, IfOk, IsErrOf, OnErr, OnOk, filter, find, is_some, length, map, option_map, position};
 ghost use Rattle.std.specs.List.{list_any};
 ghost use Rattle.ll_verdict.specs.State.{is_waiting, waiting_in};
 ghost use Rattle.ll_verdict.specs.Verdict.{waiting_limit};
 ghost use Rattle.ll_book.specs.Release.{AreThose, expired, holders_of, is_over, released, takes};
-ghost use Rattle.ll_book.specs.Waiting.{AreBelow, found, has_ticket, is_ready_at, first_ready, reply_at, without, without_ready};
+ghost use Rattle.ll_book.specs.Waiting.{AreBelow, entry_in, found, has_ticket, is_ready, is_ready_at, first_ready, reply_at, without, without_ready};
 
 use crate::holders::Holders;
 use crate::pages::Pages;
@@ -100,6 +100,22 @@ impl Book {
     {
         let slot = self.slots.iter().find(|slot| slot.entry.ticket == ticket)?;
         Some(slot.entry)
+    }
+
+    /// The open request of this ticket, where its reply is there.
+    pub fn find_ready(&self, ticket: u64) -> Option<Entry>
+        ensures { result ≡ option_map entry_in (find (is_ready_at ticket) self.now) }
+    {
+        let slot = self.slots.iter().find(|slot| slot.entry.ticket == ticket
+            && slot.settled.is_some())?;
+        Some(slot.entry)
+    }
+
+    /// How many requests' replies are there.
+    pub fn ready(&self) -> usize
+        ensures { result ≡ length (filter is_ready self.now) }
+    {
+        ready(&self.slots)
     }
 
     /// The least ticket whose reply is there.
@@ -238,6 +254,19 @@ fn waiting(slots: &[Slot]) -> usize
     let mut count = 0;
     for slot in slots {
         if slot.settled.is_none() {
+            count += 1;
+        }
+    }
+    count
+}
+
+/// How many requests' replies are there.
+fn ready(slots: &[Slot]) -> usize
+    ensures { result ≡ length (filter is_ready slots.now) }
+{
+    let mut count = 0;
+    for slot in slots {
+        if slot.settled.is_some() {
             count += 1;
         }
     }

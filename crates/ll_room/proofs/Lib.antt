@@ -7,3 +7,4 @@ pub mod PublishLemmas
 pub mod SettleLemmas
 pub mod ShelfLemmas
 pub mod StandLemmas
+pub mod TicketLemmas

@@ -1,5 +1,6 @@
 -- What is kept of a channel in place of its events.
-use Rattle.std.specs.Prelude.{◌≡◌, ℕ, List, filter, length, map, not, ◌==◌}
+use Rattle.std.specs.Prelude.{◌≡◌, ℕ, List, [], ◌∷◌, Bool, false, filter, length, map, not, ◌==◌}
+use Rattle.std.specs.List.{list_any}
 use Rattle.ll_item.specs.Settings.{Configuration}
 use Rattle.ll_page.specs.View.{renditions}
 use Rattle.ll_page.specs.declared.rendition.Rendition.{Rendition}
@@ -54,3 +55,12 @@ tickets h = map ticket_in h.slots
 -- without this ticket
 abbrev pub less : ℕ → List ℕ → List ℕ
 less ticket list = filter (λ n. not (n == ticket)) list
+
+-- whether this ticket is among these
+abbrev pub among : ℕ → List ℕ → Bool
+among ticket list = list_any (λ n. n == ticket) list
+
+-- no number stands twice
+abbrev pub AreDistinct : List ℕ → Type 0
+AreDistinct [] = Unit
+AreDistinct (n ∷ more) = (among n more ≡ false) × AreDistinct more

@@ -16,7 +16,7 @@ mod stamped;
 
 pub use asked::{Asked, Closed, Collected};
 pub use fault::{AskFault, ClockFault};
-pub use parked::Parked;
+pub use parked::{Parked, Stored};
 pub use room::Room;
 pub use shelf::Shelf;
 pub use stamped::{Stamp, Stamped};

@@ -61,6 +61,17 @@ impl Parked {
         } = self;
     }
 
+    /// The same value in a form that can lie under a lock.
+    pub fn store(self) -> Stored
+        ensures { result ≡ self }
+    {
+        let Parked { channel, ticket } = self;
+        Stored {
+            room: channel,
+            number: ticket,
+        }
+    }
+
     /// Gives it back to its room, where its request is no longer open; any other is handed back.
     pub fn return_to(self, room: &Room) -> Result<(), Parked>
         ensures spent { OnOk result ((self.channel ≡ room.now.channel) × (is_open room.now self.ticket ≡ false)) }
@@ -71,5 +82,37 @@ impl Parked {
         }
         self.spend();
         Ok(())
+    }
+}
+
+/// A [`Parked`] in a form that can lie under a lock: a guard takes no value whose drop has a premise. It has no drop at all, so that a
+/// leak is refused by the compiler, and it is taken out again before it is used.
+pub struct Stored {
+    room: u64,
+    number: u64,
+}
+
+impl Model for Stored {
+    ghost use Rattle.ll_room.specs.Ticket.{Ticket};
+
+    ghost Value = { Ticket };
+
+    ghost view = { λ p. record { channel = p.room; ticket = p.number } };
+}
+
+impl Stored {
+    /// The number of the request in its room, from 1.
+    pub fn ticket(&self) -> u64
+        ensures { result ≡ self.now.ticket }
+    {
+        self.number
+    }
+
+    /// The value that collects its reply or closes it.
+    pub fn into_parked(self) -> Parked
+        ensures { result ≡ self }
+    {
+        let Stored { room, number } = self;
+        Parked::new(room, number)
     }
 }

@@ -1,5 +1,5 @@
 //! What a room keeps of its channel, and what it tells of it.
-ghost use Rattle.std.specs.Prelude.{◌≡◌, ◌++◌, [], IfOk};
+ghost use Rattle.std.specs.Prelude.{◌≡◌, ◌++◌, [], IfOk, filter, find, length, option_map};
 ghost use Rattle.ll_page.specs.View as view;
 ghost use Rattle.ll_book.specs.Waiting as waiting;
 ghost use Rattle.ll_verdict.specs.State.{state_of};
@@ -11,6 +11,7 @@ use ll_book::Book;
 use ll_item::Settings;
 use ll_page::{Rendition, Shown};
 use ll_range::Ranges;
+use ll_verdict::Entry;
 use ll_window::Window;
 use std::alloc::{AllocError, Global};
 use std::marker::Model;
@@ -112,6 +113,27 @@ impl Room {
         ensures { result ≡ self.now.asks }
     {
         self.asks
+    }
+
+    /// The request that is open under this ticket, where its reply is there: what stands for it can then be collected.
+    pub fn ready_at(&self, ticket: u64) -> Option<Entry>
+        ensures { result ≡ option_map waiting.entry_in (find (waiting.is_ready_at ticket) self.now.slots) }
+    {
+        self.book.find_ready(ticket)
+    }
+
+    /// How many requests' replies are there, and weren't collected.
+    pub fn ready(&self) -> usize
+        ensures { result ≡ length (filter waiting.is_ready self.now.slots) }
+    {
+        self.book.ready()
+    }
+
+    /// The request that is open under this ticket: it waits, or its reply does.
+    pub fn open(&self, ticket: u64) -> Option<Entry>
+        ensures { result ≡ waiting.found ticket self.now.slots }
+    {
+        self.book.find(ticket)
     }
 
     /// The least ticket whose reply is there.

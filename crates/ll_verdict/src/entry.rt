@@ -2,7 +2,7 @@ use crate::reply::Settled;
 use crate::wanted::Wanted;
 
 /// A request that had to wait.
-#[derive(Clone, Copy)]
+#[derive(Clone, Copy, PartialEq, Eq)]
 pub struct Entry {
     /// Its number among the requests of its channel, from 1.
     pub ticket: u64,

@@ -2,7 +2,7 @@ use ll_directive::Awaited;
 use ll_page::Form;
 
 /// What a request asks of one rendition of a channel.
-#[derive(Clone, Copy)]
+#[derive(Clone, Copy, PartialEq, Eq)]
 pub struct Wanted {
     /// The index of the rendition.
     pub rendition: usize,

@@ -5,11 +5,12 @@ use Rattle.std.proofs.lemmas.Bool.Decides.{nat_tests}
 use Rattle.ll_book.specs.Waiting.{has_ticket, ticket_in}
 use Rattle.ll_verdict.specs.declared.entry.Slot.{Slot}
 use Rattle.ll_room.specs.Answers.{is_open}
-use Rattle.ll_room.specs.Home.{Home, less, tickets}
+use Rattle.ll_room.proofs.TicketLemmas.{absent, distinct_less, distinct_more, newest_is_new}
+use Rattle.ll_room.specs.Home.{AreDistinct, Home, among, less, tickets}
 use Rattle.ll_held.specs.Waits.{under, without}
 use Rattle.ll_held.specs.declared.wait.Wait.{Wait}
 use Rattle.ll_world.specs.World.{Channel}
-use Rattle.ll_world.specs.Kept.{AreDistinct, AreTied, homes_from, is_in, open_in, ticket_of, tickets_at}
+use Rattle.ll_world.specs.Kept.{AreTied, homes_from, is_in, open_in, ticket_of, tickets_at}
 
 pub some_is : {X : Type 0} (x y : X) → Some x ≡ Some y → x ≡ y
 some_is x y h = ap (λ o. elim o [ None ↦ x | Some z ↦ z ]) h
@@ -59,69 +60,6 @@ pub has_room : (rooms : List Home) (waits : List Wait) (i t : ℕ) → AreTied r
 has_room rooms waits i t tied at h =
     true≢false (sym h ∙ find_any i t waits ∙ ap (list_any (λ n. n == t)) (tied.opened i ∙ ap open_in at))
 
--- ---- numbers that stand once
-
-abbrev holds : ℕ → List ℕ → Bool
-holds n ns = list_any (λ m. m == n) ns
-
-absent_by : (t m : ℕ) (ms : List ℕ) (b : Bool) → (b || holds t ms) ≡ false → (holds t ms ≡ false → less t ms ≡ ms) → cond (not b) (m ∷ less t ms) (less t ms) ≡ m ∷ ms
-absent_by t m ms true h ih = absurd (true≢false h)
-absent_by t m ms false h ih = ap (λ ns. m ∷ ns) (ih h)
-
--- where a number isn't there, nothing leaves
-absent : (t : ℕ) (ns : List ℕ) → holds t ns ≡ false → less t ns ≡ ns
-absent t [] h = refl
-absent t (m ∷ ms) h = absent_by t m ms (m == t) h (absent t ms)
-
-gone_by : (t m : ℕ) (ms : List ℕ) (b : Bool) → (m == t) ≡ b → holds t (less t ms) ≡ false → holds t (cond (not b) (m ∷ less t ms) (less t ms)) ≡ false
-gone_by t m ms true e ih = ih
-gone_by t m ms false e ih = ap (λ b. b || holds t (less t ms)) e ∙ ih
-
--- a number that has left isn't there
-left_is_gone : (t : ℕ) (ns : List ℕ) → holds t (less t ns) ≡ false
-left_is_gone t [] = refl
-left_is_gone t (m ∷ ms) = gone_by t m ms (m == t) refl (left_is_gone t ms)
-
--- a newest number that leaves the old ones is none of them
-newest_is_new : (t : ℕ) (ns : List ℕ) → less t (ns ++ t ∷ []) ≡ ns → holds t ns ≡ false
-newest_is_new t ns h = ap (holds t) (sym h) ∙ left_is_gone t (ns ++ t ∷ [])
-
-or_left : (a b : Bool) → (a || b) ≡ false → a ≡ false
-or_left true b h = h
-or_left false b h = refl
-
-or_right : (a b : Bool) → (a || b) ≡ false → b ≡ false
-or_right true b h = absurd (true≢false h)
-or_right false b h = h
-
-or_both : (a b : Bool) → a ≡ false → b ≡ false → (a || b) ≡ false
-or_both a b h k = ap₂ (λ a b. a || b) h k
-
-fewer_by : (n t m : ℕ) (ms : List ℕ) (b : Bool) → ((m == n) || holds n ms) ≡ false → holds n (less t ms) ≡ false → holds n (cond b (m ∷ less t ms) (less t ms)) ≡ false
-fewer_by n t m ms true h ih = or_both (m == n) (holds n (less t ms)) (or_left (m == n) (holds n ms) h) ih
-fewer_by n t m ms false h ih = ih
-
-fewer_hold : (n t : ℕ) (ns : List ℕ) → holds n ns ≡ false → holds n (less t ns) ≡ false
-fewer_hold n t [] h = refl
-fewer_hold n t (m ∷ ms) h = fewer_by n t m ms (not (m == t)) h (fewer_hold n t ms (or_right (m == n) (holds n ms) h))
-
-distinct_by : (t m : ℕ) (ms : List ℕ) (b : Bool) → holds m ms ≡ false → AreDistinct (less t ms) → AreDistinct (cond b (m ∷ less t ms) (less t ms))
-distinct_by t m ms true h ih = (fewer_hold m t ms h, ih)
-distinct_by t m ms false h ih = ih
-
-distinct_less : (t : ℕ) (ns : List ℕ) → AreDistinct ns → AreDistinct (less t ns)
-distinct_less t [] d = tt
-distinct_less t (m ∷ ms) d = distinct_by t m ms (not (m == t)) d.0 (distinct_less t ms d.1)
-
-more_hold : (n t : ℕ) (ns : List ℕ) → (t == n) ≡ false → holds n ns ≡ false → holds n (ns ++ t ∷ []) ≡ false
-more_hold n t [] e h = or_both (t == n) false e refl
-more_hold n t (m ∷ ms) e h = or_both (m == n) (holds n (ms ++ t ∷ [])) (or_left (m == n) (holds n ms) h) (more_hold n t ms e (or_right (m == n) (holds n ms) h))
-
-distinct_more : (t : ℕ) (ns : List ℕ) → AreDistinct ns → holds t ns ≡ false → AreDistinct (ns ++ t ∷ [])
-distinct_more t [] d h = (refl, tt)
-distinct_more t (m ∷ ms) d h =
-    (more_hold m t ms (turn t m (or_left (m == t) (holds t ms) h)) d.0, distinct_more t ms d.1 (or_right (m == t) (holds t ms) h))
-
 -- ---- one leaves
 
 drop_by : (t : ℕ) (x : Wait) (a b : Bool) (xs ys : List Wait) (place : ℕ) → (x.place == place) ≡ a → (x.ticket == t) ≡ b
@@ -130,7 +68,7 @@ drop_by : (t : ℕ) (x : Wait) (a b : Bool) (xs ys : List Wait) (place : ℕ) �
     → tickets_at place (cond (a && b) xs (x ∷ ys)) ≡ less t (map ticket_of (cond a (x ∷ filter (is_in place) xs) (filter (is_in place) xs)))
 drop_by t x true true xs ys place e f d ih =
     sym (ap (λ b. cond (not b) (x.ticket ∷ less t (tickets_at place xs)) (less t (tickets_at place xs))) f
-    ∙ absent t (tickets_at place xs) (ap (λ n. holds n (tickets_at place xs)) (sym (equal x.ticket t f)) ∙ d.0))
+    ∙ absent t (tickets_at place xs) (ap (λ n. among n (tickets_at place xs)) (sym (equal x.ticket t f)) ∙ d.0))
 drop_by t x true false xs ys place e f d ih =
     ap (λ b. map ticket_of (cond b (x ∷ filter (is_in place) ys) (filter (is_in place) ys))) e ∙ ap (λ ns. x.ticket ∷ ns) (ih d.1)
     ∙ ap (λ b. cond (not b) (x.ticket ∷ less t (tickets_at place xs)) (less t (tickets_at place xs))) (sym f)

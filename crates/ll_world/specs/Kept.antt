@@ -1,7 +1,6 @@
 -- What is kept of the channels of a script in place of all events.
 use Rattle.std.specs.Prelude.{◌≡◌, ℕ, ◌+◌, ◌==◌, List, [], ◌∷◌, ◌++◌, Bool, false, Option, Some, None, filter, map, slice_get}
-use Rattle.std.specs.List.{list_any}
-use Rattle.ll_room.specs.Home.{Home, home, tickets}
+use Rattle.ll_room.specs.Home.{AreDistinct, Home, home, tickets}
 use Rattle.ll_verdict.specs.State.{state_of}
 use Rattle.ll_held.specs.declared.wait.Wait.{Wait}
 use Rattle.ll_world.specs.World.{Channel, World, event_count}
@@ -53,11 +52,6 @@ tickets_at place waits = map ticket_of (filter (is_in place) waits)
 abbrev pub open_in : Option Home → List ℕ
 open_in None = []
 open_in (Some h) = tickets h
-
--- no number stands twice
-abbrev pub AreDistinct : List ℕ → Type 0
-AreDistinct [] = Unit
-AreDistinct (n ∷ more) = (list_any (λ m. m == n) more ≡ false) × AreDistinct more
 
 -- for private contracts: each room stands for the events of a channel, its number is its place, and its open requests are those that
 -- wait there, in the same order
