@@ -1,0 +1,4 @@
+mod CutLemmas
+mod FrontLemmas
+mod StreamLaws
+mod TextLemmas

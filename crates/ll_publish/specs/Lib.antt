@@ -1,0 +1,7 @@
+pub mod Laws
+pub mod Line
+pub mod Lines
+pub mod Meaning
+pub mod Past
+pub mod Pieces
+pub mod Refusals

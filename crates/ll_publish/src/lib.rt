@@ -1,0 +1,14 @@
+//! A publisher's stream: its lines, each of which announces an item of a channel, and the lines that answer them.
+#![tactic(auto)]
+
+mod feed;
+mod laws;
+mod line;
+mod refusal;
+mod reply;
+
+pub use feed::Feed;
+pub use laws::feed_law;
+pub use line::Line;
+pub use refusal::Refusal;
+pub use reply::{no_line, ok_line, refusal_line, reply_text};
