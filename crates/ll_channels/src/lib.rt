@@ -1,0 +1,6 @@
+//! The channels that there are, each found by its name.
+#![tactic(auto)]
+
+mod declared;
+
+pub use declared::Declared;
