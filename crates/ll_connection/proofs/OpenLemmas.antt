@@ -11,7 +11,7 @@ use Rattle.ll_held.specs.declared.owner.Owner.{Owner}
 use Rattle.ll_held.specs.declared.owner.Owner.TheVariants.{Connection}
 use Rattle.ll_item.specs.Settings.{Configuration}
 use Rattle.ll_script.specs.Answers.{sent_line}
-use Rattle.ll_script.specs.Lines.{channel_of_name}
+use Rattle.ll_channels.specs.Channels.{channel_of_name}
 use Rattle.ll_session.specs.Output.{first_length}
 use Rattle.ll_session.specs.Past.{overflows_by}
 use Rattle.ll_session.specs.Requests.{wanted}

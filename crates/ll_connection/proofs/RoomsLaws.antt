@@ -4,7 +4,7 @@ use Rattle.ll_directive.specs.Targets.{WantValue}
 use Rattle.ll_held.specs.declared.owner.Owner.{Owner}
 use Rattle.ll_held.specs.declared.owner.Owner.TheVariants as owner
 use Rattle.ll_item.specs.Settings.{Configuration}
-use Rattle.ll_script.specs.Lines.{channel_of_name}
+use Rattle.ll_channels.specs.Channels.{channel_of_name}
 use Rattle.ll_session.specs.Past.{overflows}
 use Rattle.ll_session.specs.Talk.{SessionValue, fresh, next_want, pulled, replied}
 use Rattle.ll_verdict.specs.declared.reply.Reply.{Reply}

@@ -7,9 +7,10 @@ ghost use Rattle.ll_connection.specs.Visit as visit;
 ghost use Rattle.ll_connection.specs.Stands.{AreTold, IsStill, IsToldVisit, IsVisit};
 
 use crate::sent::Sent;
+use ll_channels::Declared;
 use ll_directive::{TargetFault, Want};
 use ll_held::Owner;
-use ll_script::{Declared, push_sent};
+use ll_script::push_sent;
 use ll_session::Session;
 use ll_verdict::Reply;
 use ll_wire::{Answer, Unavailable};

@@ -247,6 +247,7 @@ fn refusals_have_codes_and_names(rt: HostRuntime) {
         (Refusal::Memory, 12, "Memory"),
         (Refusal::BadLine, 13, "BadLine"),
         (Refusal::UnknownChannel, 14, "UnknownChannel"),
+        (Refusal::LineTooLong, 15, "LineTooLong"),
     ];
     for (refusal, code, name) in cases {
         assert_eq!(rt; (refusal.code(), refusal.name()), (code, name));

@@ -1,5 +1,5 @@
 -- What a driver says of a step of the world, and of one step after another.
-use Rattle.std.proofs.Common.{◌≡◌, ℕ, zero, suc, ◌+◌, ◌-◌, ◌≤◌, List, [], ◌∷◌, ◌++◌, Option, Some, None, refl, ap, sym, ◌∙◌, subst, append_assoc, append-nil, arith}
+use Rattle.std.proofs.Common.{◌≡◌, ℕ, zero, suc, ◌+◌, ◌-◌, ◌≤◌, List, [], ◌++◌, Option, None, ap, sym, ◌∙◌, subst, append_assoc, append-nil, arith}
 use Rattle.std.specs.Prelude.{IfErr, OnErr, OnOk, Result, Ok, Err}
 use Rattle.std.specs.declared.alloc.Global.{Global}
 use Rattle.std.specs.declared.vec.Vec.{Vec}
@@ -12,7 +12,7 @@ use Rattle.ll_replay.specs.Stream.{AppendsPrefix, StopsBetween}
 use Rattle.ll_replay.specs.World.{World, tick}
 use Rattle.ll_replay.specs.declared.outcome.RunFault.{RunFault}
 use Rattle.ll_replay.specs.declared.outcome.RunFault.TheVariants as fault
-use Rattle.ll_replay.proofs.WorldLaws.{Follows, follows_both, ticks-follow}
+use Rattle.ll_replay.proofs.WorldLaws.{Follows}
 use Rattle.ll_replay.proofs.WriteLemmas.{AppendsPrefix-after, AppendsPrefix-longer}
 
 -- a step whose answer was written

@@ -2,9 +2,10 @@
 use Rattle.std.proofs.Common.{◌≡◌, ◌≢◌, ℕ, ◌+◌, ◌==◌, ◌<◌, ◌≤◌, List, [], ◌∷◌, ◌++◌, Bool, true, false, refl, ap, ap₂, ◌∙◌, sym, length, map, arith, append_assoc, append-nil, length-append, cond, if◌then◌else◌, take, ◌-◌, slice_index}
 use Rattle.std.proofs.lemmas.Bool.Decides.{nat_tests}
 use Rattle.std.proofs.lemmas.List.{map_push, length-take}
-use Rattle.std.specs.List.{slice_split, onto_first}
+use Rattle.std.specs.List.{onto_first}
 use Rattle.std.specs.Str.Lines.{lines, lines_of_parts, strip_carriage_return}
-use Rattle.ll_replay.specs.Stream.{ended_lines, ended_pieces, last_piece, open_line}
+use Rattle.ll_publish.specs.Pieces.{ended_pieces, last_piece, pieces}
+use Rattle.ll_replay.specs.Stream.{ended_lines, open_line}
 
 -- whole lines with their CR, and the bytes after the last of them
 record Split : Type 0 where
@@ -20,18 +21,18 @@ abbrev split : List ℕ → Split
 split [] = record { whole = []; rest = [] }
 split (b ∷ bs) = put_by (b == 10) b (split bs).whole (split bs).rest
 
-abbrev pieces : Split → List (List ℕ)
-pieces s = s.whole ++ s.rest ∷ []
+abbrev parts : Split → List (List ℕ)
+parts s = s.whole ++ s.rest ∷ []
 
-pieces-put : (a : Bool) (b : ℕ) (whole : List (List ℕ)) (rest : List ℕ)
-    → cond a ([] ∷ (whole ++ rest ∷ [])) (onto_first b (whole ++ rest ∷ [])) ≡ pieces (put_by a b whole rest)
-pieces-put true b whole rest = refl
-pieces-put false b [] rest = refl
-pieces-put false b (l ∷ whole) rest = refl
+parts-put : (a : Bool) (b : ℕ) (whole : List (List ℕ)) (rest : List ℕ)
+    → cond a ([] ∷ (whole ++ rest ∷ [])) (onto_first b (whole ++ rest ∷ [])) ≡ parts (put_by a b whole rest)
+parts-put true b whole rest = refl
+parts-put false b [] rest = refl
+parts-put false b (l ∷ whole) rest = refl
 
-slice_split-is : (bs : List ℕ) → slice_split (λ b. b == 10) bs ≡ pieces (split bs)
-slice_split-is [] = refl
-slice_split-is (b ∷ bs) = ap (λ ps. cond (b == 10) ([] ∷ ps) (onto_first b ps)) (slice_split-is bs) ∙ pieces-put (b == 10) b (split bs).whole (split bs).rest
+pieces-are : (bs : List ℕ) → pieces bs ≡ parts (split bs)
+pieces-are [] = refl
+pieces-are (b ∷ bs) = ap (λ ps. cond (b == 10) ([] ∷ ps) (onto_first b ps)) (pieces-are bs) ∙ parts-put (b == 10) b (split bs).whole (split bs).rest
 
 ended_pieces-is : (whole : List (List ℕ)) (rest : List ℕ) → ended_pieces (whole ++ rest ∷ []) ≡ map strip_carriage_return whole
 ended_pieces-is [] rest = refl
@@ -53,14 +54,14 @@ lines_of_parts-is (l ∷ []) rest = refl
 lines_of_parts-is (l ∷ m ∷ whole) rest = ap (λ ls. strip_carriage_return l ∷ ls) (lines_of_parts-is (m ∷ whole) rest)
 
 ended_lines-is : (bs : List ℕ) → ended_lines bs ≡ map strip_carriage_return (split bs).whole
-ended_lines-is bs = ap ended_pieces (slice_split-is bs) ∙ ended_pieces-is (split bs).whole (split bs).rest
+ended_lines-is bs = ap ended_pieces (pieces-are bs) ∙ ended_pieces-is (split bs).whole (split bs).rest
 
 open_line-is : (bs : List ℕ) → open_line bs ≡ (split bs).rest
-open_line-is bs = ap last_piece (slice_split-is bs) ∙ last_piece-is (split bs).whole (split bs).rest
+open_line-is bs = ap last_piece (pieces-are bs) ∙ last_piece-is (split bs).whole (split bs).rest
 
 lines-is : (bs : List ℕ) → lines bs ≡ ended_lines bs ++ last_line (open_line bs)
 lines-is bs =
-    ap lines_of_parts (slice_split-is bs) ∙ lines_of_parts-is (split bs).whole (split bs).rest
+    ap lines_of_parts (pieces-are bs) ∙ lines_of_parts-is (split bs).whole (split bs).rest
     ∙ ap₂ (λ ls r. ls ++ last_line r) (sym (ended_lines-is bs)) (sym (open_line-is bs))
 
 -- one more byte, which ends a line or doesn't

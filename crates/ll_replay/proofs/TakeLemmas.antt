@@ -1,5 +1,5 @@
 -- What one line makes of a driver that stands for a world, by what the line means.
-use Rattle.std.proofs.Common.{◌≡◌, ℕ, ◌+◌, ◌<◌, ◌≤◌, List, [], ◌∷◌, Option, Some, None, refl, ap, ap₂, sym, ◌∙◌, subst, length, Result, Ok, Err, OnOk, IfErr, IsSome}
+use Rattle.std.proofs.Common.{◌≡◌, ℕ, ◌+◌, ◌<◌, ◌≤◌, List, Option, Some, None, refl, ap, sym, ◌∙◌, subst, length, Result, Ok, Err, OnOk, IfErr, IsSome}
 use Rattle.std.specs.Io.KnownBytes.{Appends}
 use Rattle.ll_script.specs.Lines.{acts}
 use Rattle.ll_script.specs.declared.act.Act.{Act}

@@ -1,5 +1,5 @@
 -- What comes to a connection, as a driver keeps and writes it.
-use Rattle.std.proofs.Common.{◌≡◌, ℕ, ◌+◌, List, [], ◌∷◌, ◌++◌, Option, Some, None, refl, ap, ap₂, sym, ◌∙◌, append-nil, append_assoc, min, subst, arith, fold}
+use Rattle.std.proofs.Common.{◌≡◌, ℕ, ◌+◌, List, [], ◌++◌, Option, Some, None, refl, ap, ap₂, sym, ◌∙◌, append-nil, min, subst, arith, fold}
 use Rattle.std.specs.Prelude.{flat_map, Result, Ok, Err, IfOk}
 use Rattle.std.specs.declared.alloc.Global.{Global}
 use Rattle.std.specs.declared.vec.Vec.{Vec}
@@ -9,7 +9,7 @@ use Rattle.ll_connection.specs.declared.sent.Sent.{Sent}
 use Rattle.ll_connection.proofs.RoomsLaws as laws
 use Rattle.ll_directive.specs.Targets.{WantValue}
 use Rattle.ll_held.specs.declared.owner.Owner.{Owner}
-use Rattle.ll_held.specs.declared.owner.Owner.TheVariants.{Get, Connection}
+use Rattle.ll_held.specs.declared.owner.Owner.TheVariants.{Connection}
 use Rattle.ll_item.specs.Settings.{Configuration}
 use Rattle.ll_session.specs.Talk.{SessionValue}
 use Rattle.ll_verdict.specs.declared.reply.Reply.{Reply}

@@ -9,7 +9,8 @@ use Rattle.ll_time.specs.Times.{time_of, digits_2, digits_3, digits_4}
 use Rattle.ll_item.specs.Settings.{configuration_of}
 use Rattle.ll_line.specs.Text.{line_text}
 use Rattle.ll_line.specs.Uris.{segment_uri, part_uri, map_uri, report_uri}
-use Rattle.ll_script.specs.Answers.{named_reply, ok_line, refusal_line, text_reply}
+use Rattle.ll_publish.specs.Refusals.{ok_line, refusal_line}
+use Rattle.ll_script.specs.Answers.{named_reply, text_reply}
 use Rattle.ll_verdict.specs.Accepted.{rendition_refusal}
 use Rattle.ll_verdict.specs.Verdict.{is_there}
 use Rattle.form_urlencoded.specs.Form.{raw_pairs, split}

@@ -1,8 +1,8 @@
 -- A script as a stream of bytes. Its lines end in LF or CR LF; the last end may be missing.
-use Rattle.std.specs.Prelude.{◌≡◌, ◌≤◌, ◌+◌, ℕ, ◌==◌, List, [], ◌∷◌, ◌++◌, Option, Some, None, fold, length}
+use Rattle.std.specs.Prelude.{◌≡◌, ◌≤◌, ◌+◌, ℕ, List, ◌∷◌, ◌++◌, Option, Some, None, fold, length}
 use Rattle.std.specs.Io.KnownBytes.{Appends, Consumes}
-use Rattle.std.specs.List.{slice_split}
-use Rattle.std.specs.Str.Lines.{lines, strip_carriage_return}
+use Rattle.std.specs.Str.Lines.{lines}
+use Rattle.ll_publish.specs.Pieces.{ended_pieces, last_piece, pieces}
 use Rattle.ll_replay.specs.declared.outcome.Summary.{Summary}
 use Rattle.ll_replay.specs.World.{World, Ending, start, line, longest_line, summary_of}
 
@@ -41,28 +41,17 @@ StopsForMemory base written input =
     (before : List (List ℕ)) × (text : List ℕ) × (later : List (List ℕ)) × (lines input ≡ before ++ text ∷ later)
     × StopsBetween base written (fold line start before) (line (fold line start before) text)
 
--- of the pieces between LFs, those that LF ends, as lines
-abbrev pub ended_pieces : List (List ℕ) → List (List ℕ)
-ended_pieces [] = []
-ended_pieces (piece ∷ []) = []
-ended_pieces (piece ∷ next ∷ more) = strip_carriage_return piece ∷ ended_pieces (next ∷ more)
-
 -- the lines of a script that LF ends
 abbrev pub ended_lines : List ℕ → List (List ℕ)
-ended_lines bytes = ended_pieces (slice_split (λ b. b == 10) bytes)
+ended_lines bytes = ended_pieces (pieces bytes)
 
 -- what a script comes to with those lines
 abbrev pub world_so_far : List ℕ → World
 world_so_far bytes = fold line start (ended_lines bytes)
 
-abbrev pub last_piece : List (List ℕ) → List ℕ
-last_piece [] = []
-last_piece (piece ∷ []) = piece
-last_piece (piece ∷ next ∷ more) = last_piece (next ∷ more)
-
 -- the bytes after the last LF
 abbrev pub open_line : List ℕ → List ℕ
-open_line bytes = last_piece (slice_split (λ b. b == 10) bytes)
+open_line bytes = last_piece (pieces bytes)
 
 -- a run stopped after some bytes, of which each line that LF ends was run since base; none of these ends the script, and the
 -- line after them isn't longer than the longest with its CR

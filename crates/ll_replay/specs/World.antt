@@ -1,12 +1,12 @@
 -- What a script comes to, line by line.
-use Rattle.std.specs.Prelude.{ℕ, ◌+◌, List, [], ◌∷◌, ◌++◌, Bool, true, false, Option, Some, None, length, filter, flat_map, fold, min, nat_lt}
+use Rattle.std.specs.Prelude.{ℕ, ◌+◌, List, [], ◌++◌, Bool, true, false, Option, Some, None, length, filter, flat_map, fold, min, nat_lt}
 use Rattle.ll_connection.specs.Turn as connection
 use Rattle.ll_held.specs.declared.owner.Owner.{Owner}
 use Rattle.ll_held.specs.declared.owner.Owner.TheVariants.{Get, Connection}
-use Rattle.ll_item.specs.Settings.{Configuration}
 use Rattle.ll_room.specs.declared.fault.ClockFault.{ClockFault}
 use Rattle.ll_room.specs.declared.fault.ClockFault.TheVariants as fault
-use Rattle.ll_script.specs.Answers.{clock_line, fault_line, no_line, ok_line, refusal_of, reply_lines, unasked_line}
+use Rattle.ll_publish.specs.Refusals.{no_line, ok_line, refusal_of}
+use Rattle.ll_script.specs.Answers.{clock_line, fault_line, reply_lines, unasked_line}
 use Rattle.ll_script.specs.Lines.{acts}
 use Rattle.ll_script.specs.declared.act.Act.{Act}
 use Rattle.ll_script.specs.declared.act.Act.TheVariants.{Declare, Offer, Refuse, Ask, Answer, Close, Clock, RefuseClock, Bytes, Drop}

@@ -13,14 +13,16 @@ ghost use Rattle.ll_replay.specs.Stream.{AppendsPrefix};
 
 use crate::device::{Failed, Writer, write_all};
 use crate::outcome::{RunFault, Summary};
+use ll_channels::Declared;
 use ll_connection::{Connections, Sent};
 use ll_directive::{TargetFault, Want};
 use ll_held::Owner;
 use ll_item::{Item, Settings};
+use ll_publish::{Refusal, no_line, ok_line};
 use ll_room::ClockFault;
 use ll_script::{
-    Act, Acts, AskRefusal, ClockRefusal, Declared, LineFault, Refusal, clock_line, fault_line,
-    no_line, ok_line, read_line, reply_lines, unasked_line,
+    Act, Acts, AskRefusal, ClockRefusal, LineFault, clock_line, fault_line, read_line, reply_lines,
+    unasked_line,
 };
 use ll_verdict::Reply;
 use ll_world::{Answer, Rooms};

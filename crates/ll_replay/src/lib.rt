@@ -11,6 +11,6 @@ mod stream;
 pub use counted::{CountedReader, CountedWriter, Uses};
 pub use device::{Failed, Reader, Writer};
 pub use laws::worked_script;
-pub use ll_script::Refusal;
+pub use ll_publish::Refusal;
 pub use outcome::{RunFault, Summary};
 pub use stream::run;

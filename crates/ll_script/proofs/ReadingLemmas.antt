@@ -1,48 +1,14 @@
 -- What a line means, from where it is cut and what it begins with.
-use Rattle.std.proofs.Common.{◌≡◌, ◌≢◌, ℕ, ◌<◌, ◌==◌, List, [], ◌∷◌, ◌++◌, Bool, true, false, Option, Some, None, is_some, MatchOption, Bor, refl, ap, ap₂, sym, subst, ◌∙◌, length, drop, arith, lit<, nat_eq, slice_index}
+use Rattle.std.proofs.Common.{◌≡◌, ◌≢◌, ℕ, ◌==◌, List, [], ◌∷◌, Bool, true, false, Option, Some, None, is_some, MatchOption, Bor, refl, ap, ◌∙◌, length, arith}
 use Rattle.std.specs.Prelude.{codes}
-use Rattle.std.proofs.lemmas.Bool.Decides.{Decides-eqb, nat_tests}
-use Rattle.std.proofs.lemmas.List.Elements.{All-from_get_or}
-use Rattle.std.proofs.lemmas.List.Folds.{list_any_none, list_any_at}
 use Rattle.std.proofs.lemmas.List.Splits.{length-slice_split}
-use Rattle.std.proofs.lemmas.List.Sums.{fails_before_first, passes_at_first}
-use Rattle.std.proofs.lemmas.Slice.Eq.{starts_is}
-use Rattle.std.proofs.lemmas.Str.{IsUtf8-append, IsUtf8-nil, IsUtf8-from_is_utf8, is_utf8-from_IsUtf8}
-use Rattle.std.proofs.lemmas.Str.Pattern.{IsSplitOnceResult, split_once_first}
-use Rattle.std.specs.List.{All, list_any, position_or_len, starts_with}
-use Rattle.std.specs.Str.{IsUtf8, is_utf8, chars}
-use lib.Utf8.{encode}
+use Rattle.std.proofs.lemmas.Str.{IsUtf8-from_is_utf8, is_utf8-from_IsUtf8}
+use Rattle.std.specs.Str.{IsUtf8, is_utf8}
 use Rattle.ll_attr.specs.Numbers.{number_in}
 use Rattle.ll_attr.specs.Words.{after, parts_at, words}
 use Rattle.ll_item.specs.Settings.{Configuration, settings_in}
-use Rattle.std.specs.List.{list_any}
 use Rattle.ll_script.specs.Hex.{bytes_in_hex}
-use Rattle.ll_script.specs.Lines.{acts, alone, begun, bytes_by, bytes_of, channel_of_name, declaration, get_of, kinds, offer, offer_to}
-use Rattle.ll_script.specs.declared.act.Act.TheVariants.{Refuse}
-use Rattle.ll_script.specs.declared.refusal.Refusal.TheVariants as refused
-
--- whether a space stands in a text, from where the first one was found
-has-space : (text : List ℕ) → position_or_len (λ b. b == 32) text < length text → list_any (λ b. b == 32) text ≡ true
-has-space text h = list_any_at (λ b. b == 32) text _ 0 h (passes_at_first (λ b. b == 32) text 0 h)
-
-has-none : (c : ℕ) (text : List ℕ) → position_or_len (λ b. b == c) text ≡ length text → list_any (λ b. b == c) text ≡ false
-has-none c text e =
-    let none : All (λ b. (b == c) ≡ false) text =
-    All-from_get_or (λ b. (b == c) ≡ false) text 0 (λ i h. fails_before_first (λ b. b == c) text i 0 (omega arith))
-    in list_any_none (λ b. b == c) text none
-
--- a publisher's line is cut at its first space
-pub offer-cut : (channels : List Configuration) (text : List ℕ) (r : Option (Bor (List ℕ) × Bor (List ℕ))) → IsUtf8 text → IsSplitOnceResult 32 text r
-    → MatchOption r (offer channels text ≡ Refuse refused.BadLine) (λ x. offer channels text ≡ offer_to (channel_of_name channels 0 x.0.now) x.1.now)
-offer-cut channels text None u h =
-    let utf8 = is_utf8-from_IsUtf8 text u in
-    let no = has-none 32 text (split_once_first 32 text None h (lit< tt)) in
-    rw (utf8, no) refl
-offer-cut channels text (Some x) u h =
-    let utf8 = is_utf8-from_IsUtf8 text u in
-    let parts = split_once_first 32 text (Some x) h (lit< tt) in
-    let yes = has-space text parts.0 in
-    rw (utf8, yes) (ap₂ (λ a b. offer_to (channel_of_name channels 0 a) b) (sym parts.1) (sym parts.2))
+use Rattle.ll_script.specs.Lines.{acts, alone, begun, bytes_by, bytes_of, declaration, get_of, is_passed_over, kinds}
 
 -- a text has at least one part
 some-part : (c : ℕ) (text : List ℕ) → parts_at c text ≢ []
@@ -99,47 +65,18 @@ pub bytes_by-some : (number : ℕ) (bytes : Option (List ℕ)) → is_some bytes
 bytes_by-some number None e = absurd (cc)
 bytes_by-some number (Some bytes) e = refl
 
--- what stands after a text is no UTF-8 where the whole isn't
-not-utf8-after : (front rest : List ℕ) → is_utf8 front ≡ true → is_utf8 (front ++ rest) ≡ false → is_utf8 rest ≡ false
-not-utf8-after front rest u raw = by_test (is_utf8 rest) refl
+-- a line that is no text, and neither passed over nor a publisher's, has no place in a script
+pub acts-raw : (channels : List Configuration) (last : Option ℕ) (line : List ℕ) → is_passed_over line ≡ false → after (codes "pub ") line ≡ None → ¬ (IsUtf8 line)
+    → acts channels last line ≡ None
+acts-raw channels last line other offers raw = by_test (is_utf8 line) refl
   where
-    by_test : (b : Bool) → is_utf8 rest ≡ b → is_utf8 rest ≡ false
-    by_test true e =
-        let whole = is_utf8-from_IsUtf8 (front ++ rest) (IsUtf8-append front rest (IsUtf8-from_is_utf8 front u) (IsUtf8-from_is_utf8 rest e)) in
-        absurd (cc)
-    by_test false e = e
+    by_test : (b : Bool) → is_utf8 line ≡ b → acts channels last line ≡ None
+    by_test true e = absurd (raw (IsUtf8-from_is_utf8 line e))
+    by_test false e = rw (other, offers, e) refl
 
--- what a publisher's line begins with is UTF-8
-key-utf8 : is_utf8 (codes "pub ") ≡ true
-unfolding is_utf8 chars encode
-key-utf8 = refl
-
--- a publisher's line that is no UTF-8 is refused
-pub acts-raw-offer : (channels : List Configuration) (last : Option ℕ) (line : List ℕ) → is_utf8 line ≡ false → starts_with nat_eq line (codes "pub ") ≡ true
-    → acts channels last line ≡ Some (Refuse refused.BadLine ∷ [])
-acts-raw-offer channels last line raw begins =
-    let whole = (starts_is Decides-eqb line (codes "pub ") _ refl).0 begins in
-    subst (λ l. acts channels last l ≡ Some (Refuse refused.BadLine ∷ [])) (sym whole) (at (drop 4 line) (ap is_utf8 (sym whole) ∙ raw))
-  where
-    at : (rest : List ℕ) → is_utf8 (codes "pub " ++ rest) ≡ false → acts channels last (codes "pub " ++ rest) ≡ Some (Refuse refused.BadLine ∷ [])
-    at rest raw = let after = not-utf8-after (codes "pub ") rest key-utf8 raw in rw after refl
-
--- another line that is no UTF-8 has no place in a script
-pub acts-raw : (channels : List Configuration) (last : Option ℕ) (line : List ℕ) → is_utf8 line ≡ false
-    → starts_with nat_eq line (codes "#") ≡ false → starts_with nat_eq line (codes "pub ") ≡ false → acts channels last line ≡ None
-acts-raw channels last [] raw comment offers = absurd (let empty = is_utf8-from_IsUtf8 [] IsUtf8-nil in cc)
-acts-raw channels last (b ∷ bs) raw comment offers = let other : (b == 35) ≡ false = grind (arith, nat_tests) in rw (other, offers, raw) refl
-
--- a line that is neither passed over nor a publisher's
-pub acts-other : (channels : List Configuration) (last : Option ℕ) (line : List ℕ) → is_utf8 line ≡ true → false ≡ (length line == 0) → false ≡ (slice_index line 0 == 35)
-    → after (codes "pub ") line ≡ None
-    → acts channels last line ≡ begun (kinds channels last) line (alone (declaration channels (settings_in line)))
-acts-other channels last [] utf8 some other offers = absurd (cc)
-acts-other channels last (b ∷ bs) utf8 some other offers = rw (sym other, offers, utf8) refl
-
--- these refusals are none for memory
-pub refuses-line : refused.BadLine ≢ refused.Memory
-refuses-line = λ e. absurd (cc)
-
-pub refuses-channel : refused.UnknownChannel ≢ refused.Memory
-refuses-channel = λ e. absurd (cc)
+-- a line that is neither passed over nor a publisher's, and is this text
+pub acts-other : (channels : List Configuration) (last : Option ℕ) (line text : List ℕ) → is_passed_over line ≡ false → after (codes "pub ") line ≡ None
+    → line ≡ text → IsUtf8 line → acts channels last line ≡ begun (kinds channels last) text (alone (declaration channels (settings_in text)))
+acts-other channels last line text other offers same u =
+    let utf8 = is_utf8-from_IsUtf8 line u in
+    (rw (other, offers, utf8) refl) ∙ ap (λ l. begun (kinds channels last) l (alone (declaration channels (settings_in l)))) same

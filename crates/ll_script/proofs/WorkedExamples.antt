@@ -6,7 +6,8 @@ use Rattle.std.specs.Str.{is_utf8, chars}
 use Rattle.form_urlencoded.specs.Form.{raw_pairs, split}
 use Rattle.percent_encoding.specs.Percent.{percent_decode}
 use Rattle.ll_item.specs.Settings.{configuration_of}
-use Rattle.ll_script.specs.Answers.{named_reply, ok_line, refusal_line, sent_line, shut_line}
+use Rattle.ll_publish.specs.Refusals.{ok_line, refusal_line}
+use Rattle.ll_script.specs.Answers.{named_reply, sent_line, shut_line}
 use Rattle.ll_script.specs.Worked.{WorkedAnswers, WorkedLines}
 
 pub lines : WorkedLines

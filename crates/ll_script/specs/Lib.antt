@@ -1,7 +1,6 @@
 pub mod Answers
 pub mod Hex
 pub mod Lines
-pub mod Places
 pub mod Reads
 pub mod Worked
 pub use Rattle.ll_directive.specs.Targets

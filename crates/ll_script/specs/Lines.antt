@@ -1,9 +1,9 @@
 -- What the lines of a script mean.
-use Rattle.std.specs.Prelude.{◌≢◌, ℕ, ◌+◌, ◌^◌, List, [], ◌∷◌, Bool, true, ◌&&◌, ◌==◌, Option, Some, None, Result, Ok, Err, if◌then◌else◌, is_none, option_map, nat_le, nat_lt, bytes_eq, codes, ⊤}
-use Rattle.std.specs.List.{list_any, before_first, after_first}
+use Rattle.std.specs.Prelude.{◌≢◌, ℕ, ◌+◌, ◌^◌, List, [], ◌∷◌, Bool, true, ◌==◌, Option, Some, None, Result, Ok, Err, if◌then◌else◌, is_none, option_map, nat_le, nat_lt, bytes_eq, codes, ⊤}
 use Rattle.std.specs.Str.{is_utf8}
 use Rattle.ll_attr.specs.Numbers.{number_in}
 use Rattle.ll_attr.specs.Words.{words, after}
+use Rattle.ll_channels.specs.Channels.{channel_of_name}
 use Rattle.ll_directive.specs.Targets.{WantValue, want_in}
 use Rattle.ll_directive.specs.declared.fault.TargetFault.{TargetFault}
 use Rattle.ll_directive.specs.declared.fault.TargetFault.TheVariants as target
@@ -11,19 +11,17 @@ use Rattle.ll_item.specs.Items.{item_in}
 use Rattle.ll_item.specs.Settings.{Configuration, settings_in}
 use Rattle.ll_item.specs.declared.item.Item.{Item}
 use Rattle.ll_item.specs.declared.item.ItemFault.{ItemFault}
-use Rattle.ll_item.specs.declared.item.ItemFault.TheVariants as item
 use Rattle.ll_item.specs.declared.settings.SettingsFault.{SettingsFault}
+use Rattle.ll_publish.specs.Line.{Line}
+use Rattle.ll_publish.specs.Line as said
+use Rattle.ll_publish.specs.Lines.{line_of}
+use Rattle.ll_publish.specs.Refusals.{item_refusal}
+use Rattle.ll_publish.specs.declared.refusal.Refusal.TheVariants as refused
 use Rattle.ll_script.specs.Hex.{bytes_in_hex}
 use Rattle.ll_script.specs.declared.act.Act.{Act}
 use Rattle.ll_script.specs.declared.act.Act.TheVariants.{Declare, Offer, Refuse, Ask, Answer, Close, Clock, RefuseClock, Bytes, Drop}
 use Rattle.ll_script.specs.declared.act.Acts.{Acts}
 use Rattle.ll_script.specs.declared.act.Acts.TheVariants as list
-use Rattle.ll_script.specs.declared.refusal.Refusal.TheVariants as refused
-
--- the place of the channel of this name, and its settings; the first of these channels has this place
-abbrev pub channel_of_name : List Configuration → ℕ → List ℕ → Option (ℕ × Configuration)
-channel_of_name [] place name = None
-channel_of_name (c ∷ more) place name = if bytes_eq name c.channel then Some (place, c) else channel_of_name more (place + 1) name
 
 -- a comment or an empty line
 abbrev pub is_passed_over : List ℕ → Bool
@@ -34,21 +32,20 @@ is_passed_over (b ∷ bs) = b == 35
 
 abbrev pub item_act : ℕ → Result Item ItemFault → Act
 item_act place (Ok item) = Offer place item
-item_act place (Err item.BadLine) = Refuse refused.BadLine
-item_act place (Err item.NoRendition) = Refuse refused.NoRendition
-item_act place (Err item.BadAttribute) = Refuse refused.BadAttribute
-item_act place (Err item.Memory) = Refuse refused.Memory
+item_act place (Err fault) = Refuse (item_refusal fault)
 
 abbrev pub offer_to : Option (ℕ × Configuration) → List ℕ → Act
 offer_to None line = Refuse refused.UnknownChannel
 offer_to (Some channel) line = item_act channel.0 (item_in channel.1 line)
 
--- a publisher's line: a channel's name, a space, an item's line
+abbrev pub offer_by : List Configuration → Line → Act
+offer_by channels (said.Item name line) = offer_to (channel_of_name channels 0 name) line
+offer_by channels said.Bad = Refuse refused.BadLine
+offer_by channels said.TooLong = Refuse refused.LineTooLong
+
+-- a publisher's line, however long it is: `line_of` is never `TooLong`
 abbrev pub offer : List Configuration → List ℕ → Act
-offer channels text =
-    if is_utf8 text && list_any (λ b. b == 32) text
-    then offer_to (channel_of_name channels 0 (before_first (λ b. b == 32) text)) (after_first (λ b. b == 32) text)
-    else Refuse refused.BadLine
+offer channels text = offer_by channels (line_of text)
 
 -- ---- requests
 

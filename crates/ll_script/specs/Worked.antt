@@ -6,11 +6,12 @@ use Rattle.ll_directive.specs.declared.want.Awaited.{Awaited}
 use Rattle.ll_directive.specs.declared.want.Awaited.TheVariants as awaited
 use Rattle.ll_directive.specs.declared.want.Skip.TheVariants as skip
 use Rattle.ll_item.specs.Settings.{Configuration}
-use Rattle.ll_script.specs.Answers.{clock_line, fault_line, no_line, ok_line, reply_lines, sent_line, shut_line}
+use Rattle.ll_publish.specs.Refusals.{no_line, ok_line}
+use Rattle.ll_publish.specs.declared.refusal.Refusal.TheVariants as refused
+use Rattle.ll_script.specs.Answers.{clock_line, fault_line, reply_lines, sent_line, shut_line}
 use Rattle.ll_script.specs.Lines.{acts}
 use Rattle.ll_script.specs.declared.act.Act.TheVariants.{Refuse, Ask, Answer, Close, Clock, RefuseClock, Bytes, Drop}
 use Rattle.ll_script.specs.declared.clock.ClockRefusal.TheVariants as clock
-use Rattle.ll_script.specs.declared.refusal.Refusal.TheVariants as refused
 use Rattle.ll_verdict.specs.declared.reply.Reply.TheVariants as reply
 
 abbrev pub named : List ℕ → Configuration

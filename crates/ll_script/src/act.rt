@@ -1,7 +1,7 @@
 use crate::piece::Piece;
-use crate::refusal::Refusal;
 use ll_directive::{TargetFault, Want};
 use ll_item::{Item, Settings};
+use ll_publish::Refusal;
 
 /// One thing that a line of a script makes happen. A channel is named by its place in the order of declaration, from 0.
 #[derive(Drop)]
@@ -10,7 +10,7 @@ pub enum Act {
     Declare(Settings),
     /// An item for a channel.
     Offer { place: usize, item: Item },
-    /// A publisher's line that names no item of a channel.
+    /// A publisher's line that names no item of a channel. No line of a script is `LineTooLong`: a publisher's line is as long as any other.
     Refuse(Refusal),
     /// A request, with its number, to a channel. Whether the channel has the rendition that is wanted isn't looked at.
     Ask { id: u64, place: usize, want: Want },

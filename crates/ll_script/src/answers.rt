@@ -1,33 +1,14 @@
-//! The lines that answer the lines of a script. Each fails only where no memory is found.
+//! The lines that answer the lines of a script, but for publishers' lines. Each fails only where no memory is found.
 ghost use Rattle.std.specs.Prelude.{◌≡◌, ◌++◌, IfOk, OnOk, decimal, string_bytes};
 ghost use Rattle.ll_script.specs.Answers as spec;
 
 use crate::ask::AskRefusal;
 use crate::clock::ClockRefusal;
-use crate::refusal::Refusal;
 use itoa::Buffer;
 use ll_directive::TargetFault;
+use ll_publish::refusal_line;
 use ll_verdict::Reply;
 use std::alloc::{AllocError, Global};
-
-/// An item is accepted, with which the channel has so many.
-#[tactic(auto, unfolding(crate::specs::Answers::ok_line))]
-pub fn ok_line(alloc: Global, count: u64) -> Result<String, AllocError>
-    ensures { IfOk result (λ t. string_bytes t ≡ spec.ok_line count) }
-{
-    let mut digits = Buffer::new();
-    let mut line = String::from_str(alloc, "ok ")?;
-    line.push_str(digits.format(count))?;
-    line.push_str("\n")?;
-    Ok(line)
-}
-
-/// A publisher's line is refused.
-pub fn no_line(alloc: Global, reason: Refusal) -> Result<String, AllocError>
-    ensures { IfOk result (λ t. string_bytes t ≡ spec.no_line reason) }
-{
-    refusal_line(alloc, reason.code(), reason.name())
-}
 
 /// A reading of the clock is refused.
 pub fn clock_line(alloc: Global, refusal: ClockRefusal) -> Result<String, AllocError>
@@ -92,14 +73,6 @@ fn push_number(text: &mut Vec<u8>, number: u64) -> Result<(), AllocError>
 {
     let mut digits = Buffer::new();
     text.extend_from_slice(digits.format(number).as_bytes())
-}
-
-/// A line that refuses.
-#[tactic(auto, unfolding(crate::specs::Answers::refusal_line))]
-fn refusal_line(alloc: Global, code: u64, name: &str) -> Result<String, AllocError>
-    ensures { IfOk result (λ t. string_bytes t ≡ spec.refusal_line code name.now) }
-{
-    format!(in alloc; "no {code} {name}\n")
 }
 
 /// A request gets a text.

@@ -5,21 +5,15 @@ mod act;
 mod answers;
 mod ask;
 mod clock;
-mod declared;
 mod hex;
 mod laws;
 mod piece;
 mod reading;
-mod refusal;
 
 pub use act::{Act, Acts};
-pub use answers::{
-    clock_line, fault_line, no_line, ok_line, push_sent, push_shut, reply_lines, unasked_line,
-};
+pub use answers::{clock_line, fault_line, push_sent, push_shut, reply_lines, unasked_line};
 pub use ask::AskRefusal;
 pub use clock::ClockRefusal;
-pub use declared::Declared;
 pub use laws::worked_lines;
 pub use piece::Piece;
 pub use reading::{LineFault, read_line};
-pub use refusal::Refusal;

@@ -1,7 +1,7 @@
 //! What the lines of a script mean.
-ghost use Rattle.std.specs.Prelude.{◌≡◌, ◌∷◌, [], IfOk, IsErrOf, IsSome, MatchOption, Ok, None, Some, is_some, false, ℕ, List, Option};
-ghost use Rattle.std.specs.Str.{is_utf8};
-ghost use Rattle.ll_attr.specs.Words.{words};
+ghost use Rattle.std.specs.Prelude.{◌≡◌, ◌∷◌, [], IfOk, IsErrOf, IsSome, MatchOption, Ok, None, Some, codes, is_some, ℕ, List, Option};
+ghost use Rattle.ll_attr.specs.Words.{after, words};
+ghost use Rattle.ll_channels.specs.Channels.{channel_of_name};
 ghost use Rattle.ll_directive.specs.Targets.{want_in};
 ghost use Rattle.ll_item.specs.Items.{item_in};
 ghost use Rattle.ll_item.specs.Settings.{Configuration, settings_in};
@@ -11,12 +11,12 @@ ghost use Rattle.ll_script.specs.Lines as spec;
 ghost use Rattle.ll_script.specs.Reads.{IsRead};
 
 use crate::act::{Act, Acts};
-use crate::declared::Declared;
 use crate::hex::{is_hex, read_hex};
-use crate::refusal::Refusal;
 use ll_attr::{after, cut, parse_number};
+use ll_channels::Declared;
 use ll_directive::{TargetFault, read_target};
 use ll_item::{Item, ItemFault, Settings, SettingsFault};
+use ll_publish::{Line, Refusal};
 use std::alloc::Global;
 use std::str;
 use thiserror::Error;
@@ -61,41 +61,36 @@ fn read_any(
 ) -> Result<Acts, LineFault>
     ensures { IsRead declared.now (spec.acts declared.now last line.now) result }
 {
-    match str::from_utf8(line) {
-        Ok(text) => read_text(alloc, declared, last, text),
-        Err(_) => read_bytes(line),
-    }
-}
-
-/// What a line makes happen that is no UTF-8.
-fn read_bytes(line: &[u8]) -> Result<Acts, LineFault>
-    requires { is_utf8 line.now ≡ false }
-    ensures { (channels : List Configuration) (last : Option ℕ) → IsRead channels (spec.acts channels last line.now) result }
-{
-    if line.starts_with(b"#") {
-        Ok(Acts::None)
-    } else if line.starts_with(b"pub ") {
-        Ok(Acts::One(Act::Refuse(Refusal::BadLine)))
-    } else {
-        Err(LineFault::BadLine)
-    }
-}
-
-/// What a line of UTF-8 makes happen.
-fn read_text(
-    alloc: Global,
-    declared: &Declared,
-    last: Option<u64>,
-    line: &str,
-) -> Result<Acts, LineFault>
-    ensures { IsRead declared.now (spec.acts declared.now last line.now) result }
-{
-    if line.is_empty() || line.starts_with('#') {
+    if is_passed_over(line) {
         return Ok(Acts::None);
     }
-    match after(line, "pub ") {
-        Some(text) => read_offer(alloc, declared, text),
-        None => read_other(alloc, declared, last, line),
+    if let Some(text) = published(line) {
+        return read_offer(alloc, declared, text);
+    }
+    match str::from_utf8(line) {
+        Ok(text) => read_other(alloc, declared, last, text),
+        Err(_) => Err(LineFault::BadLine),
+    }
+}
+
+/// Whether a line is a comment or empty.
+fn is_passed_over(line: &[u8]) -> bool
+    ensures { result ≡ spec.is_passed_over line.now }
+{
+    match line {
+        [] => true,
+        [first, ..] => *first == b'#',
+    }
+}
+
+/// What a publisher sends by a line, where it is a publisher's.
+fn published(line: &[u8]) -> Option<&[u8]>
+    ensures { MatchOption result (after (codes "pub ") line.now ≡ None) (λ text. after (codes "pub ") line.now ≡ Some text.now) }
+{
+    if line.starts_with(b"pub ") {
+        Some(&line[4..])
+    } else {
+        None
     }
 }
 
@@ -127,17 +122,19 @@ fn read_other(
     }
 }
 
-/// A publisher's line.
-fn read_offer(alloc: Global, declared: &Declared, text: &str) -> Result<Acts, LineFault>
+/// A publisher's line. None is too long.
+fn read_offer(alloc: Global, declared: &Declared, text: &[u8]) -> Result<Acts, LineFault>
     ensures { IsRead declared.now (Some (spec.offer declared.now text.now ∷ [])) result }
 {
-    let Some((name, line)) = text.split_once(' ') else {
-        return Ok(Acts::One(Act::Refuse(Refusal::BadLine)));
+    let (name, line) = match Line::of(text) {
+        Line::Item(name, line) => (name, line),
+        Line::Bad => return Ok(Acts::One(Act::Refuse(Refusal::BadLine))),
+        Line::TooLong => return Ok(Acts::One(Act::Refuse(Refusal::LineTooLong))),
     };
-    let Some((place, settings)) = declared.find(name) else {
-        return Ok(Acts::One(Act::Refuse(Refusal::UnknownChannel)));
-    };
-    read_item(alloc, place, settings, line)
+    match declared.find(name) {
+        Some((place, settings)) => read_item(alloc, place, settings, line),
+        None => Ok(Acts::One(Act::Refuse(Refusal::UnknownChannel))),
+    }
 }
 
 /// What an item's line makes happen in the channel at this place.
@@ -151,10 +148,8 @@ fn read_item(
 {
     match Item::read(alloc, settings, line) {
         Ok(item) => Ok(Acts::One(Act::Offer { place, item })),
-        Err(ItemFault::BadLine) => Ok(Acts::One(Act::Refuse(Refusal::BadLine))),
-        Err(ItemFault::NoRendition) => Ok(Acts::One(Act::Refuse(Refusal::NoRendition))),
-        Err(ItemFault::BadAttribute) => Ok(Acts::One(Act::Refuse(Refusal::BadAttribute))),
         Err(ItemFault::Memory) => Err(LineFault::Memory),
+        Err(fault) => Ok(Acts::One(Act::Refuse(Refusal::from(fault)))),
     }
 }
 
@@ -289,7 +284,7 @@ fn read_declaration(alloc: Global, declared: &Declared, line: &str) -> Result<Ac
 
 /// Whether a settings line names a channel that is declared. It takes no memory.
 fn is_declared(declared: &Declared, line: &str) -> bool
-    ensures { (c : Configuration) → settings_in line.now ≡ Ok c → result ≡ is_some (spec.channel_of_name declared.now 0 c.channel) }
+    ensures { (c : Configuration) → settings_in line.now ≡ Ok c → result ≡ is_some (channel_of_name declared.now 0 c.channel) }
 {
     match second_word(line) {
         Some(name) => declared.find(name).is_some(),

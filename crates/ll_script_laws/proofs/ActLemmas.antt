@@ -14,14 +14,14 @@ use Rattle.ll_item.specs.Items.{item_in}
 use Rattle.ll_item.specs.Settings.{Configuration, IsWithin, configuration_of, limit_broken, settings_by, settings_in, unless_broken}
 use Rattle.ll_item.specs.declared.item.Item.{Item}
 use Rattle.ll_item.specs.declared.item.ItemFault.{ItemFault}
-use Rattle.ll_item.specs.declared.item.ItemFault.TheVariants as item
 use Rattle.ll_item.specs.declared.settings.SettingsFault.{SettingsFault}
 use Rattle.ll_item.proofs.WithinLimits.{within}
+use Rattle.ll_publish.specs.Line as said
 use Rattle.ll_script.specs.Hex.{bytes_in_hex}
-use Rattle.ll_script.specs.Lines.{Kind, acts, acts_by, alone, ask, ask_in, begun, begun_by, bytes_by, bytes_of, channel_of_name, clocks_from, close_of, declaration, drop_of, get_by, get_of, is_passed_over, item_act, kinds, offer, offer_to, reading, rises}
+use Rattle.ll_channels.specs.Channels.{channel_of_name}
+use Rattle.ll_script.specs.Lines.{Kind, acts, acts_by, alone, ask, ask_in, begun, begun_by, bytes_by, bytes_of, clocks_from, close_of, declaration, drop_of, get_by, get_of, is_passed_over, item_act, kinds, offer, offer_by, offer_to, reading, rises}
 use Rattle.ll_script.specs.declared.act.Act.{Act}
 use Rattle.ll_script.specs.declared.act.Act.TheVariants.{Declare, Offer, Refuse, Ask, Answer, Close, Clock, RefuseClock, Bytes, Drop}
-use Rattle.ll_script.specs.declared.refusal.Refusal.TheVariants as refused
 use Rattle.ll_verdict.proofs.ListLemmas.{Each}
 use Rattle.ll_script_laws.proofs.ItemTexts.{IsRead, item-read}
 
@@ -65,24 +65,21 @@ after_utf8 text false e u =
 
 item_act-sound : (place : ℕ) (r : Result Item ItemFault) → ((i : Item) → r ≡ Ok i → IsRead i) → IsSound (item_act place r)
 item_act-sound place (Ok i) f = f i refl
-item_act-sound place (Err item.BadLine) f = tt
-item_act-sound place (Err item.NoRendition) f = tt
-item_act-sound place (Err item.BadAttribute) f = tt
-item_act-sound place (Err item.Memory) f = tt
+item_act-sound place (Err fault) f = tt
 
 offer_to-sound : (o : Option (ℕ × Configuration)) (line : List ℕ) → IsUtf8 line → IsSound (offer_to o line)
 offer_to-sound None line u = tt
 offer_to-sound (Some channel) line u = item_act-sound channel.0 (item_in channel.1 line) (λ i h. item-read channel.1 line i u h)
 
-offer_by-sound : (x y : Bool) (o : Option (ℕ × Configuration)) (line : List ℕ) → (x ≡ true → IsUtf8 line)
-    → IsSound (if x && y then offer_to o line else Refuse refused.BadLine)
-offer_by-sound true true o line u = offer_to-sound o line (u refl)
-offer_by-sound true false o line u = tt
-offer_by-sound false y o line u = tt
+cut-sound : (channels : List Configuration) (x y : Bool) (name line : List ℕ) → (x ≡ true → IsUtf8 line)
+    → IsSound (offer_by channels (if x && y then said.Item name line else said.Bad))
+cut-sound channels true true name line u = offer_to-sound (channel_of_name channels 0 name) line (u refl)
+cut-sound channels true false name line u = tt
+cut-sound channels false y name line u = tt
 
 offer-sound : (channels : List Configuration) (text : List ℕ) → IsSound (offer channels text)
 offer-sound channels text =
-    offer_by-sound (is_utf8 text) (list_any (λ b. b == 32) text) (channel_of_name channels 0 (before_first (λ b. b == 32) text)) (after_first (λ b. b == 32) text)
+    cut-sound channels (is_utf8 text) (list_any (λ b. b == 32) text) (before_first (λ b. b == 32) text) (after_first (λ b. b == 32) text)
     (λ h. after_utf8 text (nat_lt (position_or_len (λ b. b == 32) text) (length text)) refl (IsUtf8-from_is_utf8 text h))
 
 -- ---- requests and the clock

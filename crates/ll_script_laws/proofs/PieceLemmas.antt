@@ -6,7 +6,6 @@ use Rattle.ll_connection.specs.Laws.{both}
 use Rattle.ll_connection.specs.Turn.{Turn, bytes}
 use Rattle.ll_connection.proofs.CutLemmas.{turns}
 use Rattle.ll_connection.proofs.RoomsLaws as laws
-use Rattle.ll_directive.specs.Targets.{WantValue}
 use Rattle.ll_held.specs.Waits.{wait_of}
 use Rattle.ll_held.specs.declared.owner.Owner.{Owner}
 use Rattle.ll_held.specs.declared.owner.Owner.TheVariants.{Get, Connection}
@@ -18,7 +17,7 @@ use Rattle.ll_world.specs.World as rooms
 use Rattle.ll_world.specs.World.{all_settings, silent}
 use Rattle.ll_world.specs.declared.answer.Answer as answer
 use Rattle.ll_world.specs.declared.answer.Answer.TheVariants as said
-use Rattle.ll_replay.specs.Stream.{script, world_of}
+use Rattle.ll_replay.specs.Stream.{script}
 use Rattle.ll_replay.specs.World.{World, Ending, act, acted, counted, done, heard, line, line_by, makes_due, passed_on, read_by, rest, start, tick, turned}
 use Rattle.ll_replay.proofs.WorldLaws.{line-ended, line-means}
 use Rattle.ll_script_laws.specs.Laws.{Brings}

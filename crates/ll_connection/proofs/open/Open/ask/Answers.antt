@@ -1,5 +1,5 @@
 use Rattle.std.proofs.Common.{ap, sym, ◌∙◌}
-use Rattle.ll_script.specs.Lines.{channel_of_name}
+use Rattle.ll_channels.specs.Channels.{channel_of_name}
 use Rattle.ll_world.specs.World.{silent}
 use Rattle.ll_connection.proofs.OpenLemmas.{is_asked}
 use Rattle.ll_connection.proofs.open.Open.ask.Goals as goal

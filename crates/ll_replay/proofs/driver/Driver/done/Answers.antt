@@ -1,6 +1,4 @@
 -- A fault at an act is one at all that it does.
-use Rattle.std.proofs.Common.{Err}
-use Rattle.ll_replay.specs.World.{act}
 use Rattle.ll_replay.proofs.RestLemmas.{done-act_cut, done-cut_later}
 use Rattle.ll_replay.proofs.RunLemmas.{IfErr-handed}
 use Rattle.ll_replay.proofs.driver.Driver.done.Goals as goal

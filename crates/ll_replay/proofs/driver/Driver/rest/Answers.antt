@@ -1,8 +1,7 @@
 -- Each reply that is due is written, until none is.
-use Rattle.std.proofs.Common.{◌≡◌, ◌∙◌, Err, None, Ok, Some, ap, arith, length, refl, subst, sym}
+use Rattle.std.proofs.Common.{◌≡◌, ◌∙◌, Err, Ok, Some, ap, arith, length, refl, subst, sym}
 use Rattle.ll_replay.specs.Kept.{Keeps, Kept, Says, Stands}
 use Rattle.ll_replay.specs.World.{World, tick}
-use Rattle.ll_replay.specs.declared.outcome.RunFault.{RunFault}
 use Rattle.ll_replay.proofs.DriverLemmas.{said, said-cut}
 use Rattle.ll_replay.proofs.RestLemmas.{repeat_more, rest-all, rest-cut, rest-none, rest-stops}
 use Rattle.ll_replay.proofs.RunLemmas.{IfErr-handed}
