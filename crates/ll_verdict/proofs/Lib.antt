@@ -1,4 +1,5 @@
 pub mod LawProofs
 pub mod ListLemmas
+pub mod NewerLemmas
 pub mod StateLemmas
 pub mod StepLemmas

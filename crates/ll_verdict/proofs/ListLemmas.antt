@@ -1,5 +1,5 @@
 -- Lists of which each element has a property, and lists that are filtered and changed in rounds.
-use Rattle.std.proofs.Common.{◌≡◌, suc, List, [], ◌∷◌, ◌++◌, Bool, true, false, ◌&&◌, cond, map, filter, refl, ap, ◌∙◌, sym, length}
+use Rattle.std.proofs.Common.{◌≡◌, ℕ, zero, suc, List, [], ◌∷◌, ◌++◌, Bool, true, false, ◌&&◌, Some, cond, map, filter, refl, ap, ◌∙◌, sym, subst, length, slice_get}
 
 abbrev pub Each : {X : Type 0} → (X → Type 0) → List X → Type 0
 Each P [] = Unit {0}
@@ -12,6 +12,14 @@ each-append P (x ∷ xs) ys h k = (h.0, each-append P xs ys h.1 k)
 pub each-map : {X : Type 0} (P Q : X → Type 0) → ((x : X) → P x → Q x) → (xs : List X) → Each P xs → Each Q xs
 each-map P Q f [] h = tt
 each-map P Q f (x ∷ xs) h = (f x h.0, each-map P Q f xs h.1)
+
+-- what each element has, the one at a place has
+pub each-at : {X : Type 0} (P : X → Type 0) (xs : List X) (place : ℕ) (x : X) → Each P xs → slice_get xs place ≡ Some x → P x
+each-at P [] place x h e = cc
+each-at P (y ∷ xs) zero x h e =
+    let is : y ≡ x = cc in
+    subst P is h.0
+each-at P (y ∷ xs) (suc place) x h e = each-at P xs place x h.1 e
 
 -- one round of filters and changes after another
 pub record Agree {X Y : Type 0} (p p2 : X → Bool) (f f2 : X → Y) (q : Y → Bool) (g : Y → Y) (x : X) : Type 0 where

@@ -1,9 +1,11 @@
 -- What every list of events says of its requests.
-use Rattle.std.specs.Prelude.{◌≡◌, ◌+◌, ◌||◌, List, ◌++◌, true, None, Some, filter, length, not}
+use Rattle.std.specs.Prelude.{◌≡◌, ℕ, ◌+◌, ◌<◌, ◌||◌, List, ◌++◌, true, None, Some, filter, length, not, slice_get}
 use Rattle.ll_item.specs.Settings.{Configuration}
-use Rattle.ll_verdict.specs.Events.{Event, Step, until}
+use Rattle.ll_page.specs.Page.{Paged}
+use Rattle.ll_verdict.specs.Events.{Event, Step, until, items}
 use Rattle.ll_verdict.specs.State.{state_of, is_waiting}
-use Rattle.ll_verdict.specs.Verdict.{Request, closes, decided, settles}
+use Rattle.ll_verdict.specs.Verdict.{Request, closes, decided, held, is_there, page_of, reply, settles}
+use Rattle.ll_verdict.specs.declared.reply.Settled.TheVariants.{Text}
 
 -- a request is decided once: no later event changes what decided it
 abbrev pub OneVerdictLaw : Type 0
@@ -20,6 +22,22 @@ pub record IsFirst (c : Configuration) (events : List Event) (r : Request) (s : 
 -- a request is decided by the first event that settles it or gives it up
 abbrev pub FirstStateLaw : Type 0
 FirstStateLaw = (c : Configuration) (events : List Event) (r : Request) (s : Step) → decided c events r ≡ Some s → IsFirst c events r s
+
+-- It is the page of a moment since the request: by then what the request awaits is there or its rendition has ended, and the channel has
+-- accepted more items than when it was asked.
+pub record IsNewer (c : Configuration) (events : List Event) (r : Request) (page : Paged) : Type 0 where
+  -- the events from the request up to that moment, and those after it
+  pub since : List Event
+  pub rest : List Event
+  pub place : events ≡ (r.before ++ since) ++ rest
+  pub shown : page ≡ page_of c (items c (r.before ++ since)) r.wanted
+  pub there : is_there c (items c (r.before ++ since)) r.wanted ≡ true
+  pub newer : length (items c r.before) < page.seen.count
+
+-- a text that a request gets after it had to wait is newer than its asking
+abbrev pub NewerTextLaw : Type 0
+NewerTextLaw = (c : Configuration) (events : List Event) (place : ℕ) (r : Request) (page : Paged)
+    → slice_get (held c events) place ≡ Some r → reply c events r ≡ Some (Text page) → IsNewer c events r page
 
 -- the open requests are those that wait and those whose replies wait
 abbrev pub OpenTicketsLaw : Type 0

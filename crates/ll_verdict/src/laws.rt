@@ -1,6 +1,6 @@
 //! What every list of events says of its requests. Each law is proved once, as the contract of an empty function; none of these does
 //! anything.
-ghost use Rattle.ll_verdict.specs.Laws.{FirstStateLaw, OneVerdictLaw, OpenTicketsLaw};
+ghost use Rattle.ll_verdict.specs.Laws.{FirstStateLaw, NewerTextLaw, OneVerdictLaw, OpenTicketsLaw};
 ghost use Rattle.ll_verdict.specs.State.{StateLaw};
 
 /// The plain step is the state of one more event, for every list of events and every event.
@@ -17,6 +17,12 @@ pub fn one_verdict_law()
 /// unless it is given up before.
 pub fn first_state_law()
     ensures { FirstStateLaw }
+{}
+
+/// A text that a held request gets is newer than its asking: the channel has accepted more items by then, and they hold what the request
+/// awaited, or its rendition has ended.
+pub fn newer_text_law()
+    ensures { NewerTextLaw }
 {}
 
 /// The open requests are those that wait and those whose replies wait.
