@@ -1,23 +1,6 @@
 //! What each fault is called, which no contract says of those that `thiserror` spells.
 use ll_read::ReadFault;
-use ll_replay::RunFault;
 use std::test::Fail;
-
-#[test]
-fn faults_of_scripts_are_named(rt: HostRuntime) -> Result<(), Fail> {
-    for (fault, name) in [
-        (RunFault::Read, "Read"),
-        (RunFault::Write, "Write"),
-        (RunFault::BadLine { line: 3 }, "BadLine 3"),
-        (RunFault::LineTooLong { line: 1 }, "LineTooLong 1"),
-        (RunFault::Endless, "Endless"),
-        (RunFault::Memory, "Memory"),
-    ] {
-        let told = format!(in rt.alloc(); "{fault}")?;
-        assert_eq!(rt; told.as_str(), name);
-    }
-    Ok(())
-}
 
 #[test]
 fn faults_of_playlists_are_named(rt: HostRuntime) -> Result<(), Fail> {

@@ -1,4 +1,4 @@
-//! Tests of the crates from `ll_page` to `ll_replay`. They stand here so that no crate is proved a second time for its tests.
+//! Tests of the crates from `ll_page` to `ll_apply`. They stand here so that no crate is proved a second time for its tests.
 #![tactic(auto)]
 
 #[cfg(test)]
@@ -11,5 +11,3 @@ mod page_tests;
 mod read_table_tests;
 #[cfg(test)]
 mod read_tests;
-#[cfg(test)]
-mod replay_tests;

@@ -8,12 +8,13 @@ use Rattle.std.proofs.KnownBytes.{Appends-trans}
 use Rattle.ll_world.specs.World.{repeat}
 use Rattle.ll_replay.specs.Cuts.{IsCutBetween}
 use Rattle.ll_replay.specs.Kept.{Keeps, Kept, Says, Stands, told}
-use Rattle.ll_replay.specs.Stream.{AppendsPrefix, StopsBetween}
+use Rattle.ll_device.specs.Written.{AppendsPrefix}
+use Rattle.ll_replay.specs.Stream.{StopsBetween}
 use Rattle.ll_replay.specs.World.{World, tick}
 use Rattle.ll_replay.specs.declared.outcome.RunFault.{RunFault}
 use Rattle.ll_replay.specs.declared.outcome.RunFault.TheVariants as fault
 use Rattle.ll_replay.proofs.WorldLaws.{Follows}
-use Rattle.ll_replay.proofs.WriteLemmas.{AppendsPrefix-after, AppendsPrefix-longer}
+use Rattle.ll_device.proofs.WriteLemmas.{AppendsPrefix-after, AppendsPrefix-longer}
 
 -- a step whose answer was written
 pub said : (new old : Kept) (step : World → World) (follows : (w : World) → Follows w (step w)) (answer : Option (Vec ℕ Global)) (r : Result Unit RunFault)

@@ -8,4 +8,3 @@ pub mod TakeLemmas
 pub mod TurnLemmas
 pub mod WorkedExamples
 pub mod WorldLaws
-pub mod WriteLemmas

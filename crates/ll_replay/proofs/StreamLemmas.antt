@@ -9,11 +9,12 @@ use Rattle.ll_replay.specs.declared.outcome.RunFault.TheVariants as fault
 use Rattle.ll_replay.specs.declared.outcome.Summary.{Summary}
 use Rattle.ll_replay.specs.Cuts.{IsCutAt, IsCutBetween, StandsFor}
 use Rattle.ll_replay.specs.Kept.{Kept, Stands}
-use Rattle.ll_replay.specs.Stream.{AppendsPrefix, IsWhole, StopsForMemory, ended_lines, open_line, script, world_of, world_so_far}
+use Rattle.ll_device.specs.Written.{AppendsPrefix}
+use Rattle.ll_replay.specs.Stream.{IsWhole, StopsForMemory, ended_lines, open_line, script, world_of, world_so_far}
 use Rattle.ll_replay.specs.World.{World, Ending, BadLine, LineTooLong, line, start, summary_of}
 use Rattle.ll_replay.proofs.LineLemmas.{IsNext, at_lf, at_other, lines-all_ended, lines-last_open, next-at_lf, next_is_long}
 use Rattle.ll_replay.proofs.WorldLaws.{line-ended, line-text, line-too-long}
-use Rattle.ll_replay.proofs.WriteLemmas.{AppendsPrefix-longer}
+use Rattle.ll_device.proofs.WriteLemmas.{AppendsPrefix-longer}
 
 fold-ended : (w : World) (ls : List (List ℕ)) (e : Ending) → w.ending ≡ Some e → fold line w ls ≡ w
 fold-ended w [] e h = refl

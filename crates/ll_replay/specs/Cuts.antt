@@ -4,7 +4,8 @@ use Rattle.std.specs.Io.KnownBytes.{Appends}
 use Rattle.ll_replay.specs.declared.outcome.RunFault.{RunFault}
 use Rattle.ll_replay.specs.declared.outcome.RunFault.TheVariants as fault
 use Rattle.ll_replay.specs.Kept.{Kept, Stands}
-use Rattle.ll_replay.specs.Stream.{AppendsPrefix, EndsBy, StopsAfter, StopsBetween, StopsForMemory, open_line, script, world_so_far}
+use Rattle.ll_device.specs.Written.{AppendsPrefix}
+use Rattle.ll_replay.specs.Stream.{EndsBy, StopsAfter, StopsBetween, StopsForMemory, open_line, script, world_so_far}
 use Rattle.ll_replay.specs.World.{World, BadLine, LineTooLong}
 
 -- what a fault says of the way from one world to the next

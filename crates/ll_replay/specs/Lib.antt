@@ -1,7 +1,6 @@
 pub mod Cuts
 pub mod Kept
 pub mod Stream
-pub mod Uses
 pub mod Worked
 pub mod World
 pub use Rattle.ll_page.specs.Full

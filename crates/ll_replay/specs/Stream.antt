@@ -23,10 +23,6 @@ IsWhole base written input summary =
 abbrev pub EndsBy : Ending → Option (List ℕ) → Option (List ℕ) → List ℕ → Type 0
 EndsBy ending base written input = ((world_of input).ending ≡ Some ending) × Appends base written (script input)
 
--- a prefix of this text was written since base
-abbrev pub AppendsPrefix : Option (List ℕ) → Option (List ℕ) → List ℕ → Type 0
-AppendsPrefix base written text = (prefix : List ℕ) × (rest : List ℕ) × (text ≡ prefix ++ rest) × Appends base written prefix
-
 -- a run stopped on its way from one world to the next, which ends no script: what the first had said was written since base, and
 -- then a prefix of what the next says besides
 abbrev pub StopsBetween : (base written : Option (List ℕ)) → (before after : World) → Type 0

@@ -9,12 +9,12 @@ ghost use Rattle.ll_replay.specs.World.{World, start, line, summary_of};
 ghost use Rattle.ll_replay.specs.World as world;
 ghost use Rattle.ll_replay.specs.Kept.{Keeps, Says, Stands, told};
 ghost use Rattle.ll_replay.specs.Cuts.{IsCutBetween};
-ghost use Rattle.ll_replay.specs.Stream.{AppendsPrefix};
+ghost use Rattle.ll_device.specs.Written.{AppendsPrefix};
 
-use crate::device::{Failed, Writer, write_all};
 use crate::outcome::{RunFault, Summary};
 use ll_channels::Declared;
 use ll_connection::{Connections, Sent};
+use ll_device::{Failed, Writer, write_all};
 use ll_directive::{TargetFault, Want};
 use ll_held::Owner;
 use ll_item::{Item, Settings};

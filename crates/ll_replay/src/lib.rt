@@ -1,15 +1,11 @@
 //! Scripts of channels, run from a reader to a writer: what is published, what is asked for, and every answer.
 #![tactic(auto)]
 
-mod counted;
-mod device;
 mod driver;
 mod laws;
 mod outcome;
 mod stream;
 
-pub use counted::{CountedReader, CountedWriter, Uses};
-pub use device::{Failed, Reader, Writer};
 pub use laws::worked_script;
 pub use ll_publish::Refusal;
 pub use outcome::{RunFault, Summary};

@@ -1,13 +1,14 @@
 ghost use Rattle.std.specs.Prelude.{◌≡◌, ◌<◌, ◌≤◌, ◌+◌, ◌-◌, ◌^◌, ◌++◌, [], ◌∷◌, ℕ, List, Option, Some, IfOk, IfErr, OnOk, OnErr, IsErrOf, length};
 ghost use Rattle.std.specs.Str.Lines.{strip_carriage_return};
 ghost use Rattle.ll_replay.specs.Cuts.{HasFailed, IsCutAt, IsStopped, StandsFor};
-ghost use Rattle.ll_replay.specs.Stream.{AppendsPrefix, EndsBy, IsWhole, StopsAfter, StopsForMemory, script};
+ghost use Rattle.ll_device.specs.Written.{AppendsPrefix};
+ghost use Rattle.ll_replay.specs.Stream.{EndsBy, IsWhole, StopsAfter, StopsForMemory, script};
 ghost use Rattle.ll_replay.specs.World as world;
 
-use crate::device::{Reader, Writer};
 use crate::driver::{Driver, LONGEST_LINE};
 use crate::outcome::{RunFault, Summary};
 use arrayvec::ArrayVec;
+use ll_device::{Reader, Writer};
 use std::alloc::Global;
 
 /// The bytes of a read.

@@ -1,12 +1,12 @@
 ghost use Rattle.std.specs.Prelude.{◌≡◌, ◌<◌, ◌≤◌, ◌+◌, [], ℕ, List, Option, IfOk, OnOk, OnErr, take, length};
 ghost use Rattle.std.specs.Io.KnownBytes.{Appends, Consumes, IsAtEnd, Keeps};
-ghost use Rattle.ll_replay.specs.Stream.{AppendsPrefix};
+ghost use Rattle.ll_device.specs.Written.{AppendsPrefix};
 
 /// A device failed in a read or a write.
 #[derive(Clone, Copy, Debug, PartialEq, Eq)]
 pub struct Failed;
 
-/// Where a script's bytes come from, in any pieces.
+/// Where bytes come from, in any pieces.
 pub trait Reader {
     /// The bytes that are left, where the reader tells them.
     ghost left: { Self → Option (List ℕ) };
@@ -28,7 +28,7 @@ pub trait Reader {
         ensures failed { OnErr result (failures self.old < failures self.new) };
 }
 
-/// Where what a script writes goes.
+/// Where bytes go.
 pub trait Writer {
     /// The bytes written so far, where the writer tells them.
     ghost written: { Self → Option (List ℕ) };
@@ -47,7 +47,7 @@ pub trait Writer {
 }
 
 /// Writes a whole text, in as many writes as the writer takes.
-pub(crate) fn write_all<W: Writer>(writer: &mut W, text: &[u8]) -> Result<(), Failed>
+pub fn write_all<W: Writer>(writer: &mut W, text: &[u8]) -> Result<(), Failed>
     ensures whole { OnOk result (Appends (W.written writer.old) (W.written writer.new) text.now) }
     ensures cut { OnErr result (AppendsPrefix (W.written writer.old) (W.written writer.new) text.now) }
     ensures steady { OnOk result (W.failures writer.new ≡ W.failures writer.old) }

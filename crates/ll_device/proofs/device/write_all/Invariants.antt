@@ -1,7 +1,7 @@
 -- The first of the text is written, and no write has failed.
 use Rattle.std.proofs.Common.{length, ◌-◌, ◌≡◌, ◌≤◌, take}
 use Rattle.std.specs.Io.KnownBytes.{Appends}
-use Rattle.ll_replay.proofs.device.write_all.Given as goal
+use Rattle.ll_device.proofs.device.write_all.Given as goal
 
 abbrev pub invariant-loop-taken : goal.invariant-loop-taken
 invariant-loop-taken g l = record {

@@ -1,12 +1,12 @@
 //! Scripts and what they write, over devices that give and take a few bytes at a time, and that fail.
 ghost use Rattle.std.specs.Prelude.{◌≡◌, Some};
 
-use ll_replay::{
-    CountedReader, CountedWriter, Failed, Reader, Refusal, RunFault, Summary, Uses, Writer, run,
-};
+use ll_device::{Failed, Reader, Uses, Writer};
+use ll_replay::{Refusal, RunFault, Summary, run};
 use std::alloc::{AllocError, Global};
 use std::marker::Brand;
 use std::sync::ledger::{Blank, Ledger};
+use std::test::Fail;
 
 const CHANNEL: &[u8] =
     b"channel cam target=4 part=1000000 skip=24 window=36 renditions=hi first=0 start=0\n";
@@ -254,40 +254,19 @@ fn refusals_have_codes_and_names(rt: HostRuntime) {
     }
 }
 
-fn run_over_std<L: Ledger, M: Ledger>(
-    alloc: Global,
-    script: &[u8],
-    text: &mut Vec<u8>,
-    reads: Blank,
-    writes: Blank,
-) -> Result<Summary, RunFault>
-    requires reads_name { reads.name ≡ L.name }
-    requires reads_parts { reads.parts ≡ L.parts }
-    requires reads_two { reads.parts ≡ 2 }
-    requires writes_name { writes.name ≡ M.name }
-    requires writes_parts { writes.parts ≡ M.parts }
-    requires writes_two { writes.parts ≡ 2 }
-{
-    let mut source: CountedReader<&[u8], L> = CountedReader::new(script, reads);
-    let mut sink: CountedWriter<&mut Vec<u8>, M> = CountedWriter::new(text, writes);
-    run(alloc, &mut source, &mut sink)
-}
-
+/// What each fault is called, which no contract says of those that `thiserror` spells.
 #[test]
-fn devices_of_std_serve(rt: HostRuntime) -> Result<(), AllocError> {
-    let script = after_channel(rt.alloc(), ONE_SEGMENT)?;
-    let mut text = Vec::new(rt.alloc());
-    let result = run_over_std::<Brand, Brand>(
-        rt.alloc(),
-        &script,
-        &mut text,
-        Blank::new(2),
-        Blank::new(2),
-    );
-    let summary = Summary {
-        events: 2,
-        replies: 1,
-    };
-    assert_eq!(rt; (result, text.as_slice()), (Ok(summary), ONE_SEGMENT_TEXT));
+fn faults_of_scripts_are_named(rt: HostRuntime) -> Result<(), Fail> {
+    for (fault, name) in [
+        (RunFault::Read, "Read"),
+        (RunFault::Write, "Write"),
+        (RunFault::BadLine { line: 3 }, "BadLine 3"),
+        (RunFault::LineTooLong { line: 1 }, "LineTooLong 1"),
+        (RunFault::Endless, "Endless"),
+        (RunFault::Memory, "Memory"),
+    ] {
+        let told = format!(in rt.alloc(); "{fault}")?;
+        assert_eq!(rt; told.as_str(), name);
+    }
     Ok(())
 }

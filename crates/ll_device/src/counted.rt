@@ -16,7 +16,7 @@ pub struct Uses<L: Ledger> {
 
 impl<L: Ledger> Model for Uses<L> {
     ghost use Rattle.std.specs.Prelude.{◌<◌};
-    ghost use Rattle.ll_replay.specs.Uses.{Counts};
+    ghost use Rattle.ll_device.specs.Uses.{Counts};
 
     ghost Value = { Counts };
 

@@ -1,7 +1,7 @@
 -- Each write takes the first of what is left, so what was taken joins.
 use Rattle.std.proofs.Common.{◌∙◌}
-use Rattle.ll_replay.proofs.WriteLemmas.{taken_within, Appends-taken, AppendsPrefix-taken}
-use Rattle.ll_replay.proofs.device.write_all.Goals as goal
+use Rattle.ll_device.proofs.WriteLemmas.{taken_within, Appends-taken, AppendsPrefix-taken}
+use Rattle.ll_device.proofs.device.write_all.Goals as goal
 
 pub returns-in_err-taken-clause-cut : goal.returns-in_err-taken-clause-cut
 returns-in_err-taken-clause-cut g c =

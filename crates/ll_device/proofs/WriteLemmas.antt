@@ -4,7 +4,7 @@ use Rattle.std.proofs.KnownBytes.{Appends-trans, Appends-kept}
 use Rattle.std.proofs.lemmas.List.{take_rest, length-take, length-drop}
 use Rattle.std.proofs.Math.Seq.{take-add}
 use Rattle.std.specs.Io.KnownBytes.{Appends, Keeps}
-use Rattle.ll_replay.specs.Stream.{AppendsPrefix}
+use Rattle.ll_device.specs.Written.{AppendsPrefix}
 
 pub taken_within : (text : List ℕ) (i n : ℕ) → i ≤ length text → n ≤ length (take (length text - i) (drop i text)) → i + n ≤ length text
 taken_within text i n h k = omega (arith, simp (length-take, length-drop) at k)
