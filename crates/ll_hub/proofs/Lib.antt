@@ -1,0 +1,3 @@
+pub mod LastLemmas
+pub mod ParkedLemmas
+pub mod ToldLemmas

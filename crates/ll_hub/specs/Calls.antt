@@ -1,0 +1,117 @@
+-- What the calls of a hub answer. A hub is the settings of its channels, a pass what its caller has seen of each.
+use Rattle.std.specs.Prelude.{◌≡◌, ◌≢◌, ◌<◌, ℕ, ⊤, List, Option, Some, None, length, slice_get}
+use Rattle.ll_directive.specs.Targets.{WantValue}
+use Rattle.ll_item.specs.Settings.{Configuration}
+use Rattle.ll_item.specs.declared.item.Item.{Item}
+use Rattle.ll_room.specs.Mark.{Mark}
+use Rattle.ll_room.specs.declared.fault.AskFault.TheVariants as ask
+use Rattle.ll_room.specs.declared.fault.ClockFault.TheVariants as clock
+use Rattle.ll_room.specs.declared.stamped.Stamp.TheVariants as stamp
+use Rattle.ll_verdict.specs.declared.fault.PublishFault.{PublishFault}
+use Rattle.ll_verdict.specs.declared.fault.PublishFault.TheVariants as refused
+use Rattle.ll_verdict.specs.declared.reply.Reply.{Reply}
+use Rattle.ll_hub.specs.Claim.{ClaimValue}
+use Rattle.ll_hub.specs.Passes.{noted, noted_reply}
+use Rattle.ll_hub.specs.Told.{IsAccepted, IsAnswered, IsDecided, IsHeld, IsRefused}
+use Rattle.ll_hub.specs.declared.fault.HubFault.{HubFault}
+use Rattle.ll_hub.specs.declared.fault.HubFault.TheVariants.{UnknownChannel, WentBack, Room, Stranger, Memory}
+use Rattle.ll_hub.specs.declared.fault.RoomFault.TheVariants as room
+use Rattle.ll_hub.specs.declared.hub.HubAsked.{HubAsked}
+use Rattle.ll_hub.specs.declared.hub.HubAsked.TheVariants.{Now, Held}
+
+-- the channel at this place has these settings, and a caller has seen so many items of it
+pub record IsKnown (hub : List Configuration) (passed : List ℕ) (place : ℕ) (settings : Configuration) (seen : ℕ) : Type 0 where
+  pub channel : slice_get hub place ≡ Some settings
+  pub pass : slice_get passed place ≡ Some seen
+
+-- why the lock of the channel at this place isn't reached, where the caller has seen this of it
+abbrev pub IsUnreached : List Configuration → ℕ → Option ℕ → HubFault → Type 0
+IsUnreached hub place seen UnknownChannel = slice_get hub place ≡ None
+IsUnreached hub place seen Stranger = (seen ≡ None) × (settings : Configuration) × (slice_get hub place ≡ Some settings)
+IsUnreached hub place seen other = ⊥
+
+-- ---- publish
+
+-- an item was accepted by the channel at this place
+pub record IsPublished (hub : List Configuration) (place : ℕ) (item : Item) (before after : List ℕ) (mark : Mark ℕ) : Type 0 where
+  pub settings : Configuration
+  pub seen : ℕ
+  pub known : IsKnown hub before place settings seen
+  pub room : mark.room ≡ place
+  pub stamp : mark.stamp ≡ stamp.Publish item
+  pub accepted : IsAccepted settings item seen mark.value
+  pub passed : after ≡ noted before place mark.value
+
+-- an item was refused by the room of the channel at this place; memory that isn't found says nothing of the item
+pub record IsItemRefused (hub : List Configuration) (place : ℕ) (item : Item) (before : List ℕ) (fault : PublishFault) : Type 0 where
+  pub settings : Configuration
+  pub seen : ℕ
+  pub known : IsKnown hub before place settings seen
+  pub refused : fault ≢ refused.Memory → IsRefused settings item seen fault
+
+-- what every call may be refused for before its room is asked
+abbrev pub IsUnmet : List Configuration → List ℕ → ℕ → HubFault → Type 0
+IsUnmet hub before place UnknownChannel = slice_get hub place ≡ None
+IsUnmet hub before place (WentBack seen found) = (slice_get before place ≡ Some seen) × (found < seen)
+IsUnmet hub before place (Room other fault) = ⊥
+IsUnmet hub before place Stranger = (settings : Configuration) × (slice_get hub place ≡ Some settings)
+IsUnmet hub before place Memory = ⊥
+
+abbrev pub IsPublishFault : List Configuration → ℕ → Item → List ℕ → HubFault → Type 0
+IsPublishFault hub place item before (Room other (room.Publish fault)) = (other ≡ place) × IsItemRefused hub place item before fault
+IsPublishFault hub place item before fault = IsUnmet hub before place fault
+
+-- ---- ask
+
+-- a request is answered at once
+pub record IsAnsweredNow (hub : List Configuration) (place : ℕ) (want : WantValue) (before after : List ℕ) (mark : Mark Reply) : Type 0 where
+  pub settings : Configuration
+  pub seen : ℕ
+  pub number : ℕ
+  pub known : IsKnown hub before place settings seen
+  pub room : mark.room ≡ place
+  pub stamp : mark.stamp ≡ stamp.Ask number want
+  pub answered : IsAnswered settings want seen number mark.value
+  pub passed : after ≡ noted_reply before place mark.value
+
+-- a request is held
+pub record IsClaimed (hub : List Configuration) (place : ℕ) (want : WantValue) (before after : List ℕ) (claim : ClaimValue) : Type 0 where
+  pub settings : Configuration
+  pub seen : ℕ
+  pub known : IsKnown hub before place settings seen
+  pub channel : claim.channel ≡ place
+  pub held : IsHeld settings want seen claim.entry
+  pub passed : after ≡ before
+
+abbrev pub IsAskedOf : List Configuration → ℕ → WantValue → List ℕ → List ℕ → HubAsked → Type 0
+IsAskedOf hub place want before after (Now mark) = IsAnsweredNow hub place want before after mark
+IsAskedOf hub place want before after (Held claim) = IsClaimed hub place want before after claim
+
+abbrev pub IsAskFault : List Configuration → ℕ → List ℕ → HubFault → Type 0
+IsAskFault hub place before (Room other (room.Publish fault)) = ⊥
+IsAskFault hub place before (Room other (room.Ask fault)) = other ≡ place
+IsAskFault hub place before (Room other (room.Clock fault)) = other ≡ place
+IsAskFault hub place before Memory = ⊤
+IsAskFault hub place before fault = IsUnmet hub before place fault
+
+-- ---- wait
+
+-- a held request got its reply
+pub record IsReplied (hub : List Configuration) (claim : ClaimValue) (before after : List ℕ) (mark : Mark Reply) : Type 0 where
+  pub settings : Configuration
+  pub channel : slice_get hub claim.channel ≡ Some settings
+  pub room : mark.room ≡ claim.channel
+  pub stamp : mark.stamp ≡ stamp.Collect claim.entry.ticket
+  pub decided : IsDecided settings claim.entry mark.value
+  pub passed : after ≡ noted_reply before claim.channel mark.value
+
+abbrev pub IsWaitFault : List Configuration → ℕ → HubFault → Type 0
+IsWaitFault hub place UnknownChannel = slice_get hub place ≡ None
+IsWaitFault hub place Stranger = (settings : Configuration) × (slice_get hub place ≡ Some settings)
+IsWaitFault hub place other = ⊥
+
+-- ---- tick
+
+abbrev pub IsTickFault : List Configuration → HubFault → Type 0
+IsTickFault hub (Room place (room.Clock fault)) = place < length hub
+IsTickFault hub other = ⊥
