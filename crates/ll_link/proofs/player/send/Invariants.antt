@@ -1,0 +1,14 @@
+-- The answers so far were sent, and no write has failed.
+use Rattle.std.specs.Prelude.{◌≡◌, length}
+use Rattle.ll_link.proofs.SendLemmas.{IsSent}
+use Rattle.ll_link.proofs.player.send.Given as goal
+
+abbrev pub invariant-loop-length : goal.invariant-loop-length
+invariant-loop-length g l = record {
+  steady : g.L.Writer.failures l.link ≡ g.L.Writer.failures l.fn.link;
+  sent : IsSent (g.L.Writer.written l.fn.link) (g.L.Writer.written l.link) l.fn.session.answers l.session.answers;
+  rest : l.session ≡ record l.fn.session { answers = l.session.answers };
+}
+
+abbrev pub decreases-loop-length : goal.decreases-loop-length
+decreases-loop-length g l = length l.session.answers

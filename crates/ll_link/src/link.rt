@@ -1,0 +1,38 @@
+ghost use Rattle.std.specs.Prelude.{◌≡◌, ◌<◌, ◌≤◌, IfOk, OnErr, OnOk, length};
+
+use ll_device::{Failed, Writer};
+
+/// One connection: bytes come by its reads, and go by its writes.
+pub trait Link: Writer + Drop {
+    /// One read: how many bytes it put first in `buf`, 0 at the end. A read that fails, or takes longer than the link allows, counts as
+    /// a failure of the link.
+    fn read(&mut self, buf: &mut [u8]) -> Result<usize, Failed>
+        ensures count { IfOk result (λ n. n ≤ length buf.new) }
+        ensures unwritten { Self.written self.new ≡ Self.written self.old }
+        ensures steady { OnOk result (Self.failures self.new ≡ Self.failures self.old) }
+        ensures failed { OnErr result (Self.failures self.old < Self.failures self.new) };
+}
+
+/// Who is at the other end of a connection.
+#[derive(Clone, Copy, Debug, PartialEq, Eq)]
+pub enum Role {
+    /// One who asks for playlists over HTTP/1.1.
+    Player,
+    /// One who announces items, a line each.
+    Publisher,
+}
+
+/// What each answer passes before it is sent.
+pub trait Gate {
+    /// The answer of this number of its connection, from 1, is about to be sent.
+    fn pass(&self, call: u64);
+}
+
+/// Where connections come from.
+pub trait Source {
+    /// A connection.
+    type Peer: Link + Send;
+
+    /// The next connection; nothing, where no more come.
+    fn next(&mut self) -> Option<Self::Peer>;
+}

@@ -1,0 +1,163 @@
+//! A player's connection.
+ghost use Rattle.std.specs.Prelude.{◌≡◌, [], ℕ, OnOk};
+ghost use Rattle.std.specs.Io.KnownBytes.{Appends};
+ghost use Rattle.std.specs.List.{concat};
+ghost use Rattle.ll_link.specs.Faults.{IsTrue};
+
+use crate::desk::Desk;
+use crate::fault::LinkFault;
+use crate::link::{Gate, Link};
+use crate::workers::{PIECE, READS};
+use ll_device::write_all;
+use ll_directive::{TargetFault, Want};
+use ll_hub::{Claim, Clock, HubAsked, HubFault, Pass, RoomFault};
+use ll_room::{AskFault, ClockFault};
+use ll_session::Session;
+use ll_wire::{Answer, Unavailable};
+use std::sync::Wait;
+
+/// Answers a player's requests, one after another, and counts the answers.
+pub(crate) fn serve<L: Link, C: Clock, G: Gate, R: Wait>(
+    desk: &Desk<'_, C, G, R>,
+    link: &mut L,
+    pass: &mut Pass,
+) -> Result<u64, LinkFault>
+    ensures { IsTrue result (L.failures link.old) (L.failures link.new) }
+{
+    let mut session = Session::new(desk.alloc);
+    let served = converse(desk, link, pass, &mut session);
+    session.end();
+    served
+}
+
+/// Reads requests and answers them, until either side ends the connection.
+fn converse<L: Link, C: Clock, G: Gate, R: Wait>(
+    desk: &Desk<'_, C, G, R>,
+    link: &mut L,
+    pass: &mut Pass,
+    session: &mut Session,
+) -> Result<u64, LinkFault>
+    ensures { IsTrue result (L.failures link.old) (L.failures link.new) }
+{
+    let mut answers = 0;
+    let mut piece = [0; PIECE];
+    for _ in 0..READS {
+        answer(desk, link, pass, session, &mut answers)?;
+        if session.shut() {
+            return Ok(answers);
+        }
+        let Ok(count) = link.read(&mut piece) else {
+            return Err(LinkFault::Read);
+        };
+        if count == 0 {
+            return Ok(answers);
+        }
+        session.feed(&piece[..count])?;
+    }
+    Err(LinkFault::Endless)
+}
+
+/// Answers all whole requests that came.
+fn answer<L: Link, C: Clock, G: Gate, R: Wait>(
+    desk: &Desk<'_, C, G, R>,
+    link: &mut L,
+    pass: &mut Pass,
+    session: &mut Session,
+    answers: &mut u64,
+) -> Result<(), LinkFault>
+    ensures { IsTrue result (L.failures link.old) (L.failures link.new) }
+{
+    for _ in desk.rt.forever() {
+        let want = session.next_want()?;
+        send(desk, link, session, answers)?;
+        let Some(want) = want else {
+            return Ok(());
+        };
+        let answer = ask(desk, pass, session, want)?;
+        if session.waiting() {
+            session.answered(&answer)?;
+        }
+        send(desk, link, session, answers)?;
+    }
+    unreachable!()
+}
+
+/// Sends the answers that are there, each in one write where the link takes it.
+fn send<L: Link, C, G: Gate, R>(
+    desk: &Desk<'_, C, G, R>,
+    link: &mut L,
+    session: &mut Session,
+    answers: &mut u64,
+) -> Result<(), LinkFault>
+    ensures faults { IsTrue result (L.failures link.old) (L.failures link.new) }
+    ensures sent { OnOk result (Appends (L.written link.old) (L.written link.new) (concat session.old.answers)) }
+    ensures emptied { OnOk result (session.new ≡ record session.old { answers = [] }) }
+{
+    while let Some(length) = session.first_answer() {
+        *answers = answers.saturating_add(1);
+        desk.gate.pass(*answers);
+        match write_all(link, &session.output()[..length]) {
+            Ok(()) => session.first_sent(),
+            Err(_) => return Err(LinkFault::Write),
+        }
+    }
+    Ok(())
+}
+
+/// What a request is answered. Where it has to wait, its reply is waited for.
+fn ask<C: Clock, G, R: Wait>(
+    desk: &Desk<'_, C, G, R>,
+    pass: &mut Pass,
+    session: &mut Session,
+    want: Want,
+) -> Result<Answer, LinkFault>
+    ensures { (failures : ℕ) → IsTrue result failures failures }
+{
+    let Some((channel, _)) = desk.hub.find(want.channel()) else {
+        return Ok(Answer::Target(TargetFault::NotFound));
+    };
+    match desk.hub.ask(desk.rt, desk.clock, pass, channel, want) {
+        Ok(HubAsked::Now(reply)) => Ok(Answer::Reply(reply.into_inner())),
+        Ok(HubAsked::Held(claim)) => wait(desk, pass, session, claim),
+        Err(fault) => unavailable(fault),
+    }
+}
+
+/// The reply to a request that is held. Where too many bytes wait after it, it is given up, and the session has shut.
+fn wait<C, G, R: Wait>(
+    desk: &Desk<'_, C, G, R>,
+    pass: &mut Pass,
+    session: &mut Session,
+    claim: Claim,
+) -> Result<Answer, LinkFault>
+    ensures { (failures : ℕ) → IsTrue result failures failures }
+{
+    let fed = session.feed(&[]);
+    if fed.is_err() || session.shut() {
+        desk.hub.close(desk.rt, claim);
+        fed?;
+        return Ok(Answer::Unavailable(Unavailable::Memory));
+    }
+    match desk.hub.wait(desk.rt, pass, claim) {
+        Ok(reply) => Ok(Answer::Reply(reply.into_inner())),
+        Err(_) => Err(LinkFault::Hub),
+    }
+}
+
+/// What a request is answered that its channel can't take now.
+fn unavailable(fault: HubFault) -> Result<Answer, LinkFault>
+    ensures { (failures : ℕ) → IsTrue result failures failures }
+{
+    match fault {
+        HubFault::Room {
+            fault: RoomFault::Ask(AskFault::RecordFull) | RoomFault::Clock(ClockFault::RecordFull),
+            ..
+        } => Ok(Answer::Unavailable(Unavailable::RecordFull)),
+        HubFault::Memory
+        | HubFault::Room {
+            fault: RoomFault::Ask(AskFault::Memory),
+            ..
+        } => Ok(Answer::Unavailable(Unavailable::Memory)),
+        _ => Err(LinkFault::Hub),
+    }
+}

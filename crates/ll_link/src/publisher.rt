@@ -1,0 +1,109 @@
+//! A publisher's connection.
+ghost use Rattle.std.specs.Prelude.{ℕ, OnOk};
+ghost use Rattle.std.specs.Io.KnownBytes.{Appends};
+ghost use Rattle.ll_publish.specs.Refusals.{reply_line};
+ghost use Rattle.ll_link.specs.Faults.{IsTrue};
+
+use crate::desk::Desk;
+use crate::fault::LinkFault;
+use crate::link::{Gate, Link};
+use crate::workers::{PIECE, READS};
+use ll_device::write_all;
+use ll_hub::{HubFault, Pass, RoomFault};
+use ll_item::Item;
+use ll_publish::{Feed, Line, Refusal, reply_text};
+use std::sync::Wait;
+
+/// Publishes what a publisher's lines announce, answers each, and counts the answers.
+pub(crate) fn serve<L: Link, C, G: Gate, R: Wait>(
+    desk: &Desk<'_, C, G, R>,
+    link: &mut L,
+    pass: &mut Pass,
+) -> Result<u64, LinkFault>
+    ensures { IsTrue result (L.failures link.old) (L.failures link.new) }
+{
+    let mut feed = Feed::new(desk.alloc);
+    let mut answers = 0;
+    let mut piece = [0; PIECE];
+    for _ in 0..READS {
+        let Ok(count) = link.read(&mut piece) else {
+            return Err(LinkFault::Read);
+        };
+        if count == 0 {
+            return Ok(answers);
+        }
+        feed.take(&piece[..count])?;
+        answer(desk, link, pass, &mut feed, &mut answers)?;
+    }
+    Err(LinkFault::Endless)
+}
+
+/// Answers all whole lines that came.
+fn answer<L: Link, C, G: Gate, R: Wait>(
+    desk: &Desk<'_, C, G, R>,
+    link: &mut L,
+    pass: &mut Pass,
+    feed: &mut Feed,
+    answers: &mut u64,
+) -> Result<(), LinkFault>
+    ensures { IsTrue result (L.failures link.old) (L.failures link.new) }
+{
+    for _ in desk.rt.forever() {
+        let Some(line) = feed.next() else {
+            return Ok(());
+        };
+        let reply = publish(desk, pass, line)?;
+        *answers = answers.saturating_add(1);
+        desk.gate.pass(*answers);
+        tell(desk, link, &reply)?;
+    }
+    unreachable!()
+}
+
+/// Sends the line that answers a publisher's.
+fn tell<L: Link, C, G, R>(
+    desk: &Desk<'_, C, G, R>,
+    link: &mut L,
+    reply: &Result<u64, Refusal>,
+) -> Result<(), LinkFault>
+    ensures faults { IsTrue result (L.failures link.old) (L.failures link.new) }
+    ensures sent { OnOk result (Appends (L.written link.old) (L.written link.new) (reply_line reply.now)) }
+{
+    let text = reply_text(desk.alloc, reply)?;
+    match write_all(link, text.as_bytes()) {
+        Ok(()) => Ok(()),
+        Err(_) => Err(LinkFault::Write),
+    }
+}
+
+/// Publishes what a line announces: how many items its channel has accepted with it, or why it is refused.
+fn publish<C, G, R: Wait>(
+    desk: &Desk<'_, C, G, R>,
+    pass: &mut Pass,
+    line: Line<'_>,
+) -> Result<Result<u64, Refusal>, LinkFault>
+    ensures { (failures : ℕ) → IsTrue result failures failures }
+{
+    let (name, text) = match line {
+        Line::Item(name, text) => (name, text),
+        Line::Bad => return Ok(Err(Refusal::BadLine)),
+        Line::TooLong => return Ok(Err(Refusal::LineTooLong)),
+    };
+    let Some((channel, settings)) = desk.hub.find(name) else {
+        return Ok(Err(Refusal::UnknownChannel));
+    };
+    let item = match Item::read(desk.alloc, settings, text) {
+        Ok(item) => item,
+        Err(fault) => return Ok(Err(Refusal::from(fault))),
+    };
+    match desk.hub.publish(desk.rt, pass, channel, item) {
+        Ok(count) => Ok(Ok(count.into_inner())),
+        Err(
+            HubFault::Room {
+                fault: RoomFault::Publish(fault),
+                ..
+            },
+        ) => Ok(Err(Refusal::from(fault))),
+        Err(_) => Err(LinkFault::Hub),
+    }
+}
