@@ -5,9 +5,9 @@ PREFIX ?= /usr/local
 .PHONY: help run test install refused-memory bench
 
 help:
-	@echo 'make run              proves and builds the program, and runs it on examples/first.script'
+	@echo 'make run              proves and builds the program, runs it on examples/first.script, and as a server'
 	@echo 'make test             proves and tests everything from nothing'
-	@echo 'make install          builds the program and copies it to PREFIX/bin (PREFIX=$(PREFIX))'
+	@echo 'make install          builds the program and copies it to PREFIX/bin, and its manual page to PREFIX/share/man (PREFIX=$(PREFIX))'
 	@echo 'make refused-memory   refuses each allocation of the program in turn'
 	@echo 'make bench            measures speed and memory'
 
@@ -19,6 +19,7 @@ test: kit
 
 install: kit
 	@program=$$($(HERE)tests/program.sh) && mkdir -p "$(DESTDIR)$(PREFIX)/bin" && install -m 755 "$$program" "$(DESTDIR)$(PREFIX)/bin/llhls"
+	@install -D -m 644 "$(HERE)docs/llhls.1" "$(DESTDIR)$(PREFIX)/share/man/man1/llhls.1"
 
 refused-memory: kit
 	@$(HERE)tests/refused_memory.sh
@@ -28,6 +29,7 @@ bench: kit
 	@$(HERE)bench/apply.sh
 	@$(HERE)bench/waiting.sh
 	@$(HERE)bench/connections.sh
+	@$(HERE)bench/serve.sh
 
 .PHONY: kit
 kit:

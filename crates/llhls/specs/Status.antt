@@ -5,7 +5,7 @@ use Rattle.ll_apply.specs.declared.fault.ApplyFault.TheVariants as apply
 use Rattle.ll_replay.specs.declared.outcome.RunFault.{RunFault}
 use Rattle.ll_replay.specs.declared.outcome.RunFault.TheVariants as run
 use Rattle.llhls.specs.declared.fault.Fault.{Fault}
-use Rattle.llhls.specs.declared.fault.Fault.TheVariants.{Usage, Read, Write, Memory, Replay, Apply}
+use Rattle.llhls.specs.declared.fault.Fault.TheVariants.{Usage, Read, Write, Memory, Replay, BadLine, Listen, Clock, Apply}
 
 -- of a script
 abbrev pub replay_status : RunFault → ℕ
@@ -28,5 +28,8 @@ status_of Usage = 2
 status_of Read = 4
 status_of Write = 4
 status_of Memory = 4
+status_of (BadLine line) = 3
+status_of Listen = 4
+status_of Clock = 4
 status_of (Replay fault) = replay_status fault
 status_of (Apply fault) = apply_status fault

@@ -25,6 +25,15 @@ pub(crate) enum Fault {
     /// A script was not run to its end.
     #[error("{0}")]
     Replay(RunFault),
+    /// A line of the settings that can't stand in its place.
+    #[error("BadLine {0}")]
+    BadLine(u64),
+    /// An address could not be listened at.
+    #[error("Listen")]
+    Listen,
+    /// The clock could not be read.
+    #[error("Clock")]
+    Clock,
     /// There is no full playlist.
     #[error("{0}")]
     Apply(ApplyFault),
@@ -37,7 +46,8 @@ impl Fault {
     {
         match self {
             Fault::Usage => 2,
-            Fault::Read | Fault::Write | Fault::Memory => 4,
+            Fault::BadLine(_) => 3,
+            Fault::Read | Fault::Write | Fault::Memory | Fault::Listen | Fault::Clock => 4,
             Fault::Replay(fault) => replay_status(fault),
             Fault::Apply(fault) => apply_status(fault),
         }

@@ -1,5 +1,5 @@
-//! `llhls`: an origin for Low-Latency HLS. `llhls replay` replays a script, `llhls apply BASE DELTA` applies a delta update to a
-//! playlist.
+//! `llhls`: an origin for Low-Latency HLS. `llhls serve SETTINGS` serves publishers and players over TCP, `llhls replay` replays a
+//! script, `llhls apply BASE DELTA` applies a delta update to a playlist.
 #![tactic(auto)]
 
 ghost use Rattle.std.specs.Prelude.{◌≡◌, ◌≢◌, List, ℕ, Ok, Err, IfErr, IsErrOf, IsOk, OnOk};
@@ -10,12 +10,17 @@ ghost use Rattle.ll_apply.specs.declared.fault.ApplyFault.TheVariants as apply_f
 ghost use Rattle.ll_replay.specs.declared.outcome.RunFault.{RunFault};
 
 mod command;
+mod config;
+mod door;
 mod fault;
+mod serve;
 
 use crate::command::{Command, words};
 use crate::fault::{Fault, fault_of};
+use crate::serve::serve;
 use ll_apply::apply;
-use ll_replay::{CountedReader, CountedWriter, run};
+use ll_device::{CountedReader, CountedWriter};
+use ll_replay::run;
 use std::alloc::Global;
 use std::io::Write;
 use std::marker::Brand;
@@ -24,7 +29,12 @@ use std::sync::ledger::{Blank, Ledger};
 use std::{fs, io};
 
 fn main(rt: HostRuntime) -> ExitCode {
-    match called(&rt) {
+    let done = match called(&rt) {
+        Ok(Some(settings)) => serve(&rt, rt.alloc(), &settings),
+        Ok(None) => Ok(()),
+        Err(fault) => Err(fault),
+    };
+    match done {
         Ok(()) => ExitCode::SUCCESS,
         Err(fault) => {
             let _ = eprintln!(rt; "llhls: {fault}");
@@ -33,17 +43,22 @@ fn main(rt: HostRuntime) -> ExitCode {
     }
 }
 
-/// Does what the program was called to do.
-fn called(rt: &HostRuntime) -> Result<(), Fault> {
+/// Does what the program was called to do. The settings of a server are handed back: `main` alone has the handle that starts threads.
+fn called(rt: &HostRuntime) -> Result<Option<Vec<u8>>, Fault> {
     let words = words(rt)?;
     match Command::of(&words)? {
-        Command::Replay => replay::<Brand, Brand>(rt, Blank::new(2), Blank::new(2)),
+        Command::Replay => replay::<Brand, Brand>(rt, Blank::new(2), Blank::new(2))?,
         Command::Apply { base, delta } => {
             let base = read_file(rt, base.as_str())?;
             let delta = read_file(rt, delta.as_str())?;
-            write_applied(rt.alloc(), &base, &delta, &mut rt.stdout())
+            write_applied(rt.alloc(), &base, &delta, &mut rt.stdout())?;
+        }
+        Command::Serve(settings) => {
+            let settings = read_file(rt, settings.as_str())?;
+            return Ok(Some(settings));
         }
     }
+    Ok(None)
 }
 
 /// Runs the script on standard input; its answers go to standard output.

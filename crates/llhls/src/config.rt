@@ -1,0 +1,158 @@
+//! The settings of a server, a line each.
+ghost use Rattle.std.specs.Prelude.{◌≤◌, ◌<◌, IfOk, IsSome, length, vec_len};
+
+use crate::fault::Fault;
+use ll_attr::{after, parse_number};
+use ll_item::{Settings, SettingsFault};
+use std::alloc::Global;
+use std::net::SocketAddrV4;
+use std::str;
+
+/// The most channels of a server.
+const CHANNELS: usize = 1_024;
+
+/// The most workers of each role.
+const WORKERS: u64 = 4_096;
+
+/// What a server is told: its lines, in this order.
+#[derive(Drop)]
+pub(crate) struct Config {
+    /// `listen ADDRESS:PORT`: where players come.
+    pub(crate) players: SocketAddrV4,
+    /// `publish ADDRESS:PORT`: where publishers come.
+    pub(crate) publishers: SocketAddrV4,
+    /// `workers N`.
+    pub(crate) workers: Workers,
+    /// One or more settings lines of channels with distinct names.
+    pub(crate) channels: Vec<Settings>,
+    ghost some_channel: { 1 ≤ vec_len channels },
+    ghost few_channels: { vec_len channels ≤ 1024 },
+}
+
+/// How many connections of each role are served at once.
+#[derive(Clone, Copy, Drop)]
+pub(crate) struct Workers {
+    pub(crate) count: usize,
+    ghost some: { 1 ≤ count },
+    ghost few: { count ≤ 4096 },
+}
+
+impl Config {
+    /// What a settings file tells, or its first line that can't stand in its place; where it ends too early, that is the line after
+    /// its last.
+    pub(crate) fn read(alloc: Global, bytes: &[u8]) -> Result<Config, Fault> {
+        let mut lines = Lines {
+            rest: bytes,
+            number: 0,
+        };
+        let players = lines.address("listen ")?;
+        let publishers = lines.address("publish ")?;
+        let workers = lines.workers()?;
+        let channels = lines.channels(alloc)?;
+        Ok(Config {
+            players,
+            publishers,
+            workers,
+            channels,
+        })
+    }
+}
+
+/// The lines of a settings file that weren't read, and the number of the last one that was, from 1.
+#[derive(Drop)]
+struct Lines<'a> {
+    rest: &'a [u8],
+    number: u64,
+}
+
+impl<'a> Lines<'a> {
+    /// The next line, without its end; nothing after the last.
+    fn next(&mut self) -> Result<Option<&'a str>, Fault>
+        ensures { IfOk result (λ line. IsSome line → length self.new.rest.now < length self.old.rest.now) }
+    {
+        self.number = self.number.saturating_add(1);
+        if self.rest.is_empty() {
+            return Ok(None);
+        }
+        let end = self.rest.iter().position(|b| *b == b'\n');
+        let (line, rest) = match end {
+            Some(end) => (&self.rest[..end], &self.rest[end + 1..]),
+            None => (self.rest, &self.rest[self.rest.len()..]),
+        };
+        self.rest = rest;
+        let line = line.strip_suffix(b"\r").unwrap_or(line);
+        match str::from_utf8(line) {
+            Ok(text) => Ok(Some(text)),
+            Err(_) => Err(self.bad()),
+        }
+    }
+
+    /// The line that was read can't stand in its place.
+    fn bad(&self) -> Fault {
+        Fault::BadLine(self.number)
+    }
+
+    /// What stands after this keyword in the next line, which begins with it.
+    fn value(&mut self, keyword: &str) -> Result<&'a str, Fault> {
+        match self.next()? {
+            Some(line) => match after(line, keyword) {
+                Some(value) => Ok(value),
+                None => Err(self.bad()),
+            },
+            None => Err(self.bad()),
+        }
+    }
+
+    /// The address in the next line.
+    fn address(&mut self, keyword: &str) -> Result<SocketAddrV4, Fault> {
+        match self.value(keyword)?.parse::<SocketAddrV4>() {
+            Ok(address) => Ok(address),
+            Err(_) => Err(self.bad()),
+        }
+    }
+
+    /// The number of workers in the next line.
+    fn workers(&mut self) -> Result<Workers, Fault> {
+        match parse_number(self.value("workers ")?, 20) {
+            Some(count) if 1 <= count && count <= WORKERS => Ok(Workers {
+                count: count as usize,
+            }),
+            _ => Err(self.bad()),
+        }
+    }
+
+    /// The channels of all further lines, of which there is at least one.
+    fn channels(&mut self, alloc: Global) -> Result<Vec<Settings>, Fault>
+        ensures some { IfOk result (λ all. 1 ≤ vec_len all) }
+        ensures few { IfOk result (λ all. vec_len all ≤ 1024) }
+    {
+        let mut all: Vec<Settings> = Vec::new(alloc);
+        while let Some(line) = self.next()? {
+            let settings = self.channel(alloc, line)?;
+            if all.len() == CHANNELS || has_name(&all, settings.channel()) {
+                return Err(self.bad());
+            }
+            if all.push(settings).is_err() {
+                return Err(Fault::Memory);
+            }
+        }
+        if all.is_empty() {
+            return Err(self.bad());
+        }
+        Ok(all)
+    }
+
+    /// The channel of a settings line.
+    fn channel(&self, alloc: Global, line: &str) -> Result<Settings, Fault> {
+        match Settings::read(alloc, line) {
+            Ok(settings) => Ok(settings),
+            Err(SettingsFault::Memory) => Err(Fault::Memory),
+            Err(_) => Err(self.bad()),
+        }
+    }
+}
+
+/// Whether one of these channels has this name.
+fn has_name(all: &[Settings], name: &str) -> bool {
+    all.iter().any(|settings| settings.channel() == name)
+}

@@ -1,0 +1,139 @@
+//! Sockets as the links of players and publishers.
+use crate::fault::Fault;
+use ll_device::{Failed, Writer};
+use ll_link::{Link, Role, Source};
+use std::io::{Read, Write};
+use std::net::{Net, SocketAddr, SocketAddrV4, TcpListener, TcpStream};
+use std::os::fd::AsRawFd;
+use std::thread;
+use std::time::{Clock, Duration};
+
+/// How many connections may wait to be accepted.
+const BACKLOG: i32 = 4_096;
+
+/// How long a player may send nothing while no request of it is held, and how long a write may take, in seconds.
+const LIMIT: u64 = 30;
+
+/// How long to wait after a connection could not be accepted, in milliseconds.
+const PAUSE: u64 = 50;
+
+/// A connection. Once a read or a write has failed, it gives no more bytes and takes all without sending them.
+#[derive(Drop)]
+pub(crate) struct Socket {
+    stream: TcpStream,
+    failed: bool,
+}
+
+impl Writer for Socket {
+    ghost use Rattle.std.specs.Prelude.{None, if◌then◌else◌};
+
+    ghost written = { λ s. None };
+
+    ghost failures = { λ s. if s.failed then 1 else 0 };
+
+    fn write(&mut self, text: &[u8]) -> Result<usize, Failed> {
+        if self.failed {
+            return Ok(text.len());
+        }
+        let mut stream = &self.stream;
+        match stream.write(text) {
+            Ok(count) if count > 0 || text.is_empty() => Ok(count),
+            _ => {
+                self.failed = true;
+                Err(Failed)
+            }
+        }
+    }
+}
+
+impl Link for Socket {
+    fn read(&mut self, buf: &mut [u8]) -> Result<usize, Failed> {
+        if self.failed {
+            return Ok(0);
+        }
+        let mut stream = &self.stream;
+        match stream.read(buf) {
+            Ok(count) => Ok(count),
+            Err(_) => {
+                self.failed = true;
+                Err(Failed)
+            }
+        }
+    }
+}
+
+/// Where connections of one role come in.
+#[derive(Drop)]
+pub(crate) struct Door<'a, R> {
+    rt: &'a R,
+    role: Role,
+    listener: TcpListener,
+    told: bool,
+}
+
+impl<'a, R: Net<Listener = TcpListener, Stream = TcpStream>> Door<'a, R> {
+    /// Listens at this address.
+    pub(crate) fn open(rt: &'a R, address: SocketAddrV4, role: Role) -> Result<Door<'a, R>, Fault> {
+        let Ok(listener) = TcpListener::bind(rt, address) else {
+            return Err(Fault::Listen);
+        };
+        if libc::net::listen(listener.as_raw_fd(), BACKLOG) != 0 {
+            return Err(Fault::Listen);
+        }
+        Ok(Door {
+            rt,
+            role,
+            listener,
+            told: false,
+        })
+    }
+
+    /// Whose connections come in.
+    pub(crate) fn role(&self) -> Role {
+        self.role
+    }
+
+    /// The address that it listens at.
+    pub(crate) fn address(&self) -> Result<SocketAddr, Fault> {
+        match self.listener.local_addr() {
+            Ok(address) => Ok(address),
+            Err(_) => Err(Fault::Listen),
+        }
+    }
+
+    /// The next connection, with its limits set.
+    fn accept(&self) -> std::io::Result<Socket> {
+        let (stream, _) = self.listener.accept()?;
+        stream.set_nodelay(true)?;
+        stream.set_write_timeout(Some(Duration::from_secs(LIMIT)))?;
+        if self.role == Role::Player {
+            stream.set_read_timeout(Some(Duration::from_secs(LIMIT)))?;
+        }
+        Ok(Socket {
+            stream,
+            failed: false,
+        })
+    }
+}
+
+impl<R: Net<Listener = TcpListener, Stream = TcpStream> + Eprint + Clock> Source for Door<'_, R> {
+    type Peer = Socket;
+
+    fn next(&mut self) -> Option<Socket> {
+        for _ in 0..u64::MAX {
+            match self.accept() {
+                Ok(socket) => return Some(socket),
+                Err(error) => {
+                    if !self.told {
+                        self.told = true;
+                        let _ = eprintln!(self.rt;
+                            "llhls: a connection could not be accepted: {error}"
+                        );
+                    }
+                    thread::sleep(self.rt, Duration::from_millis(PAUSE));
+                }
+            }
+        }
+        None
+    }
+}
