@@ -1,0 +1,132 @@
+//! Connections in memory.
+ghost use Rattle.std.specs.Prelude.{◌≤◌, None, if◌then◌else◌};
+
+use ll_device::{Failed, Writer};
+use ll_link::{Gate, Link};
+use std::alloc::Global;
+
+/// A request after which the connection is kept.
+pub(crate) const GET: &[u8] = b"GET /cam/hi/live.m3u8 HTTP/1.1\r\nHost: h\r\n\r\n";
+
+/// A request that waits for the first part.
+pub(crate) const GET_FIRST: &[u8] =
+    b"GET /cam/hi/live.m3u8?_HLS_msn=0&_HLS_part=0 HTTP/1.1\r\nHost: h\r\n\r\n";
+
+/// The answer, where one segment of one part was published.
+pub(crate) const ANSWER: &[u8] =
+    b"HTTP/1.1 200 OK\r\nContent-Type: application/vnd.apple.mpegurl\r\nContent-Length: 442\r\n\
+Cache-Control: no-cache\r\nConnection: keep-alive\r\n\r\n\
+#EXTM3U\n#EXT-X-VERSION:9\n#EXT-X-TARGETDURATION:4\n\
+#EXT-X-SERVER-CONTROL:CAN-BLOCK-RELOAD=YES,PART-HOLD-BACK=3.000000,CAN-SKIP-UNTIL=24.000000\n\
+#EXT-X-PART-INF:PART-TARGET=1.000000\n#EXT-X-MEDIA-SEQUENCE:0\n#EXT-X-DISCONTINUITY-SEQUENCE:0\n\
+#EXT-X-MAP:URI=\"init0.mp4\"\n#EXT-X-PROGRAM-DATE-TIME:1970-01-01T00:00:00.000Z\n\
+#EXT-X-PART:DURATION=1.000000,URI=\"s0.0.m4s\",INDEPENDENT=YES\n#EXTINF:1.000000,\ns0.m4s\n\
+#EXT-X-PRELOAD-HINT:TYPE=PART,URI=\"s1.0.m4s\"\n";
+
+/// A gate that is open.
+#[derive(Clone, Copy)]
+pub(crate) struct Open;
+
+impl Gate for Open {
+    fn pass(&self, _call: u64) {}
+}
+
+/// How a connection gives and takes its bytes.
+#[derive(Clone, Copy, Debug)]
+pub(crate) struct Plan {
+    /// How many bytes a read gives at most.
+    pub(crate) step: usize,
+    /// How many reads go well before one fails.
+    pub(crate) reads: usize,
+    /// How many bytes a write takes at most. One that would take none fails.
+    pub(crate) taken: usize,
+    /// How many writes go well before one fails.
+    pub(crate) writes: usize,
+    /// After how many writes more comes one that takes one byte alone.
+    pub(crate) whole: usize,
+}
+
+/// All bytes at once, and no failure.
+pub(crate) const SOUND: Plan = Plan {
+    step: 100_000,
+    reads: 100_000,
+    taken: 100_000,
+    writes: 100_000,
+    whole: 100_000,
+};
+
+/// A connection on which these bytes come, and which keeps what is sent. It fails once at most.
+#[derive(Drop)]
+pub(crate) struct Wire<'a> {
+    rest: &'a [u8],
+    plan: Plan,
+    sent: Vec<u8>,
+    failed: bool,
+}
+
+impl<'a> Wire<'a> {
+    /// A connection on which these bytes come.
+    pub(crate) fn new(alloc: Global, bytes: &'a [u8], plan: Plan) -> Wire<'a> {
+        Wire {
+            rest: bytes,
+            plan,
+            sent: Vec::new(alloc),
+            failed: false,
+        }
+    }
+
+    /// What was sent.
+    pub(crate) fn into_sent(self) -> Vec<u8> {
+        self.sent
+    }
+
+    /// How many bytes the next write takes of so many.
+    fn taken(&self, all: usize) -> usize
+        ensures { result ≤ all }
+    {
+        if self.plan.whole == 0 {
+            all.min(1)
+        } else {
+            all.min(self.plan.taken)
+        }
+    }
+}
+
+impl Writer for Wire<'_> {
+    ghost written = { λ w. None };
+
+    ghost failures = { λ w. if w.failed then 1 else 0 };
+
+    fn write(&mut self, text: &[u8]) -> Result<usize, Failed> {
+        if self.failed {
+            return Ok(text.len());
+        }
+        let count = self.taken(text.len());
+        let stuck = self.plan.writes == 0 || (count == 0 && !text.is_empty());
+        if stuck || self.sent.extend_from_slice(&text[..count]).is_err() {
+            self.failed = true;
+            return Err(Failed);
+        }
+        self.plan.writes -= 1;
+        self.plan.whole = self.plan.whole.checked_sub(1).unwrap_or(100_000);
+        Ok(count)
+    }
+}
+
+impl Link for Wire<'_> {
+    fn read(&mut self, buf: &mut [u8]) -> Result<usize, Failed> {
+        let count = self.plan.step.min(buf.len()).min(self.rest.len());
+        if self.failed {
+            return Ok(0);
+        }
+        if self.plan.reads == 0 {
+            self.failed = true;
+            return Err(Failed);
+        }
+        self.plan.reads -= 1;
+        let (front, rest) = self.rest.split_at(count);
+        buf[..count].copy_from_slice(front);
+        self.rest = rest;
+        Ok(count)
+    }
+}
