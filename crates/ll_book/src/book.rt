@@ -1,4 +1,4 @@
-ghost use Rattle.std.specs.Prelude.{◌≡◌, ◌≤◌, ◌<◌, ◌++◌, ◌∷◌, [], None, Some, true, IfOk, IsErrOf, OnErr, OnOk, filter, find, is_some, length, map, option_map, position};
+ghost use Rattle.std.specs.Prelude.{◌≡◌, ◌≤◌, ◌<◌, ◌++◌, ◌∷◌, [], None, Some, true, IfOk, IsErrOf, OnErr, OnOk, filter, find, is_some, length, map, nat_le, option_map, position};
 ghost use Rattle.std.specs.List.{list_any};
 ghost use Rattle.ll_verdict.specs.State.{is_waiting, waiting_in};
 ghost use Rattle.ll_verdict.specs.Verdict.{waiting_limit};
@@ -92,6 +92,13 @@ impl Book {
             settled: None,
         });
         Ok(())
+    }
+
+    /// Whether as many wait as may wait.
+    pub fn is_busy(&self) -> bool
+        ensures { result ≡ nat_le waiting_limit (waiting_in self.now) }
+    {
+        waiting(&self.slots) >= WAITING_LIMIT
     }
 
     /// The open request of this ticket.

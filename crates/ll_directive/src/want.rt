@@ -1,8 +1,9 @@
 //! What a request wants.
-ghost use Rattle.std.specs.Prelude.{◌≡◌, IfOk, true};
+ghost use Rattle.std.specs.Prelude.{◌≡◌, ◌&&◌, IfOk, None, Some, if◌then◌else◌, true};
 ghost use Rattle.ll_item.specs.Names.{is_name};
 
 use ll_attr::Text;
+use ll_item::is_name;
 use std::alloc::AllocError;
 use std::marker::Model;
 
@@ -50,6 +51,17 @@ impl Model for Want {
 }
 
 impl Want {
+    /// What is wanted of the rendition of this name of the channel of this name; none where one of them hasn't a name's form.
+    pub fn new(channel: Text, rendition: Text, awaited: Awaited, skip: Skip) -> Option<Want>
+        ensures { result ≡ (if is_name channel && is_name rendition
+            then Some (record { channel = channel; rendition = rendition; awaited = awaited; skip = skip }) else None) }
+    {
+        if !is_name(channel.as_str()) || !is_name(rendition.as_str()) {
+            return None;
+        }
+        Some(Want::of(channel, rendition, awaited, skip))
+    }
+
     /// What is wanted of the rendition of this name of the channel of this name.
     pub(crate) fn of(channel: Text, rendition: Text, awaited: Awaited, skip: Skip) -> Want
         requires channel_named { is_name channel ≡ true }

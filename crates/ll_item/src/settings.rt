@@ -1,4 +1,4 @@
-ghost use Rattle.std.specs.Prelude.{◌≡◌, ◌≤◌, ◌*◌, ◌&&◌, ℕ, List, IfOk, length, None};
+ghost use Rattle.std.specs.Prelude.{◌≡◌, ◌≤◌, ◌*◌, ◌&&◌, ℕ, List, IfOk, length, None, true};
 ghost use Rattle.ll_item.specs.Configured.{configured};
 ghost use Rattle.ll_item.specs.Settings.{settings_of, limit_broken, number_end, last_milli};
 ghost use Rattle.ll_item.specs.Names.{is_name, are_names};
@@ -216,7 +216,8 @@ impl Settings {
 
     /// The channel's name.
     pub fn channel(&self) -> &str
-        ensures { result.now ≡ self.now.channel }
+        ensures value { result.now ≡ self.now.channel }
+        ensures named { is_name result.now ≡ true }
     {
         self.channel.as_str()
     }

@@ -85,10 +85,10 @@ asked-stands h new es w o stands low e is =
 pub unknown : (c : Configuration) (s : State) (w : WantValue) → wanted_of c w ≡ None → answer_of c s w ≡ Some now.NotFound
 unknown c s w e = ap (verdict.reply_by c (waiting_in s.slots) s.items) e
 
-abbrev by_cases : Bool → Bool → Bool → Paged → Option Reply
+abbrev pub by_cases : Bool → Bool → Bool → Paged → Option Reply
 by_cases there far busy page = cond there (Some (now.Text page)) (cond far (Some now.TooFar) (cond busy (Some now.Busy) None))
 
-known : (c : Configuration) (s : State) (w : WantValue) (a : Wanted) (there far busy : Bool) → wanted_of c w ≡ Some a → is_there c s.items a ≡ there
+pub known : (c : Configuration) (s : State) (w : WantValue) (a : Wanted) (there far busy : Bool) → wanted_of c w ≡ Some a → is_there c s.items a ≡ there
     → verdict.far c (own a.rendition s.items) a.awaited ≡ far → nat_le waiting_limit (waiting_in s.slots) ≡ busy
     → answer_of c s w ≡ by_cases there far busy (page_of c s.items a)
 known c s w a there far busy e t f b =
@@ -165,3 +165,7 @@ many-waiting h es stands n = subst (λ (x : Home). waiting_limit ≤ waiting_in 
 pub held-stands : (h new : Home) (es : List Event) (w : WantValue) (a : Wanted) → Stands h es → 1 ≤ h.settings.target → wanted_of h.settings w ≡ Some a
     → answer_of h.settings (of h es) w ≡ None → new ≡ with_held h a → Stands new (es ++ Ask w ∷ [])
 held-stands h new es w a stands low e none is = asked-stands h new es w None stands low none (is ∙ ap (with_reply h None) (sym e))
+
+pub is-busy : (h i : Home) (es : List Event) (b : Bool) → Stands h es → i ≡ h → b ≡ nat_le waiting_limit (waiting_in i.slots)
+    → nat_le waiting_limit (waiting_in (state_of h.settings es).slots) ≡ b
+is-busy h i es b stands e is = sym (is ∙ ap (λ (x : Home). nat_le waiting_limit (waiting_in x.slots)) (e ∙ stands))

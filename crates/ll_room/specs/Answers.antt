@@ -7,6 +7,7 @@ use Rattle.ll_verdict.specs.Verdict.{reply_of}
 use Rattle.ll_verdict.specs.declared.reply.Reply.{Reply}
 use Rattle.ll_verdict.specs.declared.reply.Settled.{Settled}
 use Rattle.ll_room.specs.Home.{Home, less}
+use Rattle.ll_room.specs.Mark.{Mark}
 use Rattle.ll_room.specs.Ticket.{Ticket}
 use Rattle.ll_room.specs.declared.asked.Asked.{Asked}
 use Rattle.ll_room.specs.declared.asked.Asked.TheVariants.{Now, Held}
@@ -35,6 +36,15 @@ abbrev pub collected_by : Ticket → Option Settled → Bool → Collected
 collected_by p (Some settled) here = Got (record { room = p.channel; stamp = stamp.Collect p.ticket; value = reply_of settled })
 collected_by p None true = Still p
 collected_by p None false = Stranger p
+
+-- the reply to the request of this number, handed out by its room
+abbrev pub collected_at : Home → ℕ → Settled → Mark Reply
+collected_at h ticket settled = record { room = h.channel; stamp = stamp.Collect ticket; value = reply_of settled }
+
+-- the reply that is given at once
+abbrev pub now_in : Asked → Option (Mark Reply)
+now_in (Now reply) = Some reply
+now_in (Held parked) = None
 
 -- whether a request is open under this ticket
 abbrev pub is_open : Home → ℕ → Bool

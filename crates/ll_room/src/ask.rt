@@ -1,11 +1,12 @@
 //! Requests: a reply at once, or a request that is held (Blocking Playlist Reload, section 6.2.5.2).
-ghost use Rattle.std.specs.Prelude.{◌≡◌, ◌+◌, ◌<◌, ◌≤◌, ◌++◌, ◌∷◌, [], List, IfOk, IsErrOf, OnOk, OnErr, Some, length, ◌||◌};
+ghost use Rattle.std.specs.Prelude.{◌≡◌, ◌+◌, ◌<◌, ◌≤◌, ◌++◌, ◌∷◌, [], List, IfOk, IsErrOf, OnOk, OnErr, Some, length, option_map, ◌||◌};
 ghost use Rattle.ll_item.specs.Settings.{Configuration};
 ghost use Rattle.ll_item.specs.declared.item.Item.{Item};
 ghost use Rattle.ll_page.specs.View as view;
 ghost use Rattle.ll_window.specs.Compact.{compact};
 ghost use Rattle.ll_window.specs.Segments.{ended, own};
 ghost use Rattle.ll_verdict.specs.Events.{Event, Ask, items};
+ghost use Rattle.ll_verdict.specs.Outcome.{outcome_of};
 ghost use Rattle.ll_verdict.specs.State.{waiting_in};
 ghost use Rattle.ll_verdict.specs.Verdict.{at_once, held, waiting_limit, wanted_of};
 ghost use Rattle.ll_verdict.specs.Verdict as verdict;
@@ -22,7 +23,7 @@ use crate::stamped::{Stamp, Stamped};
 use ll_book::ParkFault;
 use ll_directive::{Awaited, Skip, Want};
 use ll_page::{Form, Page, SkipKind};
-use ll_verdict::{Entry, Reply, Wanted};
+use ll_verdict::{Entry, Outcome, Reply, Wanted};
 use ll_window::Window;
 use std::alloc::AllocError;
 
@@ -67,6 +68,27 @@ impl Room {
             Err(ParkFault::Busy) => Ok(self.answer(want, Reply::Busy)),
             Err(ParkFault::Memory) => Err(AskFault::Memory),
         }
+    }
+
+    /// What the reply to a request comes to, were it made now; none where it would be held. It takes no memory.
+    pub fn outcome(&self, want: &Want) -> Option<Outcome>
+        ensures { (events : List Event) → Stands self.now events
+            → result ≡ option_map outcome_of (at_once self.now.settings (held self.now.settings events) events want.now) }
+    {
+        let now = Outcome::Text(self.count);
+        let Some(wanted) = self.wanted(want) else {
+            return Some(Outcome::NotFound);
+        };
+        if self.is_there(&wanted) {
+            return Some(now);
+        }
+        if self.is_far(&wanted) {
+            return Some(Outcome::TooFar);
+        }
+        if self.book.is_busy() {
+            return Some(Outcome::Busy);
+        }
+        None
     }
 
     /// What a request asks of a rendition, where the channel has one of that name.

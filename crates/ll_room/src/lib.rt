@@ -5,6 +5,7 @@
 mod ask;
 mod asked;
 mod fault;
+mod keeper;
 mod parked;
 mod publish;
 mod release;
@@ -16,6 +17,7 @@ mod stamped;
 
 pub use asked::{Asked, Closed, Collected};
 pub use fault::{AskFault, ClockFault};
+pub use keeper::Keeper;
 pub use parked::{Parked, Stored};
 pub use room::Room;
 pub use shelf::Shelf;

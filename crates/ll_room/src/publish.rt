@@ -45,7 +45,7 @@ impl Room {
     }
 
     /// The first rule that refuses an item, if one does.
-    fn test(&self, item: &Item) -> Result<(), PublishFault>
+    pub fn test(&self, item: &Item) -> Result<(), PublishFault>
         ensures { MatchResult result (λ u. refusal_by self.now item.now ≡ None) (λ f. refusal_by self.now item.now ≡ Some f) }
     {
         match self.renditions.get(item.rendition()) {

@@ -1,9 +1,10 @@
 //! What a room keeps of its channel, and what it tells of it.
-ghost use Rattle.std.specs.Prelude.{◌≡◌, ◌++◌, [], IfOk, filter, find, length, option_map};
+ghost use Rattle.std.specs.Prelude.{◌≡◌, ◌≤◌, ◌^◌, ◌++◌, [], IfOk, filter, find, length, option_map};
 ghost use Rattle.ll_page.specs.View as view;
 ghost use Rattle.ll_book.specs.Waiting as waiting;
 ghost use Rattle.ll_verdict.specs.State.{state_of};
 ghost use Rattle.ll_room.specs.Answers.{is_open};
+ghost use Rattle.ll_room.specs.Full.{is_full};
 ghost use Rattle.ll_room.specs.Home.{home};
 ghost use Rattle.ll_room.specs.Kept.{moment};
 
@@ -115,6 +116,21 @@ impl Room {
         self.asks
     }
 
+    /// How many events there were.
+    pub fn events(&self) -> u64
+        ensures value { result ≡ self.now.events }
+        ensures few { result ≤ 2 ^ 61 }
+    {
+        self.events
+    }
+
+    /// Whether the channel has taken as many events as it takes.
+    pub fn is_full(&self) -> bool
+        ensures { result ≡ is_full self.now.events }
+    {
+        self.events >= EVENT_END
+    }
+
     /// The request that is open under this ticket, where its reply is there: what stands for it can then be collected.
     pub fn ready_at(&self, ticket: u64) -> Option<Entry>
         ensures { result ≡ option_map waiting.entry_in (find (waiting.is_ready_at ticket) self.now.slots) }
@@ -144,7 +160,7 @@ impl Room {
     }
 
     /// Whether a request is open under this ticket.
-    pub(crate) fn is_open(&self, ticket: u64) -> bool
+    pub fn is_open(&self, ticket: u64) -> bool
         ensures { result ≡ is_open self.now ticket }
     {
         self.book.find(ticket).is_some()

@@ -1,5 +1,6 @@
 pub mod Accepted
 pub mod Events
 pub mod Laws
+pub mod Outcome
 pub mod State
 pub mod Verdict

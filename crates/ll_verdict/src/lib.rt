@@ -11,5 +11,5 @@ mod wanted;
 pub use entry::{Entry, Slot};
 pub use fault::PublishFault;
 pub use laws::{first_state_law, newer_text_law, one_verdict_law, open_tickets_law, state_law};
-pub use reply::{Reply, Settled};
+pub use reply::{Outcome, Reply, Settled};
 pub use wanted::Wanted;

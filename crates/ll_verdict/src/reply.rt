@@ -1,3 +1,6 @@
+ghost use Rattle.std.specs.Prelude.{◌≡◌};
+ghost use Rattle.ll_verdict.specs.Outcome.{outcome_of};
+
 use ll_page::Page;
 
 /// What a request that had to wait gets, unless it is given up before.
@@ -34,6 +37,36 @@ impl From<Settled> for Reply {
         match settled {
             Settled::Text(page) => Reply::Text(page),
             Settled::Timeout => Reply::Timeout,
+        }
+    }
+}
+
+/// What a reply comes to, without the playlist itself.
+#[derive(Clone, Copy, PartialEq, Eq)]
+pub enum Outcome {
+    /// A playlist or delta update after so many items of the channel.
+    Text(u64),
+    /// The channel has no rendition of that name.
+    NotFound,
+    /// What it awaits is too far ahead.
+    TooFar,
+    /// As many requests of the channel wait as may wait.
+    Busy,
+    /// What it awaits wasn't there within three target durations.
+    Timeout,
+}
+
+impl Reply {
+    /// What the reply comes to.
+    pub fn outcome(&self) -> Outcome
+        ensures { result ≡ outcome_of self.now }
+    {
+        match self {
+            Reply::Text(page) => Outcome::Text(page.number()),
+            Reply::NotFound => Outcome::NotFound,
+            Reply::TooFar => Outcome::TooFar,
+            Reply::Busy => Outcome::Busy,
+            Reply::Timeout => Outcome::Timeout,
         }
     }
 }

@@ -1,0 +1,144 @@
+//! A room whose requests are known by their numbers alone.
+ghost use Rattle.std.specs.Prelude.{◌≡◌, ◌≢◌, ◌+◌, ◌<◌, ◌≤◌, ◌^◌, ◌++◌, ◌∷◌, [], List, IfOk, IfErr, IsErrOf, OnErr, OnOk, None, Some, is_some, option_map, false, true};
+ghost use Rattle.ll_book.specs.Waiting.{reply_at};
+ghost use Rattle.ll_verdict.specs.Events.{Event, Ask, Clock, Close, Collect, Publish};
+ghost use Rattle.ll_verdict.specs.State.{state_of};
+ghost use Rattle.ll_verdict.specs.Verdict.{at_once, held};
+ghost use Rattle.ll_room.specs.Answers.{asked, collected_at, is_open, now_in};
+ghost use Rattle.ll_room.specs.Full.{event_end, refusal_after};
+ghost use Rattle.ll_room.specs.Home.{Stands, home};
+ghost use Rattle.ll_room.specs.declared.stamped.Stamp.TheVariants as stamp;
+
+use crate::asked::{Asked, Closed, Collected};
+use crate::fault::{AskFault, ClockFault};
+use crate::parked::Parked;
+use crate::room::Room;
+use crate::stamped::Stamped;
+use ll_directive::Want;
+use ll_item::{Item, Settings};
+use ll_verdict::{PublishFault, Reply};
+use std::alloc::{AllocError, Global};
+use std::marker::Model;
+
+/// A room that keeps what stands for its open requests: its caller knows a request by its number, and owes nobody a reply. It serves who
+/// goes through events that have happened before.
+#[derive(Drop)]
+pub struct Keeper {
+    room: Room,
+}
+
+impl Model for Keeper {
+    ghost use Rattle.ll_room.specs.Home.{Home};
+
+    ghost Value = { Home };
+
+    ghost view = { λ k. k.room };
+}
+
+impl Keeper {
+    /// The room of this number for a channel of these settings, to which nothing has happened. It fails only where no memory is found.
+    pub fn new(alloc: Global, channel: u64, settings: Settings) -> Result<Keeper, AllocError>
+        ensures { IfOk result (λ k. k ≡ home channel settings (state_of settings [])) }
+    {
+        Ok(Keeper {
+            room: Room::new(alloc, channel, settings)?,
+        })
+    }
+
+    /// What it keeps of its channel.
+    pub fn room(&self) -> &Room
+        ensures { result.now ≡ self.now }
+    {
+        &self.room
+    }
+
+    /// [`Room::publish`].
+    pub fn publish(&mut self, item: Item) -> Result<Stamped<u64>, PublishFault>
+        ensures accepted { (events : List Event) → Stands self.old events → OnOk result
+            ((refusal_after self.old.settings events item ≡ None) × Stands self.new (events ++ Publish item ∷ [])) }
+        ensures count { IfOk result (λ n. n ≡ record { room = self.old.channel; stamp = stamp.Publish item; value = self.old.count + 1 }) }
+        ensures refused { (events : List Event) → Stands self.old events
+            → IfErr result (λ f. f ≢ PublishFault.Memory → refusal_after self.old.settings events item ≡ Some f) }
+        ensures memory { (events : List Event) → Stands self.old events → IsErrOf result PublishFault.Memory → refusal_after self.old.settings events item ≡ None }
+        ensures settings { self.new.settings ≡ self.old.settings }
+        ensures unchanged { OnErr result (self.new ≡ self.old) }
+    {
+        self.room.publish(item)
+    }
+
+    /// [`Room::ask`]: the reply, or none where the request is held. Its number is that of the requests there were with it.
+    pub fn ask(&mut self, want: Want) -> Result<Option<Stamped<Reply>>, AskFault>
+        ensures answer { (events : List Event) → Stands self.old events
+            → IfOk result (λ a. a ≡ now_in (asked self.old want (at_once self.old.settings (held self.old.settings events) events want))) }
+        ensures asked { (events : List Event) → Stands self.old events → OnOk result (Stands self.new (events ++ Ask want ∷ [])) }
+        ensures within { OnOk result (self.old.events < event_end) }
+        ensures full { IsErrOf result AskFault.RecordFull → event_end ≤ self.old.events }
+        ensures memory { IsErrOf result AskFault.Memory → self.old.events < event_end }
+        ensures settings { self.new.settings ≡ self.old.settings }
+        ensures unchanged { OnErr result (self.new ≡ self.old) }
+    {
+        let asked = self.room.ask(want)?;
+        Ok(given(asked))
+    }
+
+    /// Hands out the reply to the request of this number, where it is there; the request is then no longer open. It takes no memory.
+    pub fn collect(&mut self, ticket: u64) -> Option<Stamped<Reply>>
+        ensures answer { result ≡ option_map (collected_at self.old ticket) (reply_at ticket self.old.slots) }
+        ensures handed { is_some result ≡ true → (events : List Event) → Stands self.old events → Stands self.new (events ++ Collect ticket ∷ []) }
+        ensures settings { self.new.settings ≡ self.old.settings }
+        ensures nothing { is_some result ≡ false → self.new ≡ self.old }
+    {
+        match self.room.collect(Parked::new(self.room.channel(), ticket)) {
+            Collected::Got(reply) => Some(reply),
+            Collected::Still(parked) => {
+                parked.spend();
+                None
+            }
+            Collected::Stranger(parked) => {
+                parked.spend();
+                None
+            }
+        }
+    }
+
+    /// Gives the request of this number up, and answers whether it was open. It takes no memory.
+    pub fn close(&mut self, ticket: u64) -> bool
+        ensures answer { result ≡ is_open self.old ticket }
+        ensures given_up { result ≡ true → (events : List Event) → Stands self.old events → Stands self.new (events ++ Close ticket ∷ []) }
+        ensures settings { self.new.settings ≡ self.old.settings }
+        ensures nothing { result ≡ false → self.new ≡ self.old }
+    {
+        match self.room.close(Parked::new(self.room.channel(), ticket)) {
+            Closed::Done => true,
+            Closed::Stranger(parked) => {
+                parked.spend();
+                false
+            }
+        }
+    }
+
+    /// [`Room::clock`].
+    pub fn clock(&mut self, ms: u64) -> Result<(), ClockFault>
+        ensures passed { (events : List Event) → Stands self.old events → OnOk result (Stands self.new (events ++ Clock ms ∷ [])) }
+        ensures within { OnOk result ((ms ≤ 2 ^ 60) × (self.old.events < event_end)) }
+        ensures range { IsErrOf result ClockFault.ClockRange → 2 ^ 60 < ms }
+        ensures full { IsErrOf result ClockFault.RecordFull → (ms ≤ 2 ^ 60) × (event_end ≤ self.old.events) }
+        ensures settings { self.new.settings ≡ self.old.settings }
+        ensures unchanged { OnErr result (self.new ≡ self.old) }
+    {
+        self.room.clock(ms)
+    }
+}
+
+/// The reply that a request gets at once; none where it is held.
+fn given(asked: Asked) -> Option<Stamped<Reply>>
+    ensures { result ≡ now_in asked }
+{
+    match asked {
+        Asked::Now(reply) => Some(reply),
+        Asked::Held(parked) => {
+            parked.spend();
+            None
+        }
+    }
+}
