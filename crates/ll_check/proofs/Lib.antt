@@ -1,0 +1,2 @@
+pub mod ChunkLemmas
+pub mod LineLemmas

@@ -1,0 +1,14 @@
+-- Bytes that are read to their end from the start come to what is counted then.
+use Rattle.ll_check.specs.Chain.{checked}
+use Rattle.ll_check.proofs.ChunkLemmas.{where-err, where-ok, whole}
+use Rattle.ll_check.proofs.checker.check.Goals as goal
+
+pub returns-clause-value : goal.returns-clause-value
+returns-clause-value c =
+    where-ok (checked c.args.bytes.now) c.count.result
+    (whole c.args.bytes.now c.new-checker.result c.read.new.self c.count.result c.new-checker.ensures c.in_ok-read.ensures.right c.count.ensures)
+
+pub returns-clause-wrong : goal.returns-clause-wrong
+returns-clause-wrong c =
+    where-err (checked c.args.bytes.now) c.count.result
+    (whole c.args.bytes.now c.new-checker.result c.read.new.self c.count.result c.new-checker.ensures c.in_ok-read.ensures.right c.count.ensures)

@@ -1,0 +1,19 @@
+-- Each line comes to what the definition says of it, whatever the events before.
+use Rattle.std.proofs.Common.{arith, sym}
+use Rattle.ll_check.proofs.ChunkLemmas.{after-line, wrong-line}
+use Rattle.ll_check.proofs.chunk.read_entries.Goals as goal
+
+pub returns-in-Err-clause-wrong : goal.returns-in-Err-clause-wrong
+returns-in-Err-clause-wrong c events stands kind =
+    wrong-line c.loop-line.keeper c.args.keeper.now.settings events _ c.loop-line.rest.now c.in-Some.line.now c.in-Some.more.now c.in-Err.fault
+    (c.loop-line.invariant.so_far events stands) c.in-Some.ensures.parts (sym c.if-eq.ensures)
+    (λ es st. let w = c.in-Err.ensures.wrong es st in (w.0, w.1 kind))
+
+pub loop-line-preserved : goal.loop-line-preserved
+loop-line-preserved c = record {
+  so_far = λ events stands.
+      after-line c.loop-line.keeper c.read_line.new.keeper c.args.keeper.now.settings events _ c.loop-line.rest.now c.in-Some.line.now c.in-Some.more.now
+      (c.loop-line.invariant.so_far events stands) c.in-Some.ensures.parts (sym c.if-eq.ensures) c.in_default-read_line.ensures.settings
+      (λ es st. c.in_default-read_line.ensures.right es st);
+  shorter = omega (arith, c.in-Some.ensures.shorter, c.loop-line.invariant.shorter);
+}

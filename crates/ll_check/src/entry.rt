@@ -1,0 +1,170 @@
+//! Entries, each checked as the room of its channel takes it.
+ghost use Rattle.std.specs.Prelude.{◌≡◌, ◌≢◌, ◌+◌, ◌==◌, ◌++◌, ◌∷◌, [], List, IfErr, IsErrOf, OnOk, None, Some, option_map};
+ghost use Rattle.ll_check.specs.Entered as spec;
+ghost use Rattle.ll_check.specs.Entered.{event_of, fault_in};
+ghost use Rattle.ll_entry.specs.declared.entry.Recorded.TheVariants as recorded;
+ghost use Rattle.ll_room.specs.Home.{Stands};
+ghost use Rattle.ll_room.specs.Mark.{Mark};
+ghost use Rattle.ll_verdict.specs.Events as event;
+ghost use Rattle.ll_verdict.specs.Events.{Event};
+ghost use Rattle.ll_verdict.specs.Outcome.{outcome_of};
+ghost use Rattle.ll_verdict.specs.declared.reply.Reply as verdict;
+
+use crate::fault::CheckKind;
+use ll_directive::Want;
+use ll_entry::Recorded;
+use ll_item::Item;
+use ll_room::{AskFault, Keeper, Stamped};
+use ll_verdict::{Outcome, PublishFault, Reply};
+
+/// Takes the event of an entry, where the entry is right.
+pub(crate) fn enter(keeper: &mut Keeper, entry: Recorded) -> Result<(), CheckKind>
+    ensures right { (events : List Event) → Stands keeper.old events → OnOk result
+        ((fault_in keeper.old.settings events entry ≡ None) × Stands keeper.new (events ++ event_of entry ∷ [])) }
+    ensures wrong { (events : List Event) → Stands keeper.old events
+        → IfErr result (λ k. k ≢ CheckKind.Memory → fault_in keeper.old.settings events entry ≡ Some k) }
+    ensures memory { (events : List Event) → Stands keeper.old events → IsErrOf result CheckKind.Memory → fault_in keeper.old.settings events entry ≡ None }
+    ensures settings { keeper.new.settings ≡ keeper.old.settings }
+{
+    match entry {
+        Recorded::Publish(item) => publish(keeper, item),
+        Recorded::Ask(ask, want, outcome) => make_request(keeper, ask, want, outcome),
+        Recorded::Clock(ms) => read_clock(keeper, ms),
+        Recorded::Collect(ask, outcome) => collect(keeper, ask, outcome),
+        Recorded::Close(ask) => close(keeper, ask),
+    }
+}
+
+/// Takes an item, where no rule refuses it.
+fn publish(keeper: &mut Keeper, item: Item) -> Result<(), CheckKind>
+    ensures right { (events : List Event) → Stands keeper.old events → OnOk result
+        ((fault_in keeper.old.settings events (recorded.Publish item) ≡ None) × Stands keeper.new (events ++ event.Publish item ∷ [])) }
+    ensures wrong { (events : List Event) → Stands keeper.old events
+        → IfErr result (λ k. k ≢ CheckKind.Memory → fault_in keeper.old.settings events (recorded.Publish item) ≡ Some k) }
+    ensures memory { (events : List Event) → Stands keeper.old events
+        → IsErrOf result CheckKind.Memory → fault_in keeper.old.settings events (recorded.Publish item) ≡ None }
+    ensures settings { keeper.new.settings ≡ keeper.old.settings }
+{
+    match keeper.publish(item) {
+        Ok(_) => Ok(()),
+        Err(PublishFault::Memory) => Err(CheckKind::Memory),
+        Err(_) => Err(CheckKind::Refused),
+    }
+}
+
+/// Makes a request, where it is the next one and this is what it gets at once.
+fn make_request(
+    keeper: &mut Keeper,
+    ask: u64,
+    want: Want,
+    outcome: Option<Outcome>,
+) -> Result<(), CheckKind>
+    ensures right { (events : List Event) → Stands keeper.old events → OnOk result
+        ((fault_in keeper.old.settings events (recorded.Ask ask want outcome) ≡ None) × Stands keeper.new (events ++ event.Ask want ∷ [])) }
+    ensures wrong { (events : List Event) → Stands keeper.old events
+        → IfErr result (λ k. k ≢ CheckKind.Memory → fault_in keeper.old.settings events (recorded.Ask ask want outcome) ≡ Some k) }
+    ensures memory { (events : List Event) → Stands keeper.old events
+        → IsErrOf result CheckKind.Memory → fault_in keeper.old.settings events (recorded.Ask ask want outcome) ≡ None }
+    ensures settings { keeper.new.settings ≡ keeper.old.settings }
+{
+    let room = keeper.room();
+    if !is_after(ask, room.asks()) || room.is_full() {
+        return Err(CheckKind::Refused);
+    }
+    if !is_same(outcome, room.outcome(&want)) {
+        return Err(CheckKind::WrongReply);
+    }
+    match keeper.ask(want) {
+        Ok(_) => Ok(()),
+        Err(AskFault::RecordFull) => unreachable!(),
+        Err(AskFault::Memory) => Err(CheckKind::Memory),
+    }
+}
+
+/// Takes a reading of the clock, where it can be one.
+fn read_clock(keeper: &mut Keeper, ms: u64) -> Result<(), CheckKind>
+    ensures right { (events : List Event) → Stands keeper.old events → OnOk result
+        ((fault_in keeper.old.settings events (recorded.Clock ms) ≡ None) × Stands keeper.new (events ++ event.Clock ms ∷ [])) }
+    ensures wrong { (events : List Event) → Stands keeper.old events → IfErr result (λ k. fault_in keeper.old.settings events (recorded.Clock ms) ≡ Some k) }
+    ensures settings { keeper.new.settings ≡ keeper.old.settings }
+{
+    match keeper.clock(ms) {
+        Ok(()) => Ok(()),
+        Err(_) => Err(CheckKind::Refused),
+    }
+}
+
+/// Hands out the reply to a request, where it is open and this is its reply.
+fn collect(keeper: &mut Keeper, ask: u64, outcome: Outcome) -> Result<(), CheckKind>
+    ensures right { (events : List Event) → Stands keeper.old events → OnOk result
+        ((fault_in keeper.old.settings events (recorded.Collect ask outcome) ≡ None) × Stands keeper.new (events ++ event.Collect ask ∷ [])) }
+    ensures wrong { (events : List Event) → Stands keeper.old events
+        → IfErr result (λ k. fault_in keeper.old.settings events (recorded.Collect ask outcome) ≡ Some k) }
+    ensures settings { keeper.new.settings ≡ keeper.old.settings }
+{
+    if !keeper.room().is_open(ask) {
+        return Err(CheckKind::Refused);
+    }
+    let reply = keeper.collect(ask);
+    if is_same(Some(outcome), outcome_in(&reply)) {
+        Ok(())
+    } else {
+        Err(CheckKind::WrongReply)
+    }
+}
+
+/// Gives a request up, where it is open.
+fn close(keeper: &mut Keeper, ask: u64) -> Result<(), CheckKind>
+    ensures right { (events : List Event) → Stands keeper.old events → OnOk result
+        ((fault_in keeper.old.settings events (recorded.Close ask) ≡ None) × Stands keeper.new (events ++ event.Close ask ∷ [])) }
+    ensures wrong { (events : List Event) → Stands keeper.old events → IfErr result (λ k. fault_in keeper.old.settings events (recorded.Close ask) ≡ Some k) }
+    ensures settings { keeper.new.settings ≡ keeper.old.settings }
+{
+    if keeper.close(ask) {
+        Ok(())
+    } else {
+        Err(CheckKind::Refused)
+    }
+}
+
+/// Whether this is the number of the request after so many.
+fn is_after(ask: u64, asks: u64) -> bool
+    ensures { result ≡ (ask == asks + 1) }
+{
+    ask.checked_sub(1) == Some(asks)
+}
+
+/// What a reply comes to, where there is one.
+fn outcome_in(reply: &Option<Stamped<Reply>>) -> Option<Outcome>
+    ensures { result ≡ option_map (λ (m : Mark verdict.Reply). outcome_of m.value) reply.now }
+{
+    match reply {
+        Some(reply) => Some(reply.get().outcome()),
+        None => None,
+    }
+}
+
+/// Whether two replies come to the same, or both requests wait.
+fn is_same(a: Option<Outcome>, b: Option<Outcome>) -> bool
+    ensures { result ≡ spec.same_answer a b }
+{
+    match (a, b) {
+        (None, None) => true,
+        (Some(a), Some(b)) => is_same_outcome(a, b),
+        _ => false,
+    }
+}
+
+/// Whether two replies come to the same.
+fn is_same_outcome(a: Outcome, b: Outcome) -> bool
+    ensures { result ≡ spec.same_outcome a b }
+{
+    match (a, b) {
+        (Outcome::Text(a), Outcome::Text(b)) => a == b,
+        (Outcome::NotFound, Outcome::NotFound) => true,
+        (Outcome::TooFar, Outcome::TooFar) => true,
+        (Outcome::Busy, Outcome::Busy) => true,
+        (Outcome::Timeout, Outcome::Timeout) => true,
+        _ => false,
+    }
+}

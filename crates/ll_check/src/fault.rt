@@ -1,0 +1,62 @@
+use ll_entry::EntryFault;
+use std::alloc::AllocError;
+use thiserror::Error;
+
+/// How a chain of chunks isn't right: the first of these that applies to the line it is found at. A chunk's first three lines count as one.
+#[derive(Clone, Copy, Debug, PartialEq, Eq, Error)]
+pub enum CheckKind {
+    /// A line isn't of its form, or the end of the chunk is missing.
+    #[error("BadChunk")]
+    BadChunk,
+    /// A chunk doesn't begin with the entry after the last one.
+    #[error("Gap")]
+    Gap,
+    /// A chunk is of another channel, or of other settings.
+    #[error("OtherChannel")]
+    OtherChannel,
+    /// An entry tells what can't have happened.
+    #[error("Refused")]
+    Refused,
+    /// An entry tells another reply than the right one.
+    #[error("WrongReply")]
+    WrongReply,
+    /// No memory was found.
+    #[error("Memory")]
+    Memory,
+}
+
+/// Where a chain of chunks isn't right, and how.
+#[derive(Clone, Copy, Debug, PartialEq, Eq, Error)]
+#[error("{entry} {kind}")]
+pub struct CheckFault {
+    /// The number of the entry, from 1: one more than the entries that are right.
+    pub entry: u64,
+    /// How it isn't right.
+    pub kind: CheckKind,
+}
+
+impl From<AllocError> for CheckKind {
+    ghost use Rattle.std.specs.Prelude.{◌≡◌};
+    ghost use Rattle.ll_check.specs.declared.fault.CheckKind.TheVariants.{Memory};
+
+    ghost from_gives = { λ error kind. kind ≡ Memory };
+
+    fn from(_error: AllocError) -> CheckKind {
+        CheckKind::Memory
+    }
+}
+
+impl From<EntryFault> for CheckKind {
+    ghost use Rattle.std.specs.Prelude.{◌≡◌};
+    ghost use Rattle.ll_check.specs.Chain.{kind_of};
+
+    ghost from_gives = { λ entry kind. kind ≡ kind_of entry };
+
+    fn from(fault: EntryFault) -> CheckKind {
+        match fault {
+            EntryFault::BadLine => CheckKind::BadChunk,
+            EntryFault::Refused => CheckKind::Refused,
+            EntryFault::Memory => CheckKind::Memory,
+        }
+    }
+}

@@ -1,0 +1,11 @@
+//! Whether what every player was told was right: records of a channel are checked against the definitions over all its events.
+#![tactic(auto)]
+
+mod checker;
+mod chunk;
+mod entry;
+mod fault;
+mod lines;
+
+pub use checker::{Checker, check};
+pub use fault::{CheckFault, CheckKind};
