@@ -27,6 +27,7 @@ refused-memory: kit
 bench: kit
 	@$(HERE)bench/replay.sh
 	@$(HERE)bench/apply.sh
+	@$(HERE)bench/check.sh
 	@$(HERE)bench/waiting.sh
 	@$(HERE)bench/connections.sh
 	@$(HERE)bench/serve.sh

@@ -2,7 +2,7 @@
 # refused_memory.sh [ROW..]: for each row, refuses the Nth allocation of the program, for N from 1 until a run meets no
 # refusal. A run that meets one ends with status 4 and `llhls: Memory`, and has written a prefix of the row's output; or it
 # ends as the row does, where what was refused is not needed for the answer, as for a list that is refused anyway. The
-# last run ends as the row does. A row of tests/apply is named apply/NAME. Where the texts of such a row have a fault, Memory
+# last run ends as the row does. A row of tests/apply is named apply/NAME, one of tests/check check/NAME. Where the texts of a row of tests/apply have a fault, Memory
 # comes only of the program's arguments and of reading the files: no run ends in it after one that ended in the fault. It
 # tells how many N were tried, and how the runs ended. The last line, `N passed, M failed`, counts rows.
 set -u
@@ -37,6 +37,14 @@ find_row() {
         if [ -e "$at/ending" ]; then
             ending=$(<"$at/ending")
             is_strict=yes
+        fi
+    elif [[ $1 == check/* ]]; then
+        at=$here/$1
+        input=/dev/null
+        words=(check "$at")
+        output=$at.stdout
+        if [[ $(<"$output") == bad* ]]; then
+            ending=3
         fi
     else
         at=$room/rows/$1
@@ -111,6 +119,10 @@ if [ "$#" = 0 ]; then
     for output in "$here"/apply/*/stdout; do
         name=${output%/stdout}
         set -- "$@" "apply/${name##*/}"
+    done
+    for output in "$here"/check/*.stdout; do
+        name=${output%.stdout}
+        set -- "$@" "check/${name##*/}"
     done
 fi
 for name in "$@"; do

@@ -61,6 +61,16 @@ for row in "$here"/apply/*/; do
     expect "apply ${row##*/}" "$row/stdout" "$status" "$fault" apply "$row/base" "$row/delta" </dev/null
 done
 
+# A row of tests/check is a record, and beside it the line that tells what the check comes to.
+for output in "$here"/check/*.stdout; do
+    record=${output%.stdout}
+    status=0
+    if [[ $(<"$output") == bad* ]]; then
+        status=3
+    fi
+    expect "check ${record##*/}" "$output" "$status" '' check "$record" </dev/null
+done
+
 examples=$here/../examples
 expect apply_example "$examples/full.m3u8" 0 '' apply "$examples/base.m3u8" "$examples/delta.m3u8" </dev/null
 
@@ -76,6 +86,9 @@ expect usage_of_apply_of_three_files /dev/null 2 'llhls: usage' apply "$first" "
 expect usage_of_replay_of_a_file /dev/null 2 'llhls: usage' replay "$first" </dev/null
 expect read_of_a_folder /dev/null 4 'llhls: Read' replay <"$here"
 recent=$here/apply/applies_to_a_recent_base
+expect usage_of_check_alone /dev/null 2 'llhls: usage' check </dev/null
+expect usage_of_check_of_two_files /dev/null 2 'llhls: usage' check "$first" "$first" </dev/null
+expect read_of_no_record /dev/null 4 'llhls: Read' check "$room/none" </dev/null
 expect read_of_no_base /dev/null 4 'llhls: Read' apply "$room/none" "$recent/delta" </dev/null
 expect read_of_a_folder_as_the_base /dev/null 4 'llhls: Read' apply "$here" "$recent/delta" </dev/null
 expect read_of_no_delta /dev/null 4 'llhls: Read' apply "$recent/base" "$room/none" </dev/null

@@ -1,3 +1,4 @@
+pub mod Answer
 pub mod Chain
 pub mod Entered
 pub mod Found

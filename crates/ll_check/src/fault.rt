@@ -26,8 +26,7 @@ pub enum CheckKind {
 }
 
 /// Where a chain of chunks isn't right, and how.
-#[derive(Clone, Copy, Debug, PartialEq, Eq, Error)]
-#[error("{entry} {kind}")]
+#[derive(Clone, Copy, Debug, PartialEq, Eq)]
 pub struct CheckFault {
     /// The number of the entry, from 1: one more than the entries that are right.
     pub entry: u64,

@@ -1,11 +1,13 @@
 //! Whether what every player was told was right: records of a channel are checked against the definitions over all its events.
 #![tactic(auto)]
 
+mod answer;
 mod checker;
 mod chunk;
 mod entry;
 mod fault;
 mod lines;
 
+pub use answer::answer_line;
 pub use checker::{Checker, check};
 pub use fault::{CheckFault, CheckKind};

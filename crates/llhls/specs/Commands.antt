@@ -10,17 +10,21 @@ pub data Call : Type 0 where
   Replay : Call
   -- apply the delta update in the second file to the playlist in the first
   Apply : List ℕ → List ℕ → Call
+  -- check the record in a file
+  Check : List ℕ → Call
   -- serve the channels that a settings file tells
   Serve : List ℕ → Call
 
 -- the first word names the program; words of no such form are wrong usage
 abbrev pub command_of : List (List ℕ) → Result Call Fault
 command_of (program ∷ name ∷ []) = if bytes_eq name (codes "replay") then Ok Replay else Err Usage
-command_of (program ∷ name ∷ settings ∷ []) = if bytes_eq name (codes "serve") then Ok (Serve settings) else Err Usage
+command_of (program ∷ name ∷ file ∷ []) =
+    if bytes_eq name (codes "check") then Ok (Check file) else if bytes_eq name (codes "serve") then Ok (Serve file) else Err Usage
 command_of (program ∷ name ∷ base ∷ delta ∷ []) = if bytes_eq name (codes "apply") then Ok (Apply base delta) else Err Usage
 command_of other = Err Usage
 
 abbrev pub call_of : Command → Call
 call_of command.Replay = Replay
 call_of (command.Apply base delta) = Apply base.now delta.now
+call_of (command.Check chunks) = Check chunks.now
 call_of (command.Serve settings) = Serve settings.now

@@ -12,6 +12,8 @@ pub(crate) enum Command<'a> {
     Replay,
     /// The names of two files: the earlier playlist, and the delta update.
     Apply { base: &'a Text, delta: &'a Text },
+    /// The name of a file: the record of a channel.
+    Check(&'a Text),
     /// The name of a file: the settings.
     Serve(&'a Text),
 }
@@ -23,6 +25,7 @@ impl<'a> Command<'a> {
     {
         match words {
             [_program, name] if name.as_str() == "replay" => Ok(Command::Replay),
+            [_program, name, record] if name.as_str() == "check" => Ok(Command::Check(record)),
             [_program, name, settings] if name.as_str() == "serve" => Ok(Command::Serve(settings)),
             [_program, name, base, delta] if name.as_str() == "apply" => {
                 Ok(Command::Apply { base, delta })

@@ -1,12 +1,15 @@
 //! `llhls`: an origin for Low-Latency HLS. `llhls serve SETTINGS` serves publishers and players over TCP, `llhls replay` replays a
-//! script, `llhls apply BASE DELTA` applies a delta update to a playlist.
+//! script, `llhls check FILE` checks the record of a channel, `llhls apply BASE DELTA` applies a delta update to a playlist.
 #![tactic(auto)]
 
-ghost use Rattle.std.specs.Prelude.{◌≡◌, ◌≢◌, List, ℕ, Ok, Err, IfErr, IsErrOf, IsOk, OnOk};
+ghost use Rattle.std.specs.Prelude.{◌≡◌, ◌≢◌, List, ℕ, Result, Ok, Err, IfErr, IfOk, IsErrOf, IsOk, OnOk, is_ok};
 ghost use Rattle.std.specs.Io.KnownBytes.{Appends};
 ghost use Rattle.ll_apply.specs.Texts.{applied_text};
 ghost use Rattle.ll_apply.specs.declared.fault.ApplyFault.{ApplyFault};
 ghost use Rattle.ll_apply.specs.declared.fault.ApplyFault.TheVariants as apply_fault;
+ghost use Rattle.ll_check.specs.Answer as spec;
+ghost use Rattle.ll_check.specs.Chain.{checked};
+ghost use Rattle.ll_check.specs.declared.fault.CheckFault as check_fault;
 ghost use Rattle.ll_replay.specs.declared.outcome.RunFault.{RunFault};
 
 mod command;
@@ -19,9 +22,10 @@ use crate::command::{Command, words};
 use crate::fault::{Fault, fault_of};
 use crate::serve::serve;
 use ll_apply::apply;
+use ll_check::{CheckFault, CheckKind, answer_line, check};
 use ll_device::{CountedReader, CountedWriter};
 use ll_replay::run;
-use std::alloc::Global;
+use std::alloc::{AllocError, Global};
 use std::io::Write;
 use std::marker::Brand;
 use std::process::ExitCode;
@@ -30,12 +34,16 @@ use std::{fs, io};
 
 fn main(rt: HostRuntime) -> ExitCode {
     let done = match called(&rt) {
-        Ok(Some(settings)) => serve(&rt, rt.alloc(), &settings),
-        Ok(None) => Ok(()),
+        Ok(Ending::Done) => Ok(ExitCode::SUCCESS),
+        Ok(Ending::BadRecord) => Ok(ExitCode::from(BAD_RECORD)),
+        Ok(Ending::Serve(settings)) => match serve(&rt, rt.alloc(), &settings) {
+            Ok(()) => Ok(ExitCode::SUCCESS),
+            Err(fault) => Err(fault),
+        },
         Err(fault) => Err(fault),
     };
     match done {
-        Ok(()) => ExitCode::SUCCESS,
+        Ok(status) => status,
         Err(fault) => {
             let _ = eprintln!(rt; "llhls: {fault}");
             ExitCode::from(fault.status())
@@ -43,8 +51,20 @@ fn main(rt: HostRuntime) -> ExitCode {
     }
 }
 
-/// Does what the program was called to do. The settings of a server are handed back: `main` alone has the handle that starts threads.
-fn called(rt: &HostRuntime) -> Result<Option<Vec<u8>>, Fault> {
+/// The exit status where a record isn't right.
+const BAD_RECORD: u8 = 3;
+
+/// What comes of what the program was called to do.
+enum Ending {
+    Done,
+    /// What the program writes to standard output tells how a record isn't right.
+    BadRecord,
+    /// A server is to run with these settings: `main` alone has the handle that starts threads.
+    Serve(Vec<u8>),
+}
+
+/// Does what the program was called to do.
+fn called(rt: &HostRuntime) -> Result<Ending, Fault> {
     let words = words(rt)?;
     match Command::of(&words)? {
         Command::Replay => replay::<Brand, Brand>(rt, Blank::new(2), Blank::new(2))?,
@@ -53,12 +73,18 @@ fn called(rt: &HostRuntime) -> Result<Option<Vec<u8>>, Fault> {
             let delta = read_file(rt, delta.as_str())?;
             write_applied(rt.alloc(), &base, &delta, &mut rt.stdout())?;
         }
+        Command::Check(record) => {
+            let record = read_file(rt, record.as_str())?;
+            if !write_checked(rt.alloc(), &record, &mut rt.stdout())? {
+                return Ok(Ending::BadRecord);
+            }
+        }
         Command::Serve(settings) => {
             let settings = read_file(rt, settings.as_str())?;
-            return Ok(Some(settings));
+            return Ok(Ending::Serve(settings));
         }
     }
-    Ok(None)
+    Ok(Ending::Done)
 }
 
 /// Runs the script on standard input; its answers go to standard output.
@@ -103,6 +129,27 @@ fn write_applied<W: Write>(
         Ok(text) => write_out(text.as_str(), out),
         Err(fault) => Err(Fault::Apply(fault)),
     }
+}
+
+/// Checks a record, writes what came of it, and answers whether the record is right.
+fn write_checked<W: Write>(alloc: Global, chunks: &[u8], out: &mut W) -> Result<bool, Fault>
+    ensures written { IfOk result (λ right. (answer : Result ℕ check_fault.CheckFault) × (checked chunks.now ≡ answer) × (right ≡ is_ok answer)
+        × Appends (W.contents out.old) (W.contents out.new) (spec.answer_line answer)) }
+    ensures kinds { IfErr result (λ f. f ≢ Fault.Write → f ≡ Fault.Memory) }
+{
+    let answer = check(alloc, chunks);
+    if let Err(CheckFault {
+        kind: CheckKind::Memory,
+        ..
+    }) = answer
+    {
+        return Err(Fault::Memory);
+    }
+    match answer_line(alloc, answer) {
+        Ok(line) => write_out(line.as_str(), out)?,
+        Err(AllocError) => return Err(Fault::Memory),
+    }
+    Ok(answer.is_ok())
 }
 
 /// Writes a whole text.

@@ -1,0 +1,72 @@
+#!/usr/bin/env bash
+# check.sh [ENTRIES..]: checks records of so many entries (100,000 and 1,000,000 where none are given; at least 40), in which each part of
+# a second is awaited by two players, one of whom asks for a delta update, and asked for by a third who waits for nothing. For each number it
+# prints the entries and the bytes per second of `llhls check`, and the ratio to the first number's; then the peak memory, and the memory
+# that a byte of the record takes. Times are the median of RUNS runs (9 where it isn't set). It judges nothing.
+set -eu
+here=$(cd "$(dirname "${BASH_SOURCE[0]}")" && pwd)
+program=$("$here/../tests/program.sh")
+room=$(mktemp -d)
+trap 'rm -rf "$room"' EXIT
+runs=${RUNS:-9}
+if [ "$#" = 0 ]; then
+    set -- 100000 1000000
+fi
+"${CC:-cc}" -O2 -Wall -o "$room/measure" "$here/measure.c"
+
+# make ENTRIES: makes a record of at least so many entries, in chunks of 10,000 or a little more.
+make() {
+    awk -v entries="$1" '
+        function begin() {
+            print "#LLHLS-CHUNK 1"
+            print "channel cam target=4 part=1000000 skip=24 window=36 renditions=hi first=0 start=0"
+            print "at " made
+            begun = made
+        }
+        function add(entry) { print entry; made++ }
+        BEGIN {
+            begin()
+            for (item = 0; made < entries; item++) {
+                msn = int(item / 4)
+                part = item % 4
+                add("A " (ask + 1) " hi " msn " " part " - held")
+                add("A " (ask + 2) " hi " msn " " part " YES held")
+                add("A " (ask + 3) " hi - - - text " item)
+                add("P part hi 1000000 " (part == 0 ? "i" : part == 3 ? "f" : "-"))
+                add("G " (ask + 1) " text " (item + 1))
+                add("G " (ask + 2) " text " (item + 1))
+                add("C " (item + 1) * 1000)
+                ask += 3
+                if (made - begun >= 10000) {
+                    print "#END"
+                    begin()
+                }
+            }
+            print "#END"
+            print made >"/dev/stderr"
+        }'
+}
+
+first=
+for entries in "$@"; do
+    make "$entries" >"$room/record" 2>"$room/made"
+    made=$(<"$room/made")
+    rm -f "$room/measured"
+    for ((run = 0; run < runs; run++)); do
+        "$room/measure" /dev/null "$room/answer" "$program" check "$room/record" >>"$room/measured"
+        if [ "$(<"$room/answer")" != "ok $made" ]; then
+            echo "of $made entries: $(<"$room/answer")" >&2
+            exit 1
+        fi
+    done
+    bytes=$(wc -c <"$room/record")
+    median=$(sort -n "$room/measured" | awk '{ time[NR] = $1 } END { print time[int((NR + 1) / 2)] }')
+    peak=$(sort -n -k 2 "$room/measured" | awk '{ peak[NR] = $2 } END { print peak[int((NR + 1) / 2)] }')
+    first=${first:-$made $median}
+    awk -v made="$made" -v bytes="$bytes" -v median="$median" -v peak="$peak" -v first="$first" '
+        BEGIN {
+            split(first, of)
+            printf "%d entries, %d bytes: %.0f entries/s, %.0f bytes/s, ratio %.2f; ", made, bytes, made * 1e6 / median, bytes * 1e6 / median, (made / median) / (of[1] / of[2])
+            printf "peak %d KiB: %.1f bytes a byte\n", peak, peak * 1024 / bytes
+        }'
+done

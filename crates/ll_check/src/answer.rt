@@ -1,0 +1,46 @@
+//! The line that tells what a check came to.
+ghost use Rattle.std.specs.Prelude.{◌≡◌, IfOk, string_bytes};
+ghost use Rattle.ll_check.specs.Answer as spec;
+
+use crate::fault::{CheckFault, CheckKind};
+use std::alloc::{AllocError, Global};
+
+/// `ok N` for a chain of N entries that is right, `bad ENTRY NAME` for one that isn't. It fails only where no memory is found.
+pub fn answer_line(alloc: Global, answer: Result<u64, CheckFault>) -> Result<String, AllocError>
+    ensures { IfOk result (λ t. string_bytes t ≡ spec.answer_line answer) }
+{
+    match answer {
+        Ok(entries) => ok_line(alloc, entries),
+        Err(fault) => bad_line(alloc, fault.entry, fault.kind.name()),
+    }
+}
+
+#[tactic(auto, unfolding(crate::specs::Answer::ok_line))]
+fn ok_line(alloc: Global, entries: u64) -> Result<String, AllocError>
+    ensures { IfOk result (λ t. string_bytes t ≡ spec.ok_line entries) }
+{
+    format!(in alloc; "ok {entries}\n")
+}
+
+#[tactic(auto, unfolding(crate::specs::Answer::bad_line))]
+fn bad_line(alloc: Global, entry: u64, name: &str) -> Result<String, AllocError>
+    ensures { IfOk result (λ t. string_bytes t ≡ spec.bad_line entry name.now) }
+{
+    format!(in alloc; "bad {entry} {name}\n")
+}
+
+impl CheckKind {
+    /// Its name.
+    pub fn name(self) -> &'static str
+        ensures { result.now ≡ spec.kind_name self }
+    {
+        match self {
+            CheckKind::BadChunk => "BadChunk",
+            CheckKind::Gap => "Gap",
+            CheckKind::OtherChannel => "OtherChannel",
+            CheckKind::Refused => "Refused",
+            CheckKind::WrongReply => "WrongReply",
+            CheckKind::Memory => "Memory",
+        }
+    }
+}
