@@ -20,7 +20,7 @@ make() {
         function begin() {
             print "#LLHLS-CHUNK 1"
             print "channel cam target=4 part=1000000 skip=24 window=36 renditions=hi first=0 start=0"
-            print "at " made
+            print "at " made + 0
             begun = made
         }
         function add(entry) { print entry; made++ }

@@ -1,2 +1,4 @@
 pub mod Entries
+pub mod Laws
+pub mod Lines
 pub mod Replies

@@ -1,0 +1,49 @@
+-- How the entries of a record are spelled.
+use Rattle.std.specs.Prelude.{◌≡◌, ◌≤◌, ℕ, List, ◌++◌, true, Option, Some, None, codes, decimal}
+use Rattle.ll_directive.specs.Targets.{WantValue}
+use Rattle.ll_directive.specs.declared.want.Awaited.{Awaited}
+use Rattle.ll_directive.specs.declared.want.Awaited.TheVariants.{Nothing, Segment, Part}
+use Rattle.ll_directive.specs.declared.want.Skip.{Skip}
+use Rattle.ll_item.specs.Names.{is_name}
+use Rattle.ll_item.specs.Settings.{Configuration}
+use Rattle.ll_spelling.specs.Lines.{IsWritable, item_line}
+use Rattle.ll_verdict.specs.declared.reply.Outcome.{Outcome}
+use Rattle.ll_entry.specs.Entries.{ask_fields, collect_fields}
+use Rattle.ll_entry.specs.Replies.{HeldWithin, OutcomeWithin, most}
+use Rattle.ll_entry.specs.declared.entry.Recorded.{Recorded}
+use Rattle.ll_entry.specs.declared.entry.Recorded.TheVariants.{Publish, Ask, Clock, Collect, Close}
+
+abbrev pub msn_of : Awaited → Option ℕ
+msn_of Nothing = None
+msn_of (Segment msn) = Some msn
+msn_of (Part msn part) = Some msn
+
+abbrev pub part_of : Awaited → Option ℕ
+part_of Nothing = None
+part_of (Segment msn) = None
+part_of (Part msn part) = Some part
+
+-- what the line of a request tells
+abbrev pub ask_values : ℕ → WantValue → Option Outcome → ℕ × (List ℕ × (Option ℕ × (Option ℕ × (Skip × Option Outcome))))
+ask_values ask want reply = (ask, (want.rendition, (msn_of want.awaited, (part_of want.awaited, (want.skip, reply)))))
+
+-- the line that spells an entry of the record of a channel
+abbrev pub entry_line : Configuration → Recorded → List ℕ
+entry_line c (Publish item) = codes "P " ++ item_line c item
+entry_line c (Ask ask want reply) = codes "A " ++ ask_fields.print (ask_values ask want reply)
+entry_line c (Clock ms) = codes "C " ++ decimal ms
+entry_line c (Collect ask reply) = codes "G " ++ collect_fields.print (ask, reply)
+entry_line c (Close ask) = codes "X " ++ decimal ask
+
+abbrev pub AwaitedWithin : Awaited → Type 0
+AwaitedWithin Nothing = Unit
+AwaitedWithin (Segment msn) = msn ≤ most
+AwaitedWithin (Part msn part) = (msn ≤ most) × (part ≤ most)
+
+-- which entries are spelled so that they are read again: the numbers are below 2^64, and the names are names
+abbrev pub IsSpelled : Configuration → Recorded → Type 0
+IsSpelled c (Publish item) = IsWritable c item
+IsSpelled c (Ask ask want reply) = (ask ≤ most) × (want.channel ≡ c.channel) × (is_name want.rendition ≡ true) × AwaitedWithin want.awaited × HeldWithin reply
+IsSpelled c (Clock ms) = ms ≤ most
+IsSpelled c (Collect ask reply) = (ask ≤ most) × OutcomeWithin reply
+IsSpelled c (Close ask) = ask ≤ most

@@ -1,0 +1,176 @@
+//! Entries, written as lines. No end of a line is added. The lines that hand a reply out or give a request up take no memory.
+ghost use Rattle.std.specs.Prelude.{◌≡◌, ◌≤◌, ◌+◌, ◌++◌, IfOk, codes, decimal, string_bytes};
+ghost use Rattle.arrayvec.specs.ArrayString.{array_string_len};
+ghost use Rattle.ll_item.specs.Settings.{Configuration};
+ghost use Rattle.ll_entry.specs.Lines as spec;
+ghost use Rattle.ll_entry.specs.Lines.{entry_line};
+ghost use Rattle.ll_entry.specs.Replies.{count, or_dash_text, or_held_text, outcome_text, skip_name};
+ghost use Rattle.ll_entry.specs.declared.entry.Recorded.TheVariants as recorded;
+
+use arrayvec::ArrayString;
+use itoa::Buffer;
+use ll_directive::{Awaited, Skip, Want};
+use ll_item::{Item, Settings};
+use ll_spelling::push_item;
+use ll_verdict::Outcome;
+use std::alloc::{AllocError, Global};
+
+/// The line of an item that was accepted. It fails only where no memory is found.
+pub fn publish_line(alloc: Global, settings: &Settings, item: &Item) -> Result<String, AllocError>
+    ensures { IfOk result (λ t. string_bytes t ≡ entry_line settings.now (recorded.Publish item.now)) }
+{
+    let mut line = String::from_str(alloc, "P ")?;
+    push_item(&mut line, settings, item)?;
+    Ok(line)
+}
+
+/// The line of a request of this number, and of what it got at once; none where it was held. It fails only where no memory is found.
+pub fn ask_line(
+    alloc: Global,
+    ask: u64,
+    want: &Want,
+    outcome: Option<Outcome>,
+) -> Result<String, AllocError>
+    ensures { (c : Configuration) → IfOk result (λ t. string_bytes t ≡ entry_line c (recorded.Ask ask want.now outcome)) }
+{
+    let place = place_text(alloc, want.awaited(), want.skip(), outcome)?;
+    ask_text(alloc, ask, want.rendition(), place.as_str())
+}
+
+/// `A ASK RENDITION PLACE`
+fn ask_text(alloc: Global, ask: u64, rendition: &str, place: &str) -> Result<String, AllocError>
+    ensures { IfOk result (λ t. string_bytes t ≡ codes "A " ++ (decimal ask ++ (codes " " ++ (rendition.now ++ (codes " " ++ place.now))))) }
+{
+    format!(in alloc; "A {ask} {rendition} {place}")
+}
+
+/// `MSN PART SKIP REPLY`
+fn place_text(
+    alloc: Global,
+    awaited: Awaited,
+    skip: Skip,
+    outcome: Option<Outcome>,
+) -> Result<String, AllocError>
+    ensures { IfOk result (λ t. string_bytes t ≡ or_dash_text count (spec.msn_of awaited) ++ (codes " "
+        ++ (or_dash_text count (spec.part_of awaited) ++ (codes " " ++ (skip_name skip ++ (codes " " ++ or_held_text outcome)))))) }
+{
+    let (msn, part) = (number_text(msn_of(awaited)), number_text(part_of(awaited)));
+    let reply = reply_text(outcome);
+    let (msn, part, skip, reply) = (msn.as_str(), part.as_str(), skip_text(skip), reply.as_str());
+    format!(in alloc; "{msn} {part} {skip} {reply}")
+}
+
+/// The line of a reading of the clock. It fails only where no memory is found.
+pub fn clock_line(alloc: Global, ms: u64) -> Result<String, AllocError>
+    ensures { (c : Configuration) → IfOk result (λ t. string_bytes t ≡ entry_line c (recorded.Clock ms)) }
+{
+    format!(in alloc; "C {ms}")
+}
+
+/// The line of a reply that was handed out.
+pub fn collect_line(ask: u64, outcome: Outcome) -> ArrayString<64>
+    ensures text { (c : Configuration) → result.bytes ≡ entry_line c (recorded.Collect ask outcome) }
+    ensures short { array_string_len result ≤ 63 }
+{
+    let mut line = ArrayString::new();
+    line.push_str("G ");
+    push_number(&mut line, ask);
+    line.push_str(" ");
+    push_outcome(&mut line, outcome);
+    line
+}
+
+/// The line of a request that was given up.
+pub fn close_line(ask: u64) -> ArrayString<64>
+    ensures text { (c : Configuration) → result.bytes ≡ entry_line c (recorded.Close ask) }
+    ensures short { array_string_len result ≤ 63 }
+{
+    let mut line = ArrayString::new();
+    line.push_str("X ");
+    push_number(&mut line, ask);
+    line
+}
+
+/// Adds a number.
+fn push_number(line: &mut ArrayString<64>, n: u64)
+    requires { array_string_len line.old ≤ 44 }
+    ensures text { line.new.bytes ≡ line.old.bytes ++ decimal n }
+    ensures len { array_string_len line.new ≤ array_string_len line.old + 20 }
+{
+    let mut digits = Buffer::new();
+    line.push_str(digits.format(n));
+}
+
+/// Adds what a reply comes to.
+fn push_outcome(line: &mut ArrayString<64>, outcome: Outcome)
+    requires { array_string_len line.old ≤ 38 }
+    ensures text { line.new.bytes ≡ line.old.bytes ++ outcome_text outcome }
+    ensures len { array_string_len line.new ≤ array_string_len line.old + 25 }
+{
+    match outcome {
+        Outcome::Text(n) => {
+            line.push_str("text ");
+            push_number(line, n);
+        }
+        Outcome::NotFound => line.push_str("notfound"),
+        Outcome::TooFar => line.push_str("bad TooFar"),
+        Outcome::Busy => line.push_str("busy"),
+        Outcome::Timeout => line.push_str("timeout"),
+    }
+}
+
+/// What a request got at once; `held` for none.
+fn reply_text(outcome: Option<Outcome>) -> ArrayString<64>
+    ensures { result.bytes ≡ or_held_text outcome }
+{
+    let mut text = ArrayString::new();
+    match outcome {
+        Some(outcome) => push_outcome(&mut text, outcome),
+        None => text.push_str("held"),
+    }
+    text
+}
+
+/// A number, or `-` for none.
+fn number_text(number: Option<u64>) -> ArrayString<64>
+    ensures { result.bytes ≡ or_dash_text count number }
+{
+    let mut text = ArrayString::new();
+    match number {
+        Some(n) => push_number(&mut text, n),
+        None => text.push_str("-"),
+    }
+    text
+}
+
+/// The media sequence number of what a request awaits.
+fn msn_of(awaited: Awaited) -> Option<u64>
+    ensures { result ≡ spec.msn_of awaited }
+{
+    match awaited {
+        Awaited::Nothing => None,
+        Awaited::Segment(msn) => Some(msn),
+        Awaited::Part(msn, _) => Some(msn),
+    }
+}
+
+/// The place, in its segment, of the part that a request awaits.
+fn part_of(awaited: Awaited) -> Option<u64>
+    ensures { result ≡ spec.part_of awaited }
+{
+    match awaited {
+        Awaited::Part(_, part) => Some(part),
+        Awaited::Nothing | Awaited::Segment(_) => None,
+    }
+}
+
+/// Whether a request is for a delta update: `-`, `YES` or `v2`.
+fn skip_text(skip: Skip) -> &'static str
+    ensures { result.now ≡ skip_name skip }
+{
+    match skip {
+        Skip::No => "-",
+        Skip::Yes => "YES",
+        Skip::V2 => "v2",
+    }
+}

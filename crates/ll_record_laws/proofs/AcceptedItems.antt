@@ -1,0 +1,151 @@
+-- What it means that no rule refuses an item; and the IDs that are listed stand on one line each, since all of them were accepted.
+use Rattle.std.proofs.Common.{◌≡◌, ℕ, ◌<◌, ◌==◌, ◌||◌, List, [], ◌∷◌, ◌++◌, Bool, true, false, not, Option, Some, None, is_none, fold, refl, ap, ◌∙◌, length, nat_lt, bytes_eq, arith, if◌then◌else◌}
+use Rattle.std.specs.Prelude.{option_map}
+use Rattle.std.proofs.lemmas.Bool.{and_parts}
+use Rattle.std.proofs.lemmas.Bool.Decides.{nat_tests}
+use Rattle.std.proofs.lemmas.List.Elements.{All-append, All-cons, All-filter, All-head, All-nil, All-tail}
+use Rattle.std.proofs.lemmas.Slice.Eq.{bytes_eq-Decides}
+use Rattle.std.specs.List.{All, list_all, list_any}
+use Rattle.ll_attr.specs.Attributes.{spelling}
+use Rattle.ll_attr.specs.declared.attributes.Attribute.{Attribute}
+use Rattle.ll_format.proofs.WordLaws.{inside_from}
+use Rattle.ll_format.specs.Words.{is_one_line}
+use Rattle.ll_item.specs.Items.{rendition_of}
+use Rattle.ll_item.specs.Settings.{Configuration}
+use Rattle.ll_item.specs.declared.item.Item.{Item}
+use Rattle.ll_item.specs.declared.item.Item.TheVariants as item
+use Rattle.ll_range.specs.Announced as range
+use Rattle.ll_range.specs.Announced.{Announced, add_refusal, announced, is_listed, remove_refusal, was_removed}
+use Rattle.ll_range.specs.Attributes.{are_allowed, is_id, is_id_byte}
+use Rattle.ll_range.specs.declared.ranges.RangeFault.TheVariants.{BadAttribute, IdTaken, IdUnknown}
+use Rattle.ll_room.specs.Full.{full_by, is_full, refusal_after}
+use Rattle.ll_verdict.specs.Accepted.{first_refusal, of_push, of_range, refusal, rendition_refusal}
+use Rattle.ll_verdict.specs.Events.{Event, Ask, Clock, Close, Collect, Publish, items, taken}
+use Rattle.ll_verdict.specs.declared.fault.PublishFault.{PublishFault}
+use Rattle.ll_verdict.specs.declared.fault.PublishFault.TheVariants.{NoRendition}
+use Rattle.ll_window.specs.Refusal as window
+use Rattle.ll_window.specs.Segments.{end_time, own}
+use Rattle.ll_window.specs.Told.{Listed, Told, start, step, told}
+
+-- ---- an item that no rule refuses
+
+none_of : {X Y : Type 0} (f : X → Y) (o : Option X) → option_map f o ≡ None → o ≡ None
+none_of f None h = refl
+none_of f (Some x) h = cc
+
+first_none : (a b : Option PublishFault) → first_refusal a b ≡ None → (a ≡ None) × (b ≡ None)
+first_none None b h = (refl, h)
+first_none (Some reason) b h = cc
+
+both_none : (c : Configuration) (before : List Item) (i : Item) → rendition_refusal c before i ≡ None → (window.refusal c before i ≡ None) × (range.refusal c before i ≡ None)
+unfolding rendition_refusal
+both_none c before i h =
+    let p = first_none (option_map of_push (window.refusal c before i)) (option_map of_range (range.refusal c before i)) h in
+    (none_of of_push (window.refusal c before i) p.0, none_of of_range (range.refusal c before i) p.1)
+
+of_rendition : (b : Bool) (o : Option PublishFault) → (if b then o else Some NoRendition) ≡ None → (b ≡ true) × (o ≡ None)
+of_rendition true o h = (refl, h)
+of_rendition false o h = cc
+
+-- what each item of a channel may follow
+pub record IsTaken (c : Configuration) (before : List Item) (i : Item) : Type 0 where
+  pub named : rendition_of i < length c.renditions
+  pub window : window.refusal c (own (rendition_of i) before) i ≡ None
+  pub range : range.refusal c (own (rendition_of i) before) i ≡ None
+
+not_refused : (c : Configuration) (before : List Item) (i : Item) → refusal c before i ≡ None → IsTaken c before i
+not_refused c before i h =
+    let p = of_rendition (nat_lt (rendition_of i) (length c.renditions)) (rendition_refusal c (own (rendition_of i) before) i) h in
+    let q = both_none c (own (rendition_of i) before) i p.1 in
+    record { named = below (rendition_of i) (length c.renditions) p.0; window = q.0; range = q.1 }
+  where
+    below : (m n : ℕ) → nat_lt m n ≡ true → m < n
+    below m n h = grind (arith, nat_tests)
+
+pub is-taken : (c : Configuration) (events : List Event) (i : Item) → refusal_after c events i ≡ None → IsTaken c (items c events) i
+is-taken c events i h = not_refused c (items c events) i (first_none (refusal c (items c events) i) (full_by (is_full (length events))) h).0
+
+-- ---- date ranges
+
+added_by : (taken id allowed : Bool) → (if taken then Some IdTaken else if id then (if allowed then None else Some BadAttribute) else Some BadAttribute) ≡ None
+    → (id ≡ true) × (allowed ≡ true)
+added_by true id allowed h = cc
+added_by false false allowed h = cc
+added_by false true true h = (refl, refl)
+added_by false true false h = cc
+
+-- one that was added has an ID and attributes that it may have
+pub added : (now : ℕ) (id : List ℕ) (attributes : List Attribute) (a : Announced) → add_refusal now id attributes a ≡ None
+    → (is_id id ≡ true) × (are_allowed attributes ≡ true)
+added now id attributes a h = added_by (is_listed id a || was_removed now id a) (is_id id) (are_allowed attributes) h
+
+listed_by : (b : Bool) → (if b then None else Some IdUnknown) ≡ None → b ≡ true
+listed_by true h = refl
+listed_by false h = cc
+
+id_line : (id : List ℕ) → is_id id ≡ true → is_one_line id ≡ true
+id_line id h = inside_from is_id_byte id refl refl (and_parts _ (list_all is_id_byte id) h).1
+
+-- ---- the IDs of all items of a channel
+
+abbrev HasLine : Item → Type 0
+HasLine (item.Range rendition id attributes) = is_one_line id ≡ true
+HasLine (item.Unrange rendition id) = Unit
+HasLine (item.Part rendition duration independent finish) = Unit
+HasLine (item.Break rendition) = Unit
+HasLine (item.End rendition) = Unit
+
+abbrev IsOnLine : Listed → Type 0
+IsOnLine x = is_one_line x.id ≡ true
+
+has_line : (c : Configuration) (before : List Item) (i : Item) → range.refusal c before i ≡ None → HasLine i
+has_line c before (item.Range r id attributes) h = id_line id (added (end_time before) id attributes (announced c before) h).0
+has_line c before (item.Unrange r id) h = tt
+has_line c before (item.Part r duration independent finish) h = tt
+has_line c before (item.Break r) h = tt
+has_line c before (item.End r) h = tt
+
+one_taken : (c : Configuration) (before : List Item) (i : Item) (o : Option PublishFault) → refusal c before i ≡ o → All HasLine before
+    → All HasLine (if is_none o then before ++ i ∷ [] else before)
+one_taken c before i None e h =
+    All-append HasLine before (i ∷ []) h (All-cons HasLine i [] (has_line c (own (rendition_of i) before) i (not_refused c before i e).range) (All-nil HasLine))
+one_taken c before i (Some fault) e h = h
+
+have_lines : (c : Configuration) (before : List Item) (events : List Event) → All HasLine before → All HasLine (fold (taken c) before events)
+have_lines c before [] h = h
+have_lines c before (Publish i ∷ es) h = have_lines c (taken c before (Publish i)) es (one_taken c before i (refusal c before i) refl h)
+have_lines c before (Ask want ∷ es) h = have_lines c before es h
+have_lines c before (Collect ticket ∷ es) h = have_lines c before es h
+have_lines c before (Close ticket ∷ es) h = have_lines c before es h
+have_lines c before (Clock ms ∷ es) h = have_lines c before es h
+
+step_lines : (t : Told) (i : Item) → HasLine i → All IsOnLine t.listed → All IsOnLine (step t i).listed
+step_lines t (item.Range r id attributes) line h =
+    let x : Listed = record { id = id; attributes = spelling attributes; added = t.end_time } in
+    All-append IsOnLine t.listed (x ∷ []) h (All-cons IsOnLine x [] line (All-nil IsOnLine))
+step_lines t (item.Unrange r id) line h = All-filter (λ (x : Listed). not (bytes_eq id x.id)) IsOnLine t.listed h
+step_lines t (item.Part r duration independent finish) line h = h
+step_lines t (item.Break r) line h = h
+step_lines t (item.End r) line h = h
+
+on_lines : (t : Told) (xs : List Item) → All HasLine xs → All IsOnLine t.listed → All IsOnLine (fold step t xs).listed
+on_lines t [] lines h = h
+on_lines t (i ∷ xs) lines h = on_lines (step t i) xs (All-tail HasLine i xs lines) (step_lines t i (All-head HasLine i xs lines) h)
+
+same_line : (id : List ℕ) (x : Listed) (xs : List Listed) (b : Bool) → bytes_eq id x.id ≡ b → (b || list_any (λ (x : Listed). bytes_eq id x.id) xs) ≡ true
+    → All IsOnLine (x ∷ xs) → (list_any (λ (x : Listed). bytes_eq id x.id) xs ≡ true → is_one_line id ≡ true) → is_one_line id ≡ true
+same_line id x xs true e h lines later =
+    ap is_one_line ((bytes_eq-Decides id x.id).0 e) ∙ All-head IsOnLine x xs lines
+same_line id x xs false e h lines later = later h
+
+among : (id : List ℕ) (xs : List Listed) → list_any (λ (x : Listed). bytes_eq id x.id) xs ≡ true → All IsOnLine xs → is_one_line id ≡ true
+among id [] h lines = cc
+among id (x ∷ xs) h lines = same_line id x xs (bytes_eq id x.id) refl h lines (λ h. among id xs h (All-tail IsOnLine x xs lines))
+
+-- an ID that may be taken away was listed, so it stands on one line
+pub removed : (c : Configuration) (events : List Event) (r : ℕ) (id : List ℕ)
+    → remove_refusal id (announced c (own r (items c events))) ≡ None → is_one_line id ≡ true
+removed c events r id h =
+    let xs = own r (items c events) in
+    among id (told xs).listed (listed_by (is_listed id (announced c xs)) h)
+    (on_lines start xs (All-filter (λ i. rendition_of i == r) HasLine (items c events) (have_lines c [] events (All-nil HasLine))) (All-nil IsOnLine))

@@ -1,0 +1,5 @@
+pub mod AcceptedItems
+pub mod ChunkProof
+pub mod LeadLemmas
+pub mod RangeTexts
+pub mod WritableProof
