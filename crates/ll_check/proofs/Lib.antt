@@ -1,2 +1,3 @@
 pub mod ChunkLemmas
 pub mod LineLemmas
+pub mod LaterLemmas

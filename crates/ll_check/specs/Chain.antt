@@ -1,5 +1,5 @@
 -- A chain of chunks: the record of one channel from its start on, cut into pieces.
-use Rattle.std.specs.Prelude.{ℕ, ◌+◌, ◌==◌, List, [], ◌∷◌, ◌++◌, Option, Some, None, Result, Ok, Err, length, bytes_eq, codes, if◌then◌else◌}
+use Rattle.std.specs.Prelude.{ℕ, ◌+◌, ◌==◌, List, [], ◌∷◌, ◌++◌, Bool, true, Option, Some, None, Result, Ok, Err, length, nat_le, bytes_eq, codes, if◌then◌else◌}
 use Rattle.std.specs.Str.{is_utf8}
 use Rattle.ll_attr.specs.Words.{after, parts_at}
 use Rattle.ll_entry.specs.Entries.{entry_in}
@@ -117,6 +117,11 @@ checked_from (Inside c) ch (line ∷ more) =
     if bytes_eq line (codes "#END") then checked_from Between ch more
     else go_on ch.events (with_line c ch.events line) (λ events. checked_from (Inside c) (chain_of c events) more)
     )
+
+-- whether nothing is found wrong before this entry
+abbrev pub not_before : ℕ → Result Chain CheckFault → Bool
+not_before entry (Ok ch) = true
+not_before entry (Err fault) = nat_le entry fault.entry
 
 -- how many entries a chain of one chunk or more has
 abbrev pub counted : Result Chain CheckFault → Result ℕ CheckFault

@@ -2,7 +2,7 @@
 ghost use Rattle.std.specs.Prelude.{◌≡◌, ◌≢◌, ◌+◌, ◌^◌, ◌≤◌, ◌<◌, List, IfErr, IfOk, IfSome, MatchOption, OnOk, Some, Ok, Err, is_some, length, true};
 ghost use Rattle.ll_attr.specs.Words.{parts_at};
 ghost use Rattle.ll_check.specs.Chain as spec;
-ghost use Rattle.ll_check.specs.Chain.{Between, Chain, Inside, begun, begun_at, chain_of, checked_from, go_on, known_by, with_line, wrong};
+ghost use Rattle.ll_check.specs.Chain.{Between, Chain, Inside, begun, begun_at, chain_of, checked_from, go_on, known_by, not_before, with_line, wrong};
 ghost use Rattle.ll_check.specs.Found.{GoesOn, IsAt, IsInside, IsJoined};
 ghost use Rattle.ll_item.specs.Same.{same_settings};
 ghost use Rattle.ll_item.specs.Settings.{settings_in};
@@ -168,6 +168,8 @@ pub(crate) fn read_entries<'a>(
     ensures wrong { (events : List Event) → Stands keeper.old events
         → IfErr result (λ f. f.kind ≢ CheckKind.Memory
         → checked_from (Inside keeper.old.settings) (chain_of keeper.old.settings events) (parts_at 10 text.now) ≡ Err f) }
+    ensures memory { (events : List Event) → Stands keeper.old events → IfErr result (λ f.
+        not_before f.entry (checked_from (Inside keeper.old.settings) (chain_of keeper.old.settings events) (parts_at 10 text.now)) ≡ true) }
     ensures shorter { IfOk result (λ rest. length rest.now < length text.now) }
 {
     let mut rest = text;

@@ -138,10 +138,12 @@ fn write_checked<W: Write>(alloc: Global, chunks: &[u8], out: &mut W) -> Result<
     ensures kinds { IfErr result (λ f. f ≢ Fault.Write → f ≡ Fault.Memory) }
 {
     let answer = check(alloc, chunks);
-    if let Err(CheckFault {
-        kind: CheckKind::Memory,
-        ..
-    }) = answer
+    if let Err(
+        CheckFault {
+            kind: CheckKind::Memory,
+            ..
+        },
+    ) = answer
     {
         return Err(Fault::Memory);
     }

@@ -1,5 +1,8 @@
 -- Each line comes to what the definition says of it, whatever the events before.
 use Rattle.std.proofs.Common.{arith, sym}
+use Rattle.ll_attr.specs.Words.{parts_at}
+use Rattle.ll_check.specs.Chain.{Inside, chain_of, checked_from}
+use Rattle.ll_check.proofs.LaterLemmas.{later-as}
 use Rattle.ll_check.proofs.ChunkLemmas.{after-line, wrong-line}
 use Rattle.ll_check.proofs.chunk.read_entries.Goals as goal
 
@@ -17,3 +20,9 @@ loop-line-preserved c = record {
       (λ es st. c.in_default-read_line.ensures.right es st);
   shorter = omega (arith, c.in-Some.ensures.shorter, c.loop-line.invariant.shorter);
 }
+
+pub returns-in-Err-clause-memory : goal.returns-in-Err-clause-memory
+returns-in-Err-clause-memory c events stands =
+    let s = c.loop-line.invariant.so_far events stands in
+    later-as c.in-Err.fault.entry (Inside c.args.keeper.now.settings) (chain_of c.args.keeper.now.settings s.more) (parts_at 10 c.loop-line.rest.now)
+    (checked_from (Inside c.args.keeper.now.settings) (chain_of c.args.keeper.now.settings events) (parts_at 10 c.args.text.now)) s.same (c.in-Err.ensures.wrong s.more s.stands).0
