@@ -409,7 +409,7 @@ done <<END
 4 $three
 4 $three\n$cam\n
 4 ${three}channel cam\n
-4 ${three}record /tmp/llhls\n$cam\n
+4 ${three}record llhls.record\n$cam\n
 4 ${three}channel cam target=4 part=1000000 skip=23 window=36 renditions=hi first=0 start=0\n
 4 ${three}channel CAM target=4 part=1000000 skip=24 window=36 renditions=hi first=0 start=0\n
 4 ${three}\\xff\n
