@@ -94,6 +94,13 @@ impl Book {
         Ok(())
     }
 
+    /// How many requests are open.
+    pub fn len(&self) -> usize
+        ensures { result ≡ length self.now }
+    {
+        self.slots.len()
+    }
+
     /// Whether as many wait as may wait.
     pub fn is_busy(&self) -> bool
         ensures { result ≡ nat_le waiting_limit (waiting_in self.now) }

@@ -1,11 +1,13 @@
-//! Entries, written as lines. No end of a line is added. The lines that hand a reply out or give a request up take no memory.
-ghost use Rattle.std.specs.Prelude.{◌≡◌, ◌≤◌, ◌+◌, ◌++◌, IfOk, codes, decimal, string_bytes};
+//! Entries, written as lines. No end of a line is added. The lines that read the clock, hand a reply out or give a request up take
+//! no memory.
+ghost use Rattle.std.specs.Prelude.{◌≡◌, ◌≤◌, ◌+◌, ◌++◌, IfOk, OnOk, codes, decimal, string_bytes};
 ghost use Rattle.arrayvec.specs.ArrayString.{array_string_len};
 ghost use Rattle.ll_item.specs.Settings.{Configuration};
 ghost use Rattle.ll_entry.specs.Lines as spec;
-ghost use Rattle.ll_entry.specs.Lines.{entry_line};
+ghost use Rattle.ll_entry.specs.Lines.{IsSpelled, entry_line};
 ghost use Rattle.ll_entry.specs.Replies.{count, or_dash_text, or_held_text, outcome_text, skip_name};
 ghost use Rattle.ll_entry.specs.declared.entry.Recorded.TheVariants as recorded;
+ghost use Rattle.ll_spelling.specs.Lines.{HasAttributes};
 
 use arrayvec::ArrayString;
 use itoa::Buffer;
@@ -17,7 +19,8 @@ use std::alloc::{AllocError, Global};
 
 /// The line of an item that was accepted. It fails only where no memory is found.
 pub fn publish_line(alloc: Global, settings: &Settings, item: &Item) -> Result<String, AllocError>
-    ensures { IfOk result (λ t. string_bytes t ≡ entry_line settings.now (recorded.Publish item.now)) }
+    ensures text { IfOk result (λ t. string_bytes t ≡ entry_line settings.now (recorded.Publish item.now)) }
+    ensures spelled { OnOk result (HasAttributes item.now) }
 {
     let mut line = String::from_str(alloc, "P ")?;
     push_item(&mut line, settings, item)?;
@@ -31,7 +34,8 @@ pub fn ask_line(
     want: &Want,
     outcome: Option<Outcome>,
 ) -> Result<String, AllocError>
-    ensures { (c : Configuration) → IfOk result (λ t. string_bytes t ≡ entry_line c (recorded.Ask ask want.now outcome)) }
+    ensures text { (c : Configuration) → IfOk result (λ t. string_bytes t ≡ entry_line c (recorded.Ask ask want.now outcome)) }
+    ensures spelled { (c : Configuration) → OnOk result (IsSpelled c (recorded.Ask ask (record want.now { channel = c.channel }) outcome)) }
 {
     let place = place_text(alloc, want.awaited(), want.skip(), outcome)?;
     ask_text(alloc, ask, want.rendition(), place.as_str())
@@ -60,16 +64,22 @@ fn place_text(
     format!(in alloc; "{msn} {part} {skip} {reply}")
 }
 
-/// The line of a reading of the clock. It fails only where no memory is found.
-pub fn clock_line(alloc: Global, ms: u64) -> Result<String, AllocError>
-    ensures { (c : Configuration) → IfOk result (λ t. string_bytes t ≡ entry_line c (recorded.Clock ms)) }
+/// The line of a reading of the clock.
+pub fn clock_line(ms: u64) -> ArrayString<64>
+    ensures text { (c : Configuration) → result.bytes ≡ entry_line c (recorded.Clock ms) }
+    ensures spelled { (c : Configuration) → IsSpelled c (recorded.Clock ms) }
+    ensures short { array_string_len result ≤ 63 }
 {
-    format!(in alloc; "C {ms}")
+    let mut line = ArrayString::new();
+    line.push_str("C ");
+    push_number(&mut line, ms);
+    line
 }
 
 /// The line of a reply that was handed out.
 pub fn collect_line(ask: u64, outcome: Outcome) -> ArrayString<64>
     ensures text { (c : Configuration) → result.bytes ≡ entry_line c (recorded.Collect ask outcome) }
+    ensures spelled { (c : Configuration) → IsSpelled c (recorded.Collect ask outcome) }
     ensures short { array_string_len result ≤ 63 }
 {
     let mut line = ArrayString::new();
@@ -83,6 +93,7 @@ pub fn collect_line(ask: u64, outcome: Outcome) -> ArrayString<64>
 /// The line of a request that was given up.
 pub fn close_line(ask: u64) -> ArrayString<64>
     ensures text { (c : Configuration) → result.bytes ≡ entry_line c (recorded.Close ask) }
+    ensures spelled { (c : Configuration) → IsSpelled c (recorded.Close ask) }
     ensures short { array_string_len result ≤ 63 }
 {
     let mut line = ArrayString::new();

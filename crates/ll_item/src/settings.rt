@@ -214,6 +214,13 @@ impl Settings {
         })
     }
 
+    /// Shows that settings are within the limits, and does nothing: what their type keeps is told to a caller's proof.
+    pub fn within_limits(&self)
+        ensures { limit_broken self.now ≡ None }
+    {
+        let _target = self.numbers.target;
+    }
+
     /// The channel's name.
     pub fn channel(&self) -> &str
         ensures value { result.now ≡ self.now.channel }

@@ -20,5 +20,6 @@ pub use fault::{AskFault, ClockFault};
 pub use keeper::Keeper;
 pub use parked::{Parked, Stored};
 pub use room::Room;
+pub use settle::LAST_TIME;
 pub use shelf::Shelf;
 pub use stamped::{Stamp, Stamped};

@@ -58,8 +58,8 @@ impl Room {
         Ok(())
     }
 
-    /// Accepts an item that nothing refuses. It fails only where no memory is found.
-    fn accept(&mut self, item: Item) -> Result<Stamped<u64>, AllocError>
+    /// Accepts an item that nothing refuses, as [`Room::test`] tells. It fails only where no memory is found, and then changes nothing.
+    pub fn accept(&mut self, item: Item) -> Result<Stamped<u64>, AllocError>
         requires { refusal_by self.old item ≡ None }
         ensures accepted { (events : List Event) → Stands self.old events → OnOk result (Stands self.new (events ++ Publish item ∷ [])) }
         ensures count { IfOk result (λ n. n ≡ record { room = self.old.channel; stamp = stamp.Publish item; value = self.old.count + 1 }) }

@@ -111,7 +111,8 @@ impl Room {
 
     /// How many requests there were.
     pub fn asks(&self) -> u64
-        ensures { result ≡ self.now.asks }
+        ensures value { result ≡ self.now.asks }
+        ensures few { result ≤ 2 ^ 61 }
     {
         self.asks
     }
@@ -122,6 +123,14 @@ impl Room {
         ensures few { result ≤ 2 ^ 61 }
     {
         self.events
+    }
+
+    /// How many requests are open.
+    pub fn open_requests(&self) -> usize
+        ensures value { result ≡ length self.now.slots }
+        ensures few { result ≤ 2 ^ 61 }
+    {
+        self.book.len()
     }
 
     /// Whether the channel has taken as many events as it takes.

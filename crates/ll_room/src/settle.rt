@@ -13,7 +13,7 @@ use crate::stamped::{Stamp, Stamped};
 use ll_verdict::Reply;
 
 /// The largest reading of a clock, in milliseconds.
-const LAST_TIME: u64 = 1 << 60;
+pub const LAST_TIME: u64 = 1 << 60;
 
 impl Room {
     /// Hands out the reply to a held request, once it is there; the request is then no longer open. It takes no memory.

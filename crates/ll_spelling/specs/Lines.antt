@@ -1,5 +1,5 @@
 -- How items and settings are spelled on a line.
-use Rattle.std.specs.Prelude.{◌≡◌, ℕ, ◌^◌, ◌<◌, List, [], ◌∷◌, ◌++◌, Bool, true, false, Ok, length, slice_index_or, codes, decimal}
+use Rattle.std.specs.Prelude.{◌≡◌, ◌≢◌, ℕ, ◌^◌, ◌<◌, List, [], ◌∷◌, ◌++◌, Bool, true, false, Ok, length, slice_index_or, codes, decimal}
 use Rattle.std.specs.List.{join_with_byte}
 use Rattle.ll_attr.specs.Attributes.{attributes_in, spelling}
 use Rattle.ll_attr.specs.declared.attributes.Attribute.{Attribute}
@@ -51,6 +51,14 @@ item_line c (Break rendition) = break_line (name_of c rendition)
 item_line c (End rendition) = end_line (name_of c rendition)
 item_line c (Range rendition id attributes) = range_line (name_of c rendition) (with_id id attributes)
 item_line c (Unrange rendition id) = unrange_line (name_of c rendition) id
+
+-- what the type of attribute lists keeps of an item: some attributes are always such as a text spells
+abbrev pub HasAttributes : Item → Type 0
+HasAttributes (Range rendition id attributes) = attributes ≢ [] → attributes_in (spelling attributes) ≡ Ok attributes
+HasAttributes (Unrange rendition id) = Unit
+HasAttributes (Part rendition duration independent finish) = Unit
+HasAttributes (Break rendition) = Unit
+HasAttributes (End rendition) = Unit
 
 -- items that are read again from their lines: the rendition is one of the channel's, the duration is below 2^64, the attributes are
 -- read from their spelling, and an id stands on one line

@@ -1,8 +1,8 @@
 //! Items, written.
-ghost use Rattle.std.specs.Prelude.{◌≡◌, ◌++◌, ℕ, List, IfOk, OnErr, OnOk, codes, string_bytes};
-ghost use Rattle.ll_attr.specs.Attributes.{spelling};
+ghost use Rattle.std.specs.Prelude.{◌≡◌, ◌≢◌, ◌++◌, ℕ, List, [], IfOk, Ok, OnErr, OnOk, codes, string_bytes};
+ghost use Rattle.ll_attr.specs.Attributes.{attributes_in, spelling};
 ghost use Rattle.ll_spelling.specs.Lines as spec;
-ghost use Rattle.ll_spelling.specs.Lines.{item_line, part_line, break_line, end_line, range_line, unrange_line, with_id};
+ghost use Rattle.ll_spelling.specs.Lines.{HasAttributes, item_line, part_line, break_line, end_line, range_line, unrange_line, with_id};
 
 use ll_attr::AttrList;
 use ll_item::{Item, Settings};
@@ -12,6 +12,7 @@ use std::alloc::{AllocError, Global};
 /// found, and then changes nothing.
 pub fn push_item(line: &mut String, settings: &Settings, item: &Item) -> Result<(), AllocError>
     ensures ok { OnOk result (string_bytes line.new ≡ string_bytes line.old ++ item_line settings.now item.now) }
+    ensures spelled { OnOk result (HasAttributes item.now) }
     ensures err { OnErr result (string_bytes line.new ≡ string_bytes line.old) }
 {
     let text = item_text(*line.allocator(), settings, item)?;
@@ -20,7 +21,8 @@ pub fn push_item(line: &mut String, settings: &Settings, item: &Item) -> Result<
 
 /// The line that spells an item.
 fn item_text(alloc: Global, settings: &Settings, item: &Item) -> Result<String, AllocError>
-    ensures { IfOk result (λ text. string_bytes text ≡ item_line settings.now item.now) }
+    ensures text { IfOk result (λ text. string_bytes text ≡ item_line settings.now item.now) }
+    ensures spelled { OnOk result (HasAttributes item.now) }
 {
     let name = rendition_name(settings, item.rendition());
     match item {
@@ -91,7 +93,8 @@ fn range_text(
     id: &str,
     attributes: &AttrList,
 ) -> Result<String, AllocError>
-    ensures { IfOk result (λ text. string_bytes text ≡ range_line name.now (with_id id.now attributes.now)) }
+    ensures text { IfOk result (λ text. string_bytes text ≡ range_line name.now (with_id id.now attributes.now)) }
+    ensures spelled { OnOk result (attributes.now ≢ [] → attributes_in (spelling attributes.now) ≡ Ok attributes.now) }
 {
     let others = attributes.write()?;
     range_text_of(alloc, name, id, comma_before(attributes), others.as_str())

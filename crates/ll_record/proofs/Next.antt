@@ -1,0 +1,83 @@
+-- One more event with its line: the record is that of the events with it.
+use Rattle.std.proofs.Common.{◌≡◌, ℕ, ◌+◌, ◌*◌, ◌≤◌, List, [], ◌∷◌, ◌++◌, None, true, refl, ap, ◌∙◌, sym, subst, length, take, drop, filter, arith}
+use Rattle.std.proofs.lemmas.List.{drop-append-le, length-append, take-append-le}
+use Rattle.std.proofs.lemmas.List.Elements.{filter-append}
+use Rattle.std.specs.Str.{is_utf8}
+use Rattle.ll_check.specs.Entered.{event_of, fault_in}
+use Rattle.ll_entry.proofs.EntryLines.{read_again}
+use Rattle.ll_entry.specs.Laws.{EntryLaw}
+use Rattle.ll_entry.specs.Lines.{IsSpelled, entry_line}
+use Rattle.ll_entry.specs.declared.entry.Recorded.{Recorded}
+use Rattle.ll_item.specs.Settings.{Configuration, limit_broken}
+use Rattle.ll_record_laws.proofs.LeadLemmas.{entry-next}
+use Rattle.ll_record_laws.specs.Leads.{IsLed, ended}
+use Rattle.ll_room.specs.Home.{Home, IsSame, Stands, home}
+use Rattle.ll_spelling.proofs.ItemBack.{item_back}
+use Rattle.ll_verdict.specs.Events.{Event}
+use Rattle.ll_verdict.specs.State.{state_of}
+use Rattle.ll_record.specs.Kept.{spare}
+use Rattle.ll_record.specs.Recording.{IsRecorded, Recording, is_call}
+
+entries : EntryLaw
+entries c entry within spelled = read_again item_back c entry within spelled
+
+one_more : (events : List Event) (e : Event) → length (events ++ e ∷ []) ≡ length events + 1
+one_more events e = length-append events (e ∷ [])
+
+called : (at : ℕ) (events : List Event) (e : Event) → at ≤ length events
+    → length (filter is_call (drop at (events ++ e ∷ []))) ≡ length (filter is_call (drop at events)) + length (filter is_call (e ∷ []))
+called at events e early =
+    ap (λ es. length (filter is_call es)) (drop-append-le at events (e ∷ []) early)
+    ∙ ap length (filter-append is_call (drop at events) (e ∷ []))
+    ∙ length-append (filter is_call (drop at events)) (filter is_call (e ∷ []))
+
+longer : (at n m : ℕ) → at ≤ n → m ≡ n + 1 → at ≤ m
+longer at n m a e = omega (arith, a, e)
+
+-- how a recording changes with an entry
+pub record IsNext (old new : Recording) (entry : Recorded) : Type 0 where
+  pub room : IsSame old.room new.room
+  pub at : new.at ≡ old.at
+  pub lines : new.lines ≡ old.lines ++ ended (entry_line old.room.settings entry)
+  pub calls : new.calls ≡ old.calls + length (filter is_call (event_of entry ∷ []))
+
+pub recorded-next : (old new : Recording) (events : List Event) (entry : Recorded) → limit_broken old.room.settings ≡ None → IsRecorded old events
+    → IsSpelled old.room.settings entry → is_utf8 (entry_line old.room.settings entry) ≡ true → fault_in old.room.settings events entry ≡ None
+    → Stands new.room (events ++ event_of entry ∷ []) → IsNext old new entry → IsRecorded new (events ++ event_of entry ∷ [])
+recorded-next old new events entry within r spelled utf8 right stands n =
+    let more = events ++ event_of entry ∷ [] in
+    let led : IsLed old.room.settings (take old.at events) (old.lines ++ ended (entry_line old.room.settings entry)) more =
+    entry-next entries old.room.settings (take old.at events) events old.lines entry within spelled utf8 right r.led in
+    let early : old.at ≤ length more = longer old.at (length events) (length more) r.early (one_more events (event_of entry)) in
+    let begin : take new.at more ≡ take old.at events = ap (λ k. take k more) n.at ∙ take-append-le old.at events (event_of entry ∷ []) r.early in
+    record {
+      stands = stands;
+      early = subst (λ k. k ≤ length more) (sym n.at) early;
+      led =
+          subst (λ (c : Configuration). IsLed c (take new.at more) new.lines more) (sym n.room.settings)
+          (subst (λ es. IsLed old.room.settings es new.lines more) (sym begin)
+          (subst (λ text. IsLed old.room.settings (take old.at events) text more) (sym n.lines) led));
+      calls =
+          n.calls ∙ ap (λ k. k + length (filter is_call (event_of entry ∷ []))) r.calls
+          ∙ sym (called old.at events (event_of entry) r.early) ∙ ap (λ k. length (filter is_call (drop k more))) (sym n.at);
+    }
+
+-- what doesn't count
+pub uncounted : (n : ℕ) → n ≡ n + 0
+uncounted n = omega arith
+
+-- ---- a new record
+
+nothing : (c : Configuration) (events : List Event) → IsLed c events [] events
+nothing c events rest = refl
+
+-- before anything happened
+pub recorded-new : (h : Home) (channel : ℕ) (c : Configuration) (lines : List ℕ) → h ≡ home channel c (state_of c []) → lines ≡ []
+    → IsRecorded (record { room = h; at = 0; lines = lines; calls = 0 }) []
+recorded-new h channel c lines e none =
+    subst (λ (x : Home). IsRecorded (record { room = x; at = 0; lines = lines; calls = 0 }) []) (sym e)
+    (subst (λ text. IsRecorded (record { room = home channel c (state_of c []); at = 0; lines = text; calls = 0 }) []) (sym none)
+    (record { stands = refl; early = omega arith; led = nothing c []; calls = refl }))
+
+pub none-open : (h : Home) (channel : ℕ) (c : Configuration) (free : ℕ) → h ≡ home channel c (state_of c []) → spare * length h.slots ≤ free
+none-open h channel c free e = let n : length h.slots ≡ 0 = ap (λ (x : Home). length x.slots) e in omega (arith, n)

@@ -1,0 +1,57 @@
+use Rattle.std.proofs.Common.{◌≡◌, ◌+◌, ◌++◌, ◌∷◌, [], List, None, true, ap, ap₂, ◌∙◌, subst, refl, sym, length}
+use Rattle.std.specs.Str.{is_utf8}
+use Rattle.ll_entry.specs.Lines.{IsSpelled, entry_line}
+use Rattle.ll_entry.specs.declared.entry.Recorded.{Recorded}
+use Rattle.ll_entry.specs.declared.entry.Recorded.TheVariants as recorded
+use Rattle.ll_item.specs.Settings.{limit_broken}
+use Rattle.ll_record_laws.specs.Leads.{ended}
+use Rattle.ll_room.specs.Answers.{new_tickets}
+use Rattle.ll_verdict.specs.Events.{Event, Ask}
+use Rattle.ll_record.proofs.Spare.{one-new, spare-left-more, spare-more}
+use Rattle.ll_record.proofs.Steps.{IsTold, ask-step, kept-after}
+use Rattle.ll_record.specs.Recording.{IsRecorded, Recording, of_channel}
+use Rattle.ll_record.specs.contracts.recorder.Recorder.{the_view}
+use Rattle.ll_record.proofs.recorder.Recorder.ask.Goals as goal
+
+abbrev after : goal.After-drop-line-in-Ok-ask → Recording
+after c = record { room = c.ask.new.self; at = c.self.inside.at; lines = c.put.new.self.lines; calls = c.self.inside.calls + 1 }
+
+abbrev entry : goal.After-drop-line-in-Ok-ask → Recorded
+entry c = recorded.Ask (c.self.inside.room.asks + 1) (of_channel c.self.inside.room.settings c.args.want) c.outcome-outcome.result
+
+line-is : (c : goal.After-drop-line-in-Ok-ask) → c.as_str-line.result.now ≡ entry_line c.self.inside.room.settings (entry c)
+line-is c =
+    c.as_str-line.ensures.value ∙ c.in-Ok.ensures.text c.self.inside.room.settings
+    ∙ ap (λ n. entry_line c.self.inside.room.settings (recorded.Ask (n + 1) (of_channel c.self.inside.room.settings c.args.want) c.outcome-outcome.result)) c.asks.ensures.value
+
+told : (c : goal.After-drop-line-in-Ok-ask) → IsTold (the_view c.self.inside) (after c) (entry c)
+told c = record {
+  within = subst (λ s. limit_broken s ≡ None) c.settings.ensures c.within_limits.ensures;
+  utf8 = subst (λ t. is_utf8 t ≡ true) (line-is c) c.put.ensures.text;
+  next = record {
+    room = c.ask.ensures.same;
+    at = refl;
+    lines = c.put.ensures.lines ∙ ap₂ (λ lines line. lines ++ ended line) c.reserve.ensures.lines (line-is c);
+    calls = refl;
+  };
+}
+
+next : (c : goal.After-drop-line-in-Ok-ask) (events : List Event) → IsRecorded (the_view c.self.inside) events
+    → IsRecorded (after c) (events ++ Ask (of_channel c.self.inside.room.settings c.args.want) ∷ [])
+next c =
+    ask-step (the_view c.self.inside) (after c) c.args.want c.outcome-outcome.result (told c) (sym c.is_full.ensures ∙ c.if-is_full.false)
+    (subst (λ n. IsSpelled c.self.inside.room.settings (recorded.Ask (n + 1) (of_channel c.self.inside.room.settings c.args.want) c.outcome-outcome.result)) c.asks.ensures.value
+    (c.in-Ok.ensures.spelled c.self.inside.room.settings))
+    c.outcome-outcome.ensures c.in-Ok-ask.ensures.asked
+
+pub invariant_of-self-in-Ok-ask : goal.invariant_of-self-in-Ok-ask
+invariant_of-self-in-Ok-ask c =
+    kept-after (the_view c.self.inside) (after c) (Ask (of_channel c.self.inside.room.settings c.args.want)) c.self.inside.lines.free c.put.new.self.free c.self.invariant (next c)
+    (spare-more c.self.inside.room c.ask.new.self (new_tickets c.in-Ok-ask.asked) c.put.new.self.free c.in-Ok-ask.ensures.opened (one-new c.in-Ok-ask.asked)
+    (spare-left-more (length c.self.inside.room.slots) (length c.as_str-line.result.now) (length c.as_str-line.result.now) c.open_requests.result c.reserve.new.self.free c.put.new.self.free
+    refl c.open_requests.ensures.value c.in-Ok-reserve.ensures.free c.put.ensures.free))
+
+pub returns-in-Ok-ask-clause-asked : goal.returns-in-Ok-ask-clause-asked
+returns-in-Ok-ask-clause-asked c =
+    subst (λ (x : Recording). (events : List Event) → IsRecorded x events → IsRecorded (after c) (events ++ Ask (of_channel x.room.settings c.args.want) ∷ []))
+    c.self.view_is (next c)

@@ -1,0 +1,56 @@
+-- A channel whose events are recorded, since its record was last handed out.
+use Rattle.std.specs.Prelude.{◌≡◌, ◌≤◌, ℕ, List, Bool, true, false, Option, length, take, drop, filter, nat_le}
+use Rattle.ll_directive.specs.Targets.{WantValue}
+use Rattle.ll_item.specs.Settings.{Configuration}
+use Rattle.ll_item.specs.declared.item.Item.{Item}
+use Rattle.ll_record_laws.specs.Leads.{IsLed}
+use Rattle.ll_room.specs.Full.{full_by, refusal_after}
+use Rattle.ll_room.specs.Home.{Home, IsSame, Stands}
+use Rattle.ll_verdict.specs.Accepted.{first_refusal}
+use Rattle.ll_verdict.specs.Events.{Event, Publish, Ask, Collect, Close, Clock}
+use Rattle.ll_verdict.specs.declared.fault.PublishFault.{PublishFault}
+
+pub record Recording : Type 0 where
+  -- what is kept of the channel
+  pub room : Home
+  -- how many events there were when its record was last handed out
+  pub at : ℕ
+  -- the lines of the events since then, each with its end
+  pub lines : List ℕ
+  -- how many of these events count towards what a record holds
+  pub calls : ℕ
+
+-- what a record holds of items, requests and readings; replies that are handed out and requests that are given up don't count
+abbrev pub record_end : ℕ
+record_end = 65536
+
+abbrev pub is_call : Event → Bool
+is_call (Publish item) = true
+is_call (Ask want) = true
+is_call (Clock ms) = true
+is_call (Collect ask) = false
+is_call (Close ask) = false
+
+-- the recorded channel has had these events: a check of the record's lines goes on from the events before them to all of these
+pub record IsRecorded (r : Recording) (events : List Event) : Type 0 where
+  pub stands : Stands r.room events
+  pub early : r.at ≤ length events
+  pub led : IsLed r.room.settings (take r.at events) r.lines events
+  pub calls : r.calls ≡ length (filter is_call (drop r.at events))
+
+-- whether the record holds as much as a record holds
+abbrev pub is_record_full : Recording → Bool
+is_record_full r = nat_le record_end r.calls
+
+-- the first rule that refuses an item after these events, or none; that the record is full comes last
+abbrev pub record_refusal : Recording → List Event → Item → Option PublishFault
+record_refusal r events item = first_refusal (refusal_after r.room.settings events item) (full_by (is_record_full r))
+
+-- a request as one of this channel, whatever name of a channel it bears
+abbrev pub of_channel : Configuration → WantValue → WantValue
+of_channel c want = record want { channel = c.channel }
+
+-- the record goes on: its channel is the same, and so are the events before it
+pub record GoesOn (old new : Recording) : Type 0 where
+  pub same : IsSame old.room new.room
+  pub at : new.at ≡ old.at

@@ -1,0 +1,149 @@
+//! Items, requests and readings, each with its line.
+ghost use Rattle.std.specs.Prelude.{◌≡◌, ◌≢◌, ◌+◌, ◌<◌, ◌≤◌, ◌^◌, ◌++◌, ◌∷◌, [], List, IfErr, IfOk, IsErrOf, None, OnErr, OnOk, Some, true, false, ◌||◌};
+ghost use Rattle.ll_item.specs.Items.{rendition_of};
+ghost use Rattle.ll_record.specs.Recording.{GoesOn, IsRecorded, is_record_full, of_channel, record_refusal};
+ghost use Rattle.ll_room.specs.Answers.{asked, new_tickets, others};
+ghost use Rattle.ll_room.specs.Full.{event_end, is_full};
+ghost use Rattle.ll_room.specs.Home.{tickets};
+ghost use Rattle.ll_room.specs.declared.stamped.Stamp.TheVariants as stamp;
+ghost use Rattle.ll_verdict.specs.Events.{Event, Ask, Clock, Publish};
+ghost use Rattle.ll_verdict.specs.Verdict.{at_once, held};
+
+use crate::fault::ReadingFault;
+use crate::recorder::{RECORD_END, Recorder};
+use ll_directive::Want;
+use ll_entry::{ask_line, clock_line, publish_line};
+use ll_item::Item;
+use ll_room::{AskFault, Asked, LAST_TIME, Stamped};
+use ll_verdict::PublishFault;
+
+impl Recorder {
+    /// Accepts an item, as [`ll_room::Room::publish`] does, or answers the first rule that refuses it; that the record is full comes
+    /// after the others.
+    pub fn publish(&mut self, item: Item) -> Result<Stamped<u64>, PublishFault>
+        ensures accepted { (events : List Event) → IsRecorded self.old events → OnOk result
+            ((record_refusal self.old events item ≡ None) × IsRecorded self.new (events ++ Publish item ∷ [])) }
+        ensures count { IfOk result (λ n. n ≡ record { room = self.old.room.channel; stamp = stamp.Publish item; value = self.old.room.count + 1 }) }
+        ensures refused { (events : List Event) → IsRecorded self.old events
+            → IfErr result (λ f. f ≢ PublishFault.Memory → record_refusal self.old events item ≡ Some f) }
+        ensures memory { (events : List Event) → IsRecorded self.old events
+            → IsErrOf result PublishFault.Memory → record_refusal self.old events item ≡ None }
+        ensures still_open { tickets self.new.room ≡ tickets self.old.room }
+        ensures goes_on { GoesOn self.old self.new }
+        ensures unchanged { OnErr result (self.new ≡ self.old) }
+    {
+        let Recorder {
+            alloc,
+            room,
+            lines,
+            at: _,
+            calls,
+        } = self;
+        if let Err(fault) = room.test(&item) {
+            return Err(fault);
+        }
+        if *calls >= RECORD_END {
+            return Err(PublishFault::RecordFull);
+        }
+        room.settings().within_limits();
+        let Ok(line) = publish_line(*alloc, room.settings(), &item) else {
+            return Err(PublishFault::Memory);
+        };
+        let line = line.as_str();
+        let Ok(()) = lines.reserve(line.len(), room.open_requests()) else {
+            return Err(PublishFault::Memory);
+        };
+        match room.accept(item) {
+            Ok(count) => {
+                lines.put(line);
+                *calls += 1;
+                Ok(count)
+            }
+            Err(_) => Err(PublishFault::Memory),
+        }
+    }
+
+    /// Makes a request, as [`ll_room::Room::ask`] does.
+    pub fn ask(&mut self, want: Want) -> Result<Asked, AskFault>
+        ensures answer { (events : List Event) → IsRecorded self.old events
+            → IfOk result (λ a. a ≡ asked self.old.room want (at_once self.old.room.settings (held self.old.room.settings events) events want)) }
+        ensures asked { (events : List Event) → IsRecorded self.old events
+            → OnOk result (IsRecorded self.new (events ++ Ask (of_channel self.old.room.settings want) ∷ [])) }
+        ensures within { OnOk result ((is_record_full self.old || is_full self.old.room.events) ≡ false) }
+        ensures full { IsErrOf result AskFault.RecordFull → (is_record_full self.old || is_full self.old.room.events) ≡ true }
+        ensures memory { IsErrOf result AskFault.Memory → (is_record_full self.old || is_full self.old.room.events) ≡ false }
+        ensures opened { IfOk result (λ a. tickets self.new.room ≡ tickets self.old.room ++ new_tickets a) }
+        ensures newest { IfOk result (λ a. others a (tickets self.new.room) ≡ tickets self.old.room) }
+        ensures goes_on { GoesOn self.old self.new }
+        ensures unchanged { OnErr result (self.new ≡ self.old) }
+    {
+        let Recorder {
+            alloc,
+            room,
+            lines,
+            at: _,
+            calls,
+        } = self;
+        if *calls >= RECORD_END || room.is_full() {
+            return Err(AskFault::RecordFull);
+        }
+        room.settings().within_limits();
+        let outcome = room.outcome(&want);
+        let Ok(line) = ask_line(*alloc, room.asks() + 1, &want, outcome) else {
+            return Err(AskFault::Memory);
+        };
+        let line = line.as_str();
+        let Ok(()) = lines.reserve(line.len(), room.open_requests() + 1) else {
+            return Err(AskFault::Memory);
+        };
+        match room.ask(want) {
+            Ok(asked) => {
+                lines.put(line);
+                *calls += 1;
+                Ok(asked)
+            }
+            Err(fault) => Err(fault),
+        }
+    }
+
+    /// A reading of the clock, in milliseconds, as [`ll_room::Room::clock`] takes it.
+    pub fn clock(&mut self, ms: u64) -> Result<(), ReadingFault>
+        ensures passed { (events : List Event) → IsRecorded self.old events → OnOk result (IsRecorded self.new (events ++ Clock ms ∷ [])) }
+        ensures within { OnOk result ((ms ≤ 2 ^ 60) × ((is_record_full self.old || is_full self.old.room.events) ≡ false)) }
+        ensures range { IsErrOf result ReadingFault.ClockRange → 2 ^ 60 < ms }
+        ensures full { IsErrOf result ReadingFault.RecordFull
+            → (ms ≤ 2 ^ 60) × ((is_record_full self.old || is_full self.old.room.events) ≡ true) }
+        ensures memory { IsErrOf result ReadingFault.Memory
+            → (ms ≤ 2 ^ 60) × ((is_record_full self.old || is_full self.old.room.events) ≡ false) }
+        ensures still_open { tickets self.new.room ≡ tickets self.old.room }
+        ensures goes_on { GoesOn self.old self.new }
+        ensures unchanged { OnErr result (self.new ≡ self.old) }
+    {
+        let Recorder {
+            alloc: _,
+            room,
+            lines,
+            at: _,
+            calls,
+        } = self;
+        if ms > LAST_TIME {
+            return Err(ReadingFault::ClockRange);
+        }
+        if *calls >= RECORD_END || room.is_full() {
+            return Err(ReadingFault::RecordFull);
+        }
+        room.settings().within_limits();
+        let line = clock_line(ms);
+        let Ok(()) = lines.reserve(line.len(), room.open_requests()) else {
+            return Err(ReadingFault::Memory);
+        };
+        match room.clock(ms) {
+            Ok(()) => {
+                lines.put(line.as_str());
+                *calls += 1;
+                Ok(())
+            }
+            Err(_) => unreachable!(),
+        }
+    }
+}

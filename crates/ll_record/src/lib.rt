@@ -1,0 +1,14 @@
+//! A channel whose events are recorded: each accepted item, request and reading, each reply that is handed out and each request that
+//! is given up has a line, and these lines are handed out in chunks, which a check finds right on any machine.
+#![tactic(auto)]
+
+mod calls;
+mod chunk;
+mod fault;
+mod lines;
+mod recorder;
+mod settle;
+
+pub use chunk::Chunk;
+pub use fault::ReadingFault;
+pub use recorder::Recorder;

@@ -1,0 +1,77 @@
+//! The lines of a record, in memory that is found before an event and not after it.
+ghost use Rattle.std.specs.Prelude.{◌≡◌, ◌≤◌, ◌+◌, ◌*◌, ◌++◌, [], OnOk, length, true};
+ghost use Rattle.std.specs.Str.{is_utf8};
+ghost use Rattle.ll_record.specs.Kept.{spare};
+ghost use Rattle.ll_record_laws.specs.Leads.{ended};
+
+use std::alloc::{AllocError, Global};
+use std::marker::Model;
+
+/// How many bytes are kept, for each open request, for the line that hands its reply out or gives it up, with its end.
+const SPARE: usize = 64;
+
+/// Lines, each with its end.
+#[derive(Drop)]
+pub(crate) struct Lines {
+    text: Vec<u8>,
+}
+
+impl Model for Lines {
+    ghost use Rattle.std.specs.Prelude.{◌-◌, vec_capacity, vec_len};
+    ghost use Rattle.ll_record.specs.Kept.{Buffer};
+
+    ghost Value = { Buffer };
+
+    ghost view = { λ l. record { lines = l.text.items; free = vec_capacity l.text - vec_len l.text } };
+}
+
+impl Lines {
+    /// No lines, and no memory.
+    pub(crate) fn new(alloc: Global) -> Lines
+        ensures { result.lines ≡ [] }
+    {
+        Lines {
+            text: Vec::new(alloc),
+        }
+    }
+
+    /// Finds memory for a line of so many bytes with its end, and for the last line of each of so many open requests.
+    pub(crate) fn reserve(&mut self, line: usize, requests: usize) -> Result<(), AllocError>
+        ensures free { OnOk result (line + 1 + spare * requests ≤ self.new.free) }
+        ensures no_less { self.old.free ≤ self.new.free }
+        ensures lines { self.new.lines ≡ self.old.lines }
+    {
+        let kept = SPARE.checked_mul(requests).ok_or(AllocError)?;
+        let bytes = kept.checked_add(line).ok_or(AllocError)?;
+        self.text.reserve(bytes.checked_add(1).ok_or(AllocError)?)
+    }
+
+    /// Adds a line and its end, in memory that is there.
+    #[tactic(auto, using(crate::proofs::Texts::is_text))]
+    pub(crate) fn put(&mut self, line: &str)
+        requires { length line.now + 1 ≤ self.old.free }
+        ensures lines { self.new.lines ≡ self.old.lines ++ ended line.now }
+        ensures text { is_utf8 line.now ≡ true }
+        ensures free { self.old.free ≤ self.new.free + (length line.now + 1) }
+    {
+        if self.text.extend_from_slice(line.as_bytes()).is_err() {
+            unreachable!();
+        }
+        self.text.push_reserved(b'\n');
+    }
+
+    /// The lines.
+    pub(crate) fn text(&self) -> &[u8]
+        ensures { result.now ≡ self.now.lines }
+    {
+        &self.text
+    }
+
+    /// Forgets the lines; their memory is kept for others.
+    pub(crate) fn clear(&mut self)
+        ensures lines { self.new.lines ≡ [] }
+        ensures no_less { self.old.free ≤ self.new.free }
+    {
+        self.text.clear();
+    }
+}
