@@ -4,18 +4,17 @@ use Rattle.ll_directive.specs.Targets.{WantValue}
 use Rattle.ll_item.specs.Settings.{Configuration}
 use Rattle.ll_item.specs.declared.item.Item.{Item}
 use Rattle.ll_room.specs.Mark.{Mark}
-use Rattle.ll_room.specs.declared.fault.AskFault.TheVariants as ask
-use Rattle.ll_room.specs.declared.fault.ClockFault.TheVariants as clock
 use Rattle.ll_room.specs.declared.stamped.Stamp.TheVariants as stamp
 use Rattle.ll_verdict.specs.declared.fault.PublishFault.{PublishFault}
 use Rattle.ll_verdict.specs.declared.fault.PublishFault.TheVariants as refused
 use Rattle.ll_verdict.specs.declared.reply.Reply.{Reply}
 use Rattle.ll_hub.specs.Claim.{ClaimValue}
 use Rattle.ll_hub.specs.Passes.{noted, noted_reply}
-use Rattle.ll_hub.specs.Told.{IsAccepted, IsAnswered, IsDecided, IsHeld, IsRefused}
-use Rattle.ll_hub.specs.declared.fault.HubFault.{HubFault}
-use Rattle.ll_hub.specs.declared.fault.HubFault.TheVariants.{UnknownChannel, WentBack, Room, Stranger, Memory}
-use Rattle.ll_hub.specs.declared.fault.RoomFault.TheVariants as room
+use Rattle.ll_locked.specs.Told.{IsAccepted, IsAnswered, IsDecided, IsHandedOut, IsHeld, IsRefused}
+use Rattle.ll_record.specs.Chunk.{ChunkValue}
+use Rattle.ll_locked.specs.declared.fault.HubFault.{HubFault}
+use Rattle.ll_locked.specs.declared.fault.HubFault.TheVariants.{UnknownChannel, WentBack, Room, Stranger, Short, Memory}
+use Rattle.ll_locked.specs.declared.fault.RoomFault.TheVariants as room
 use Rattle.ll_hub.specs.declared.hub.HubAsked.{HubAsked}
 use Rattle.ll_hub.specs.declared.hub.HubAsked.TheVariants.{Now, Held}
 
@@ -29,6 +28,13 @@ abbrev pub IsUnreached : List Configuration → ℕ → Option ℕ → HubFault 
 IsUnreached hub place seen UnknownChannel = slice_get hub place ≡ None
 IsUnreached hub place seen Stranger = (seen ≡ None) × (settings : Configuration) × (slice_get hub place ≡ Some settings)
 IsUnreached hub place seen other = ⊥
+
+-- ---- seat
+
+abbrev pub IsSeatFault : HubFault → Type 0
+IsSeatFault Short = ⊤
+IsSeatFault Memory = ⊤
+IsSeatFault other = ⊥
 
 -- ---- publish
 
@@ -49,12 +55,19 @@ pub record IsItemRefused (hub : List Configuration) (place : ℕ) (item : Item) 
   pub known : IsKnown hub before place settings seen
   pub refused : fault ≢ refused.Memory → IsRefused settings item seen fault
 
+-- as much was counted as is counted, before the room of the channel at this place was asked
+pub record IsCountedOut (hub : List Configuration) (place : ℕ) (before : List ℕ) : Type 0 where
+  pub settings : Configuration
+  pub seen : ℕ
+  pub known : IsKnown hub before place settings seen
+
 -- what every call may be refused for before its room is asked
 abbrev pub IsUnmet : List Configuration → List ℕ → ℕ → HubFault → Type 0
 IsUnmet hub before place UnknownChannel = slice_get hub place ≡ None
 IsUnmet hub before place (WentBack seen found) = (slice_get before place ≡ Some seen) × (found < seen)
 IsUnmet hub before place (Room other fault) = ⊥
 IsUnmet hub before place Stranger = (settings : Configuration) × (slice_get hub place ≡ Some settings)
+IsUnmet hub before place Short = IsCountedOut hub place before
 IsUnmet hub before place Memory = ⊥
 
 abbrev pub IsPublishFault : List Configuration → ℕ → Item → List ℕ → HubFault → Type 0
@@ -115,3 +128,26 @@ IsWaitFault hub place other = ⊥
 abbrev pub IsTickFault : List Configuration → HubFault → Type 0
 IsTickFault hub (Room place (room.Clock fault)) = place < length hub
 IsTickFault hub other = ⊥
+
+-- ---- rotate
+
+-- the record of the channel at this place is handed out
+pub record IsRotated (hub : List Configuration) (place : ℕ) (chunk : ChunkValue) : Type 0 where
+  pub settings : Configuration
+  pub channel : slice_get hub place ≡ Some settings
+  pub handed_out : IsHandedOut settings chunk
+
+-- why a record is not handed out
+abbrev pub IsRotateFault : List Configuration → ℕ → HubFault → Type 0
+IsRotateFault hub place UnknownChannel = slice_get hub place ≡ None
+IsRotateFault hub place Stranger = (settings : Configuration) × (slice_get hub place ≡ Some settings)
+IsRotateFault hub place Memory = (settings : Configuration) × (slice_get hub place ≡ Some settings)
+IsRotateFault hub place other = ⊥
+
+-- ---- finish
+
+-- where the passes that were given didn't all come back, there are fewer than a hub gives
+abbrev pub IsFinishFault : ℕ → HubFault → Type 0
+IsFinishFault passes Short = passes < 65536
+IsFinishFault passes Memory = ⊤
+IsFinishFault passes other = ⊥

@@ -1,7 +1,19 @@
--- What a caller has seen: of each channel, how many items it has accepted at least.
-use Rattle.std.specs.Prelude.{ℕ, List, Option, Some, None, max, slice_get, slice_set}
+-- What a caller has seen and counted.
+use Rattle.std.specs.Prelude.{ℕ, List, Option, Some, None, max, replicate, slice_get, slice_set}
 use Rattle.ll_verdict.specs.declared.reply.Reply.{Reply}
 use Rattle.ll_verdict.specs.declared.reply.Reply.TheVariants.{Text, NotFound, TooFar, Busy, Timeout}
+
+pub record PassValue : Type 0 where
+  -- of each channel, how many items it has accepted at least
+  pub seen : List ℕ
+  -- how many items the caller has published that were accepted
+  pub publishes : ℕ
+  -- how many requests the caller has made
+  pub asks : ℕ
+
+-- one that has seen and counted nothing, of so many channels
+abbrev pub new_pass : ℕ → PassValue
+new_pass channels = record { seen = replicate channels 0; publishes = 0; asks = 0 }
 
 abbrev pub noted_by : Option ℕ → List ℕ → ℕ → ℕ → List ℕ
 noted_by None seen channel count = seen

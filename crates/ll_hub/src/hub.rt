@@ -1,24 +1,24 @@
-//! The hub: a lock for each channel.
-ghost use Rattle.std.specs.Prelude.{◌≡◌, ◌≤◌, ◌++◌, ◌∷◌, [], None, Some, IfErr, IfOk, MatchOption, OnErr, OnOk, false, length, replicate, slice_get, vec_len};
+//! The hub: a lock for each channel, and the totals of what its callers count.
+ghost use Rattle.std.specs.Prelude.{◌≡◌, ◌+◌, ◌≤◌, None, Some, IfErr, IfOk, MatchOption, OnErr, OnOk, false, length, map, slice_get, sum};
 ghost use Rattle.ll_channels.specs.Channels.{channel_of_name};
 ghost use Rattle.ll_hub.specs.Calls as calls;
-ghost use Rattle.ll_hub.specs.Told.{IsDecided};
-ghost use Rattle.ll_room.specs.declared.stamped.Stamp.TheVariants as stamp;
+ghost use Rattle.ll_hub.specs.Passes.{new_pass};
 
-use crate::channel::{Answer, Channel, Known, Tried};
 use crate::claim::Claim;
-use crate::clock::Clock;
-use crate::fault::{HubFault, RoomFault};
 use crate::pass::Pass;
+use crate::sink::Sink;
+use crate::slots::Slots;
 use crate::totals::Totals;
-use ll_channels::Declared;
 use ll_directive::Want;
 use ll_item::{Item, Settings};
-use ll_room::{ClockFault, Stamped};
-use ll_verdict::{Entry, Reply};
+use ll_ledger::{Asks, Blanks, Ledgers, Opened, PassCounts, Publishes, Seats};
+use ll_locked::{Answer, Clock, HubFault, RoomFault};
+use ll_record::Chunk;
+use ll_room::Stamped;
+use ll_verdict::Reply;
 use std::alloc::{AllocError, Global};
 use std::marker::Model;
-use std::sync::{Condvar, Mutex, MutexGuard, Wait};
+use std::sync::{Mutex, Wait};
 
 /// What a request gets when it is made.
 pub enum HubAsked {
@@ -28,82 +28,74 @@ pub enum HubAsked {
     Held(Claim),
 }
 
-/// One channel's lock, and what wakes those who wait for replies.
-struct Slot {
-    state: Mutex<Channel>,
-    changed: Condvar,
+/// Channels under a lock each: a call on one channel waits for one on another no longer than it takes to count. It must be spent by
+/// [`Hub::finish`].
+///
+/// Each accepted item and each request is counted twice: by its channel, and by the pass that it was made with. So the totals of the
+/// channels are at the end those of the passes.
+pub struct Hub<L: Ledgers> {
+    slots: Slots<L>,
+    seats: Mutex<Seats<L>>,
+    publishes: Mutex<Publishes<L>>,
+    asks: Mutex<Asks<L>>,
 }
 
-/// Channels under a lock each: a call on one channel never waits for one on another. It must be spent by [`Hub::finish`].
-pub struct Hub {
-    alloc: Global,
-    declared: Declared,
-    slots: Vec<Slot>,
-}
-
-impl Model for Hub {
-    ghost use Rattle.std.specs.Prelude.{◌≡◌, List, length, vec_len};
+impl<L: Ledgers> Model for Hub<L> {
+    ghost use Rattle.std.specs.Prelude.{◌≡◌, List, length};
     ghost use Rattle.ll_item.specs.Settings.{Configuration};
 
     ghost Value = { List Configuration };
 
-    ghost view = { λ h. h.declared };
+    ghost view = { λ h. h.slots };
 
-    ghost invariant = { λ h. vec_len h.slots ≡ length h.declared };
+    ghost invariant = { λ h. length h.slots ≡ L.channels };
 }
 
 /// Only one without channels may be let go: a leak is a failed proof.
-impl Drop for Hub {
+impl<L: Ledgers> Drop for Hub<L> {
     ghost use Rattle.std.specs.Prelude.{◌≡◌, []};
 
     fn drop(self)
         requires { self ≡ [] }
     {
         let Hub {
-            alloc: _,
-            declared: _declared,
-            slots,
+            slots: _slots,
+            seats: _seats,
+            publishes: _publishes,
+            asks: _asks,
         } = self;
-        slots.destroy_empty();
     }
 }
 
-impl Hub {
+impl<L: Ledgers> Hub<L> {
     /// A hub of these channels, to which nothing has happened. They have distinct names, so that each is found by its own. It fails
     /// only where no memory is found.
-    pub fn new(alloc: Global, channels: Vec<Settings>) -> Result<Hub, AllocError>
+    pub fn new(alloc: Global, channels: Vec<Settings>, blanks: Blanks) -> Result<Hub<L>, AllocError>
         requires some { 1 ≤ length channels.items }
         requires most { length channels.items ≤ 1024 }
+        requires names { blanks ≡ L.names }
+        requires channels { L.channels ≡ length channels.items }
         ensures { IfOk result (λ h. h ≡ channels.items) }
     {
-        let mut hub = Hub {
-            alloc,
-            declared: Declared::new(alloc),
-            slots: Vec::new(alloc),
-        };
+        let Opened {
+            channels: mut rest,
+            passes,
+            publishes,
+            asks,
+        } = blanks.open::<L>();
+        let mut slots = Slots::new(alloc);
         for settings in channels {
-            if hub.add(settings).is_err() {
-                hub.end();
+            if slots.add(settings, rest.give()).is_err() {
+                slots.end();
                 return Err(AllocError);
             }
         }
-        Ok(hub)
-    }
-
-    /// Adds a channel after the others.
-    fn add(&mut self, settings: Settings) -> Result<(), AllocError>
-        ensures added { OnOk result (self.new ≡ self.old ++ settings ∷ []) }
-        ensures unchanged { OnErr result (self.new ≡ self.old) }
-    {
-        let own = settings.copy(self.alloc)?;
-        self.slots.reserve(1)?;
-        let channel = Channel::new(self.alloc, self.slots.len(), own)?;
-        if self.declared.declare(self.alloc, settings).is_err() {
-            channel.finish();
-            return Err(AllocError);
-        }
-        self.slots.push_reserved(Slot::new(channel));
-        Ok(())
+        Ok(Hub {
+            slots,
+            seats: Mutex::new(Seats::new(rest, passes)),
+            publishes: Mutex::new(publishes),
+            asks: Mutex::new(asks),
+        })
     }
 
     /// The channel of this name, and its settings.
@@ -111,77 +103,80 @@ impl Hub {
         ensures { MatchOption result (channel_of_name self.now 0 name.now ≡ None)
             (λ f. channel_of_name self.now 0 name.now ≡ Some (f.0, f.1.now)) }
     {
-        self.declared.find(name)
+        self.slots.find(name)
     }
 
-    /// A pass for one caller, who has seen nothing yet. It fails only where no memory is found.
-    pub fn seat(&self) -> Result<Pass, AllocError>
-        ensures { IfOk result (λ p. p ≡ replicate (length self.now) 0) }
+    /// A pass for one caller, who has seen nothing yet. It may be dropped; but [`Hub::finish`] tells totals only where it gets back
+    /// every pass that was given.
+    ///
+    /// 1. No memory is found: Memory.
+    /// 2. 65,536 passes were given: Short.
+    pub fn seat<R: Wait>(&self, rt: &R) -> Result<Pass<L>, HubFault>
+        ensures seated { IfOk result (λ p. p ≡ new_pass (length self.now)) }
+        ensures refused { IfErr result (λ f. calls.IsSeatFault f) }
     {
-        Ok(Pass::new(vec![in self.alloc; 0; self.slots.len()]?))
+        let Ok(seen) = vec![in self.slots.alloc(); 0; self.slots.len()] else {
+            return Err(HubFault::Memory);
+        };
+        match self.seats.lock(rt).take() {
+            Some(counts) => Ok(Pass::new(seen, counts)),
+            None => Err(HubFault::Short),
+        }
     }
 
-    /// The channel at this place as the caller knows it, with its lock.
-    fn reach(&self, channel: usize, seen: Option<u64>) -> Result<(&Slot, Known<'_>), HubFault>
-        ensures known { IfOk result (λ k. (k.1.place ≡ channel) × (slice_get self.now channel ≡ Some k.1.settings.now) × (seen ≡ Some k.1.seen)) }
-        ensures unknown { IfErr result (λ f. calls.IsUnreached self.now channel seen f) }
-    {
-        let (Some(slot), Some(settings)) = (self.slots.get(channel), self.declared.get(channel))
-        else {
-            return Err(HubFault::UnknownChannel);
-        };
-        let Some(seen) = seen else {
-            return Err(HubFault::Stranger);
-        };
-        Ok((
-            slot,
-            Known {
-                place: channel,
-                settings,
-                seen,
-            },
-        ))
-    }
-
-    /// Publishes an item in the channel at this place, and answers how many the channel has accepted with it.
+    /// Publishes an item in the channel at this place, and answers how many the channel has accepted with it. The pass counts it. The
+    /// first of these that applies refuses it.
+    ///
+    /// 1. There is no channel at that place: UnknownChannel.
+    /// 2. The pass is another hub's: Stranger, or WentBack.
+    /// 3. 2^60 publishes of the hub's channels were counted: Short.
+    /// 4. The channel's room refuses the item.
     pub fn publish<R: Wait>(
         &self,
         rt: &R,
-        pass: &mut Pass,
+        pass: &mut Pass<L>,
         channel: usize,
         item: Item,
     ) -> Result<Stamped<u64>, HubFault>
-        ensures published { IfOk result (λ n. calls.IsPublished self.now channel item pass.old pass.new n) }
-        ensures refused { IfErr result (λ f. calls.IsPublishFault self.now channel item pass.old f) }
+        ensures published { IfOk result (λ n. calls.IsPublished self.now channel item pass.old.seen pass.new.seen n) }
+        ensures counted { OnOk result ((pass.new.publishes ≡ pass.old.publishes + 1) × (pass.new.asks ≡ pass.old.asks)) }
+        ensures refused { IfErr result (λ f. calls.IsPublishFault self.now channel item pass.old.seen f) }
         ensures unchanged { OnErr result (pass.new ≡ pass.old) }
     {
-        let (slot, known) = self.reach(channel, pass.seen(channel))?;
-        let mut state = slot.state.lock(rt);
+        let (slot, known) = self.slots.reach(channel, pass.seen(channel))?;
+        let mut state = slot.lock(rt);
         let ready = state.ready();
-        let count = state.publish(known, item)?;
+        let count = state.publish(rt, known, item, &self.publishes, &mut pass.counts)?;
         slot.leave(state, ready);
         pass.note(channel, *count.get());
         Ok(count)
     }
 
     /// Makes a request of the channel at this place, after a reading of the clock that is made while the channel is locked. Its reply
-    /// comes at once, or it is held.
+    /// comes at once, or it is held. The pass counts it. The first of these that applies refuses it.
+    ///
+    /// 1. There is no channel at that place: UnknownChannel.
+    /// 2. The pass is another hub's: Stranger, or WentBack.
+    /// 3. 2^60 requests of the hub's channels were counted: Short.
+    /// 4. No memory is found: Memory.
+    /// 5. The channel's room refuses the reading of the clock, or the request.
     pub fn ask<C: Clock, R: Wait>(
         &self,
         rt: &R,
         clock: &C,
-        pass: &mut Pass,
+        pass: &mut Pass<L>,
         channel: usize,
         want: Want,
     ) -> Result<HubAsked, HubFault>
-        ensures asked { IfOk result (λ a. calls.IsAskedOf self.now channel want pass.old pass.new a) }
-        ensures refused { IfErr result (λ f. calls.IsAskFault self.now channel pass.old f) }
+        ensures asked { IfOk result (λ a. calls.IsAskedOf self.now channel want pass.old.seen pass.new.seen a) }
+        ensures counted { OnOk result ((pass.new.publishes ≡ pass.old.publishes) × (pass.new.asks ≡ pass.old.asks + 1)) }
+        ensures refused { IfErr result (λ f. calls.IsAskFault self.now channel pass.old.seen f) }
         ensures unchanged { OnErr result (pass.new ≡ pass.old) }
     {
-        let (slot, known) = self.reach(channel, pass.seen(channel))?;
-        let mut state = slot.state.lock(rt);
+        let (slot, known) = self.slots.reach(channel, pass.seen(channel))?;
+        let mut state = slot.lock(rt);
         let ready = state.ready();
-        let answer = state.ask(known, clock, want);
+        let answer = state.ask(rt, known, clock, want, &self.asks, &mut pass.counts);
         slot.leave(state, ready);
         match answer? {
             Answer::Now(reply) => {
@@ -196,16 +191,17 @@ impl Hub {
     pub fn wait<R: Wait>(
         &self,
         rt: &R,
-        pass: &mut Pass,
+        pass: &mut Pass<L>,
         claim: Claim,
     ) -> Result<Stamped<Reply>, HubFault>
-        ensures replied { IfOk result (λ r. calls.IsReplied self.now claim pass.old pass.new r) }
+        ensures replied { IfOk result (λ r. calls.IsReplied self.now claim pass.old.seen pass.new.seen r) }
+        ensures counts { (pass.new.publishes ≡ pass.old.publishes) × (pass.new.asks ≡ pass.old.asks) }
         ensures refused { IfErr result (λ f. calls.IsWaitFault self.now claim.channel f) }
         ensures unchanged { OnErr result (pass.new ≡ pass.old) }
     {
         let channel = claim.channel();
         let entry = claim.spend();
-        let (slot, known) = self.reach(channel, Some(0))?;
+        let (slot, known) = self.slots.reach(channel, Some(0))?;
         let reply = slot.wait(rt, known, entry)?;
         pass.note_reply(channel, reply.get());
         Ok(reply)
@@ -217,8 +213,8 @@ impl Hub {
     {
         let channel = claim.channel();
         let entry = claim.spend();
-        match self.reach(channel, Some(0)) {
-            Ok((slot, known)) => slot.state.lock(rt).close(known, entry),
+        match self.slots.reach(channel, Some(0)) {
+            Ok((slot, known)) => slot.lock(rt).close(known, entry),
             Err(_) => false,
         }
     }
@@ -228,7 +224,7 @@ impl Hub {
         ensures { IfErr result (λ f. calls.IsTickFault self.now f) }
     {
         for channel in 0..self.slots.len() {
-            if let Err(fault) = self.slots[channel].tick(rt, ms) {
+            if let Err(fault) = self.slots.tick(rt, channel, ms) {
                 return Err(HubFault::Room {
                     channel,
                     fault: RoomFault::Clock(fault),
@@ -238,92 +234,99 @@ impl Hub {
         Ok(())
     }
 
-    /// Closes what is held, and spends the hub. It fails only where no memory is found, and is spent then too.
-    pub fn finish(self) -> Result<Totals, AllocError>
-        ensures { IfOk result (λ t. length t.channels.items ≡ length self) }
+    /// Hands out the record of the channel at this place, and begins another. No reply changes by it. The first of these that applies
+    /// refuses it.
+    ///
+    /// 1. There is no channel at that place: UnknownChannel.
+    /// 2. No memory is found: Memory.
+    pub fn rotate<R: Wait>(&self, rt: &R, channel: usize) -> Result<Chunk, HubFault>
+        ensures handed_out { IfOk result (λ k. calls.IsRotated self.now channel k) }
+        ensures refused { IfErr result (λ f. calls.IsRotateFault self.now channel f) }
     {
+        let (slot, known) = self.slots.reach(channel, Some(0))?;
+        slot.lock(rt).rotate(known)
+    }
+
+    /// Hands the record of the channel at this place to a sink, as [`Hub::rotate`] hands it out. The channel stays locked until the sink
+    /// has taken it.
+    pub fn rotate_to<K: Sink, R: Wait>(
+        &self,
+        rt: &R,
+        channel: usize,
+        sink: &K,
+    ) -> Result<(), HubFault>
+        ensures { IfErr result (λ f. calls.IsRotateFault self.now channel f) }
+    {
+        let (slot, known) = self.slots.reach(channel, Some(0))?;
+        let mut state = slot.lock(rt);
+        let chunk = state.rotate(known)?;
+        sink.take(channel, chunk);
+        drop(state);
+        Ok(())
+    }
+
+    /// Closes what is held, and spends the hub and the passes. The channels have accepted as many items, and were asked as often, as
+    /// the passes have counted. Where it fails, hub and passes are spent too.
+    ///
+    /// 1. No memory is found: Memory.
+    /// 2. Fewer passes come back than were given; there are never more: Short.
+    pub fn finish(self, passes: Vec<Pass<L>>) -> Result<Totals, HubFault>
+        ensures each { IfOk result (λ t. length t.channels.items ≡ length self) }
+        ensures publishes { IfOk result (λ t. sum (map (λ c. c.publishes) t.channels.items) ≡ sum (map (λ p. p.publishes) passes.items)) }
+        ensures asks { IfOk result (λ t. sum (map (λ c. c.asks) t.channels.items) ≡ sum (map (λ p. p.asks) passes.items)) }
+        ensures refused { IfErr result (λ f. calls.IsFinishFault (length passes.items) f) }
+    {
+        let Ok(mut channels) = Vec::with_capacity(self.slots.alloc(), self.slots.len()) else {
+            self.end();
+            return Err(HubFault::Memory);
+        };
         let Hub {
-            alloc,
-            declared: _declared,
             slots,
+            seats,
+            publishes,
+            asks,
         } = self;
-        end_all(alloc, slots)
+        let Seats {
+            channels: mut all,
+            passes: rest,
+            given,
+        } = seats.into_inner();
+        slots.finish(&mut channels, &mut all);
+        let returned = passes.len() as u64;
+        let mut both = gather(rest, passes);
+        if returned != given {
+            return Err(HubFault::Short);
+        }
+        publishes
+            .into_inner()
+            .compare(&mut all.publishes, &mut both.publishes);
+        asks.into_inner().compare(&mut all.asks, &mut both.asks);
+        Ok(Totals { channels })
     }
 
     /// Closes what is held, and spends the hub.
     fn end(self) {
-        let _ = self.finish();
+        let Hub {
+            slots,
+            seats: _seats,
+            publishes: _publishes,
+            asks: _asks,
+        } = self;
+        slots.end();
     }
 }
 
-impl Slot {
-    fn new(channel: Channel) -> Slot {
-        Slot {
-            state: Mutex::new(channel),
-            changed: Condvar::new(),
-        }
-    }
-
-    /// Lets the lock go, and wakes those who wait where more replies are there than before.
-    fn leave(&self, state: MutexGuard<'_, Channel>, ready: usize) {
-        let wakes = ready < state.ready();
-        drop(state);
-        if wakes {
-            self.changed.notify_all();
-        }
-    }
-
-    /// Tells the channel what the clock shows, in milliseconds.
-    fn tick<R: Wait>(&self, rt: &R, ms: u64) -> Result<(), ClockFault> {
-        let mut state = self.state.lock(rt);
-        let ready = state.ready();
-        let told = state.tick(ms);
-        self.leave(state, ready);
-        told
-    }
-
-    /// Waits until the reply of a held request is there.
-    fn wait<R: Wait>(
-        &self,
-        rt: &R,
-        known: Known<'_>,
-        entry: Entry,
-    ) -> Result<Stamped<Reply>, HubFault>
-        ensures replied { IfOk result (λ r. (r.room ≡ known.entry.place) × (r.stamp ≡ stamp.Collect entry.ticket)) }
-        ensures decided { IfOk result (λ r. IsDecided known.entry.settings.now entry r.value) }
-        ensures stranger { IfErr result (λ f. f ≡ HubFault.Stranger) }
-    {
-        let mut state = self.state.lock(rt);
-        for _ in rt.forever() {
-            match state.collect(known, entry) {
-                Tried::Got(reply) => return Ok(reply),
-                Tried::Stranger => return Err(HubFault::Stranger),
-                Tried::Still => {}
-            }
-            state = self.changed.wait(rt, state);
-        }
-        unreachable!()
-    }
-}
-
-/// What each channel has come to. What is held is closed.
-fn end_all(alloc: Global, slots: Vec<Slot>) -> Result<Totals, AllocError>
-    ensures { IfOk result (λ t. length t.channels.items ≡ vec_len slots) }
+/// The shares of all these passes, with the rest.
+fn gather<L: Ledgers>(rest: PassCounts<L>, passes: Vec<Pass<L>>) -> PassCounts<L>
+    requires { rest.parts ≤ 65537 }
+    ensures parts { result.parts ≡ rest.parts + length passes.items }
+    ensures most { result.parts ≤ 65537 }
+    ensures publishes { result.publishes ≡ rest.publishes + sum (map (λ p. p.publishes) passes.items) }
+    ensures asks { result.asks ≡ rest.asks + sum (map (λ p. p.asks) passes.items) }
 {
-    let mut left = slots;
-    let mut channels = Vec::new(alloc);
-    let mut all = true;
-    left.reverse();
-    while let Some(slot) = left.pop() {
-        let Slot { state, changed: _ } = slot;
-        if channels.push(state.into_inner().finish()).is_err() {
-            all = false;
-        }
+    let mut all = rest;
+    for pass in passes {
+        all.merge(pass.into_counts());
     }
-    left.destroy_empty();
-    if all {
-        Ok(Totals { channels })
-    } else {
-        Err(AllocError)
-    }
+    all
 }

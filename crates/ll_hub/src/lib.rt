@@ -1,17 +1,18 @@
 //! Many channels under a lock each, and what their callers are told, whatever other threads call between.
 #![tactic(auto)]
 
-mod channel;
 mod claim;
-mod clock;
-mod fault;
+mod counted;
 mod hub;
 mod pass;
+mod sink;
+mod slots;
 mod totals;
 
 pub use claim::Claim;
-pub use clock::Clock;
-pub use fault::{HubFault, RoomFault};
 pub use hub::{Hub, HubAsked};
+pub use ll_ledger::{Blanks, Ledgers, Named};
+pub use ll_locked::{Clock, HubFault, RoomFault, Total};
 pub use pass::Pass;
-pub use totals::{Total, Totals};
+pub use sink::Sink;
+pub use totals::Totals;

@@ -10,7 +10,7 @@ pub enum LinkFault {
     /// A write failed.
     #[error("Write")]
     Write,
-    /// The hub isn't the one that the worker's pass is of.
+    /// The hub isn't the one that the worker's pass is of, or can't hand out a full record.
     #[error("Hub")]
     Hub,
     /// No memory was found for its bytes or an answer.

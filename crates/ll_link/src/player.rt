@@ -10,19 +10,20 @@ use crate::link::{Gate, Link};
 use crate::workers::{PIECE, READS};
 use ll_device::write_all;
 use ll_directive::{TargetFault, Want};
-use ll_hub::{Claim, Clock, HubAsked, HubFault, Pass, RoomFault};
-use ll_room::{AskFault, ClockFault};
+use ll_hub::{Claim, Clock, HubAsked, HubFault, Ledgers, Pass, RoomFault, Sink};
+use ll_record::ReadingFault;
+use ll_room::AskFault;
 use ll_session::Session;
 use ll_wire::{Answer, Unavailable};
 use std::sync::Wait;
 
 /// Answers a player's requests, one after another, and counts the answers.
-pub(crate) fn serve<L: Link, C: Clock, G: Gate, R: Wait>(
-    desk: &Desk<'_, C, G, R>,
-    link: &mut L,
-    pass: &mut Pass,
+pub(crate) fn serve<L: Ledgers, P: Link, C: Clock, G: Gate, K: Sink, R: Wait>(
+    desk: &Desk<'_, L, C, G, K, R>,
+    link: &mut P,
+    pass: &mut Pass<L>,
 ) -> Result<u64, LinkFault>
-    ensures { IsTrue result (L.failures link.old) (L.failures link.new) }
+    ensures { IsTrue result (P.failures link.old) (P.failures link.new) }
 {
     let mut session = Session::new(desk.alloc);
     let served = converse(desk, link, pass, &mut session);
@@ -31,13 +32,13 @@ pub(crate) fn serve<L: Link, C: Clock, G: Gate, R: Wait>(
 }
 
 /// Reads requests and answers them, until either side ends the connection.
-fn converse<L: Link, C: Clock, G: Gate, R: Wait>(
-    desk: &Desk<'_, C, G, R>,
-    link: &mut L,
-    pass: &mut Pass,
+fn converse<L: Ledgers, P: Link, C: Clock, G: Gate, K: Sink, R: Wait>(
+    desk: &Desk<'_, L, C, G, K, R>,
+    link: &mut P,
+    pass: &mut Pass<L>,
     session: &mut Session,
 ) -> Result<u64, LinkFault>
-    ensures { IsTrue result (L.failures link.old) (L.failures link.new) }
+    ensures { IsTrue result (P.failures link.old) (P.failures link.new) }
 {
     let mut answers = 0;
     let mut piece = [0; PIECE];
@@ -58,14 +59,14 @@ fn converse<L: Link, C: Clock, G: Gate, R: Wait>(
 }
 
 /// Answers all whole requests that came.
-fn answer<L: Link, C: Clock, G: Gate, R: Wait>(
-    desk: &Desk<'_, C, G, R>,
-    link: &mut L,
-    pass: &mut Pass,
+fn answer<L: Ledgers, P: Link, C: Clock, G: Gate, K: Sink, R: Wait>(
+    desk: &Desk<'_, L, C, G, K, R>,
+    link: &mut P,
+    pass: &mut Pass<L>,
     session: &mut Session,
     answers: &mut u64,
 ) -> Result<(), LinkFault>
-    ensures { IsTrue result (L.failures link.old) (L.failures link.new) }
+    ensures { IsTrue result (P.failures link.old) (P.failures link.new) }
 {
     for _ in desk.rt.forever() {
         let want = session.next_want()?;
@@ -83,14 +84,14 @@ fn answer<L: Link, C: Clock, G: Gate, R: Wait>(
 }
 
 /// Sends the answers that are there, each in one write where the link takes it.
-fn send<L: Link, C, G: Gate, R>(
-    desk: &Desk<'_, C, G, R>,
-    link: &mut L,
+fn send<L: Ledgers, P: Link, C, G: Gate, K, R>(
+    desk: &Desk<'_, L, C, G, K, R>,
+    link: &mut P,
     session: &mut Session,
     answers: &mut u64,
 ) -> Result<(), LinkFault>
-    ensures faults { IsTrue result (L.failures link.old) (L.failures link.new) }
-    ensures sent { OnOk result (Appends (L.written link.old) (L.written link.new) (concat session.old.answers)) }
+    ensures faults { IsTrue result (P.failures link.old) (P.failures link.new) }
+    ensures sent { OnOk result (Appends (P.written link.old) (P.written link.new) (concat session.old.answers)) }
     ensures emptied { OnOk result (session.new ≡ record session.old { answers = [] }) }
 {
     while let Some(length) = session.first_answer() {
@@ -104,10 +105,10 @@ fn send<L: Link, C, G: Gate, R>(
     Ok(())
 }
 
-/// What a request is answered. Where it has to wait, its reply is waited for.
-fn ask<C: Clock, G, R: Wait>(
-    desk: &Desk<'_, C, G, R>,
-    pass: &mut Pass,
+/// What a request is answered. Where the record of its channel is full, that is handed out and the request made once more.
+fn ask<L: Ledgers, C: Clock, G, K: Sink, R: Wait>(
+    desk: &Desk<'_, L, C, G, K, R>,
+    pass: &mut Pass<L>,
     session: &mut Session,
     want: Want,
 ) -> Result<Answer, LinkFault>
@@ -116,6 +117,28 @@ fn ask<C: Clock, G, R: Wait>(
     let Some((channel, _)) = desk.hub.find(want.channel()) else {
         return Ok(Answer::Target(TargetFault::NotFound));
     };
+    let Ok(again) = want.copy() else {
+        return Ok(Answer::Unavailable(Unavailable::Memory));
+    };
+    match ask_once(desk, pass, session, channel, want)? {
+        Answer::Unavailable(Unavailable::RecordFull) => {
+            desk.hand_out(channel)?;
+            ask_once(desk, pass, session, channel, again)
+        }
+        answer => Ok(answer),
+    }
+}
+
+/// What a request of the channel at this place is answered. Where it has to wait, its reply is waited for.
+fn ask_once<L: Ledgers, C: Clock, G, K: Sink, R: Wait>(
+    desk: &Desk<'_, L, C, G, K, R>,
+    pass: &mut Pass<L>,
+    session: &mut Session,
+    channel: usize,
+    want: Want,
+) -> Result<Answer, LinkFault>
+    ensures { (failures : ℕ) → IsTrue result failures failures }
+{
     match desk.hub.ask(desk.rt, desk.clock, pass, channel, want) {
         Ok(HubAsked::Now(reply)) => Ok(Answer::Reply(reply.into_inner())),
         Ok(HubAsked::Held(claim)) => wait(desk, pass, session, claim),
@@ -124,9 +147,9 @@ fn ask<C: Clock, G, R: Wait>(
 }
 
 /// The reply to a request that is held. Where too many bytes wait after it, it is given up, and the session has shut.
-fn wait<C, G, R: Wait>(
-    desk: &Desk<'_, C, G, R>,
-    pass: &mut Pass,
+fn wait<L: Ledgers, C, G, K: Sink, R: Wait>(
+    desk: &Desk<'_, L, C, G, K, R>,
+    pass: &mut Pass<L>,
     session: &mut Session,
     claim: Claim,
 ) -> Result<Answer, LinkFault>
@@ -150,12 +173,13 @@ fn unavailable(fault: HubFault) -> Result<Answer, LinkFault>
 {
     match fault {
         HubFault::Room {
-            fault: RoomFault::Ask(AskFault::RecordFull) | RoomFault::Clock(ClockFault::RecordFull),
+            fault: RoomFault::Ask(AskFault::RecordFull)
+            | RoomFault::Clock(ReadingFault::RecordFull),
             ..
         } => Ok(Answer::Unavailable(Unavailable::RecordFull)),
         HubFault::Memory
         | HubFault::Room {
-            fault: RoomFault::Ask(AskFault::Memory),
+            fault: RoomFault::Ask(AskFault::Memory) | RoomFault::Clock(ReadingFault::Memory),
             ..
         } => Ok(Answer::Unavailable(Unavailable::Memory)),
         _ => Err(LinkFault::Hub),

@@ -9,18 +9,18 @@ use crate::fault::LinkFault;
 use crate::link::{Gate, Link};
 use crate::workers::{PIECE, READS};
 use ll_device::write_all;
-use ll_hub::{HubFault, Pass, RoomFault};
-use ll_item::Item;
+use ll_hub::{HubFault, Ledgers, Pass, RoomFault, Sink};
+use ll_item::{Item, Settings};
 use ll_publish::{Feed, Line, Refusal, reply_text};
 use std::sync::Wait;
 
 /// Publishes what a publisher's lines announce, answers each, and counts the answers.
-pub(crate) fn serve<L: Link, C, G: Gate, R: Wait>(
-    desk: &Desk<'_, C, G, R>,
-    link: &mut L,
-    pass: &mut Pass,
+pub(crate) fn serve<L: Ledgers, P: Link, C, G: Gate, K: Sink, R: Wait>(
+    desk: &Desk<'_, L, C, G, K, R>,
+    link: &mut P,
+    pass: &mut Pass<L>,
 ) -> Result<u64, LinkFault>
-    ensures { IsTrue result (L.failures link.old) (L.failures link.new) }
+    ensures { IsTrue result (P.failures link.old) (P.failures link.new) }
 {
     let mut feed = Feed::new(desk.alloc);
     let mut answers = 0;
@@ -39,14 +39,14 @@ pub(crate) fn serve<L: Link, C, G: Gate, R: Wait>(
 }
 
 /// Answers all whole lines that came.
-fn answer<L: Link, C, G: Gate, R: Wait>(
-    desk: &Desk<'_, C, G, R>,
-    link: &mut L,
-    pass: &mut Pass,
+fn answer<L: Ledgers, P: Link, C, G: Gate, K: Sink, R: Wait>(
+    desk: &Desk<'_, L, C, G, K, R>,
+    link: &mut P,
+    pass: &mut Pass<L>,
     feed: &mut Feed,
     answers: &mut u64,
 ) -> Result<(), LinkFault>
-    ensures { IsTrue result (L.failures link.old) (L.failures link.new) }
+    ensures { IsTrue result (P.failures link.old) (P.failures link.new) }
 {
     for _ in desk.rt.forever() {
         let Some(line) = feed.next() else {
@@ -61,13 +61,13 @@ fn answer<L: Link, C, G: Gate, R: Wait>(
 }
 
 /// Sends the line that answers a publisher's.
-fn tell<L: Link, C, G, R>(
-    desk: &Desk<'_, C, G, R>,
-    link: &mut L,
+fn tell<L: Ledgers, P: Link, C, G, K, R>(
+    desk: &Desk<'_, L, C, G, K, R>,
+    link: &mut P,
     reply: &Result<u64, Refusal>,
 ) -> Result<(), LinkFault>
-    ensures faults { IsTrue result (L.failures link.old) (L.failures link.new) }
-    ensures sent { OnOk result (Appends (L.written link.old) (L.written link.new) (reply_line reply.now)) }
+    ensures faults { IsTrue result (P.failures link.old) (P.failures link.new) }
+    ensures sent { OnOk result (Appends (P.written link.old) (P.written link.new) (reply_line reply.now)) }
 {
     let text = reply_text(desk.alloc, reply)?;
     match write_all(link, text.as_bytes()) {
@@ -76,10 +76,11 @@ fn tell<L: Link, C, G, R>(
     }
 }
 
-/// Publishes what a line announces: how many items its channel has accepted with it, or why it is refused.
-fn publish<C, G, R: Wait>(
-    desk: &Desk<'_, C, G, R>,
-    pass: &mut Pass,
+/// Publishes what a line announces: how many items its channel has accepted with it, or why it is refused. Where the record of its
+/// channel is full, that is handed out and the item published once more.
+fn publish<L: Ledgers, C, G, K: Sink, R: Wait>(
+    desk: &Desk<'_, L, C, G, K, R>,
+    pass: &mut Pass<L>,
     line: Line<'_>,
 ) -> Result<Result<u64, Refusal>, LinkFault>
     ensures { (failures : ℕ) → IsTrue result failures failures }
@@ -92,6 +93,25 @@ fn publish<C, G, R: Wait>(
     let Some((channel, settings)) = desk.hub.find(name) else {
         return Ok(Err(Refusal::UnknownChannel));
     };
+    match publish_once(desk, pass, channel, settings, text)? {
+        Err(Refusal::RecordFull) => {
+            desk.hand_out(channel)?;
+            publish_once(desk, pass, channel, settings, text)
+        }
+        answer => Ok(answer),
+    }
+}
+
+/// Publishes an item that is spelled so, in the channel at this place.
+fn publish_once<L: Ledgers, C, G, K, R: Wait>(
+    desk: &Desk<'_, L, C, G, K, R>,
+    pass: &mut Pass<L>,
+    channel: usize,
+    settings: &Settings,
+    text: &str,
+) -> Result<Result<u64, Refusal>, LinkFault>
+    ensures { (failures : ℕ) → IsTrue result failures failures }
+{
     let item = match Item::read(desk.alloc, settings, text) {
         Ok(item) => item,
         Err(fault) => return Ok(Err(Refusal::from(fault))),

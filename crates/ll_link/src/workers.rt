@@ -7,8 +7,8 @@ use crate::fault::LinkFault;
 use crate::link::{Gate, Link, Role, Source};
 use crate::{player, publisher};
 use crossbeam_channel::{Receiver, Sender};
-use ll_hub::{Clock, Hub, Pass};
-use std::alloc::{AllocError, Global};
+use ll_hub::{Clock, Hub, HubFault, Ledgers, Pass, Sink};
+use std::alloc::Global;
 use std::sync::Wait;
 use std::thread;
 use std::thread::Threads;
@@ -19,24 +19,27 @@ pub(crate) const READS: u64 = 1 << 32;
 /// How many bytes a read takes at most.
 pub(crate) const PIECE: usize = 4_096;
 
-/// Serves one connection to its end, and tells how many answers it got, or why it was ended. What it held is then closed.
-pub fn serve_link<L: Link, C: Clock, G: Gate, R: Wait>(
+/// Serves one connection to its end, and tells how many answers it got, or why it was ended. What it held is then closed. Where the record
+/// of a channel is full, it goes to the sink before the call that found it so is made once more.
+pub fn serve_link<L: Ledgers, P: Link, C: Clock, G: Gate, K: Sink, R: Wait>(
     rt: &R,
     alloc: Global,
     role: Role,
-    link: &mut L,
+    link: &mut P,
     clock: &C,
     gate: &G,
-    hub: &Hub,
-    pass: &mut Pass,
+    sink: &K,
+    hub: &Hub<L>,
+    pass: &mut Pass<L>,
 ) -> Result<u64, LinkFault>
-    ensures { IsTrue result (L.failures link.old) (L.failures link.new) }
+    ensures { IsTrue result (P.failures link.old) (P.failures link.new) }
 {
     let desk = Desk {
         rt,
         alloc,
         clock,
         gate,
+        sink,
         hub,
     };
     match role {
@@ -46,8 +49,20 @@ pub fn serve_link<L: Link, C: Clock, G: Gate, R: Wait>(
 }
 
 /// Serves the connections of a source by so many workers, each of which serves one at a time, until the source gives no more and all
-/// are served. A connection's fault ends that connection alone. It fails only where no memory is found for the workers.
-pub fn serve_links<S: Source + Send, C: Clock + Sync, G: Gate + Sync, R: Threads + Wait + Sync>(
+/// are served. A connection's fault ends that connection alone. It gives the workers' passes back, which [`Hub::finish`] takes.
+///
+/// Where it fails, it gives those that there are, and why another isn't there:
+///
+/// 1. The hub has no more: Short.
+/// 2. No memory is found for the workers: Memory.
+pub fn serve_links<
+    L: Ledgers + Send + Sync,
+    S: Source + Send,
+    C: Clock + Sync,
+    G: Gate + Sync,
+    K: Sink + Sync,
+    R: Threads + Wait + Sync,
+>(
     rt: &R,
     alloc: Global,
     role: Role,
@@ -55,12 +70,16 @@ pub fn serve_links<S: Source + Send, C: Clock + Sync, G: Gate + Sync, R: Threads
     workers: usize,
     clock: &C,
     gate: &G,
-    hub: &Hub,
-) -> Result<(), AllocError>
+    sink: &K,
+    hub: &Hub<L>,
+) -> Result<Vec<Pass<L>>, (Vec<Pass<L>>, HubFault)>
     requires some { 1 ≤ workers }
     requires most { workers ≤ 4096 }
+    ensures all { IfOk result (λ passes. length passes.items ≡ workers) }
 {
-    let (to, from) = crossbeam_channel::unbounded::<S::Peer, Global>(alloc)?;
+    let Ok((to, from)) = crossbeam_channel::unbounded::<S::Peer, Global>(alloc) else {
+        return Err((Vec::new(alloc), HubFault::Memory));
+    };
     let links = &from;
     let (_fed, served) = thread::join(
         rt,
@@ -70,32 +89,59 @@ pub fn serve_links<S: Source + Send, C: Clock + Sync, G: Gate + Sync, R: Threads
                 rt,
                 alloc,
                 workers,
-                &|_place| { work(rt, alloc, role, links, clock, gate, hub) },
+                &|_place| { work(rt, alloc, role, links, clock, gate, sink, hub) },
             )
         },
     );
-    for worked in served? {
-        worked?;
+    match served {
+        Ok(served) => gather(alloc, served),
+        Err(_) => Err((Vec::new(alloc), HubFault::Memory)),
     }
-    Ok(())
 }
 
-/// Serves one connection after another, until no more come.
-fn work<L: Link, C: Clock, G: Gate, R: Wait>(
+/// The passes of workers that have ended; or those that there are, and why another isn't there.
+fn gather<L: Ledgers>(
+    alloc: Global,
+    served: Vec<Result<Pass<L>, HubFault>>,
+) -> Result<Vec<Pass<L>>, (Vec<Pass<L>>, HubFault)>
+    ensures { IfOk result (λ passes. length passes.items ≡ length served.items) }
+{
+    let mut passes = Vec::new(alloc);
+    let mut lacking = None;
+    for one in served {
+        let kept = match one {
+            Ok(pass) => passes.push(pass).map_err(|_| HubFault::Memory),
+            Err(fault) => Err(fault),
+        };
+        if let Err(fault) = kept {
+            lacking = Some(fault);
+        }
+    }
+    match lacking {
+        None => Ok(passes),
+        Some(fault) => Err((passes, fault)),
+    }
+}
+
+/// Serves one connection after another, until no more come, and gives the pass back.
+fn work<L: Ledgers, P: Link, C: Clock, G: Gate, K: Sink, R: Wait>(
     rt: &R,
     alloc: Global,
     role: Role,
-    links: &Receiver<L>,
+    links: &Receiver<P>,
     clock: &C,
     gate: &G,
-    hub: &Hub,
-) -> Result<(), AllocError> {
-    let mut pass = hub.seat()?;
+    sink: &K,
+    hub: &Hub<L>,
+) -> Result<Pass<L>, HubFault> {
+    let mut pass = hub.seat(rt)?;
     for _ in rt.forever() {
         let Ok(mut link) = links.recv(rt) else {
-            return Ok(());
+            return Ok(pass);
         };
-        let _ = serve_link(rt, alloc, role, &mut link, clock, gate, hub, &mut pass);
+        let _ = serve_link(
+            rt, alloc, role, &mut link, clock, gate, sink, hub, &mut pass,
+        );
     }
     unreachable!()
 }

@@ -2,7 +2,7 @@
 ghost use Rattle.std.specs.Prelude.{◌≤◌, ◌<◌, IfOk, IsSome, length, vec_len};
 
 use crate::fault::Fault;
-use ll_attr::{after, parse_number};
+use ll_attr::{Text, after, parse_number};
 use ll_item::{Settings, SettingsFault};
 use std::alloc::Global;
 use std::net::SocketAddrV4;
@@ -23,6 +23,8 @@ pub(crate) struct Config {
     pub(crate) publishers: SocketAddrV4,
     /// `workers N`.
     pub(crate) workers: Workers,
+    /// `record PATH`, which may be left out: the path that the names of the records' files begin with.
+    pub(crate) record: Option<Text>,
     /// One or more settings lines of channels with distinct names.
     pub(crate) channels: Vec<Settings>,
     ghost some_channel: { 1 ≤ vec_len channels },
@@ -48,11 +50,13 @@ impl Config {
         let players = lines.address("listen ")?;
         let publishers = lines.address("publish ")?;
         let workers = lines.workers()?;
+        let record = lines.record(alloc)?;
         let channels = lines.channels(alloc)?;
         Ok(Config {
             players,
             publishers,
             workers,
+            record,
             channels,
         })
     }
@@ -118,6 +122,21 @@ impl<'a> Lines<'a> {
                 count: count as usize,
             }),
             _ => Err(self.bad()),
+        }
+    }
+
+    /// The path in the next line, where that is a `record` line; any other line is left for later.
+    fn record(&mut self, alloc: Global) -> Result<Option<Text>, Fault> {
+        if !self.rest.starts_with(b"record ") {
+            return Ok(None);
+        }
+        let path = self.value("record ")?;
+        if path.is_empty() {
+            return Err(self.bad());
+        }
+        match Text::from_str(alloc, path) {
+            Ok(path) => Ok(Some(path)),
+            Err(_) => Err(Fault::Memory),
         }
     }
 

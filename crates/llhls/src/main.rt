@@ -16,6 +16,7 @@ mod command;
 mod config;
 mod door;
 mod fault;
+mod record;
 mod serve;
 
 use crate::command::{Command, words};

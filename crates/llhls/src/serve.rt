@@ -1,11 +1,19 @@
 //! The server.
+ghost use Rattle.std.specs.Prelude.{◌≡◌, ◌≤◌, length};
+
 use crate::config::{Config, Workers};
 use crate::door::Door;
 use crate::fault::Fault;
-use ll_hub::{Clock, Hub};
+use crate::record::Records;
+use ll_hub::{Blanks, Clock, Hub, HubFault, Ledgers, Pass, RoomFault, Sink};
+use ll_item::Settings;
 use ll_link::{Gate, Role, serve_links};
-use std::alloc::{AllocError, Global};
+use ll_record::ReadingFault;
+use std::alloc::Global;
+use std::fs::File;
+use std::marker::Brand;
 use std::net::{Net, TcpListener, TcpStream};
+use std::rt::Files;
 use std::sync::Wait;
 use std::thread::Threads;
 use std::time::{Duration, Instant};
@@ -13,6 +21,13 @@ use std::{thread, time};
 
 /// How often the channels are told the time, in milliseconds.
 const TICK: u64 = 250;
+
+/// After so many times the records are handed out, where they are kept: every 10 seconds. What wasn't handed out when the server is
+/// stopped is lost.
+const TICKS: u64 = 40;
+
+/// The most channels of a server.
+const CHANNELS: usize = 1_024;
 
 /// The time since the server's start.
 #[derive(Drop)]
@@ -39,9 +54,20 @@ impl Gate for Open {
     fn pass(&self, _call: u64) {}
 }
 
+/// A server without its channels.
+#[derive(Drop)]
+struct Server<'a, R> {
+    rt: &'a R,
+    alloc: Global,
+    watch: Watch<'a, R>,
+    records: Records<'a, R>,
+    workers: Workers,
+}
+
 /// Serves players and publishers of the channels that a settings file tells, until it is stopped.
 pub(crate) fn serve<
     R: Net<Listener = TcpListener, Stream = TcpStream>
+        + Files<File = File>
         + Eprint
         + time::Clock
         + Threads
@@ -54,36 +80,28 @@ pub(crate) fn serve<
     let Ok(start) = Instant::now(rt) else {
         return Err(Fault::Clock);
     };
-    let (asked, told) = (players.address()?, publishers.address()?);
-    let workers = config.workers;
-    let Ok(hub) = Hub::new(alloc, config.channels) else {
+    let Ok(records) = Records::open(rt, alloc, config.record.as_ref(), &config.channels) else {
         return Err(Fault::Memory);
     };
-    let _ = eprintln!(rt; "llhls: players on {asked}");
-    let _ = eprintln!(rt; "llhls: publishers on {told}");
-    let watch = Watch { rt, start };
-    let (shared, clock) = (&hub, &watch);
-    let (_ticked, (served, fed)) = thread::join(
+    let server = Server {
         rt,
-        || tick(rt, clock, shared),
-        || {
-            thread::join(
-                rt,
-                || admit(rt, alloc, &mut players, workers, clock, shared),
-                || admit(rt, alloc, &mut publishers, workers, clock, shared),
-            )
-        },
-    );
-    let ended = hub.finish();
-    if served.is_err() || fed.is_err() || ended.is_err() {
-        return Err(Fault::Memory);
-    }
-    Ok(())
+        alloc,
+        watch: Watch { rt, start },
+        records,
+        workers: config.workers,
+    };
+    host::<Brand, R>(
+        &server,
+        config.channels,
+        Blanks::new(),
+        &mut players,
+        &mut publishers,
+    )
 }
 
-/// Serves the connections that come in by a door.
-fn admit<
-    C: Clock + Sync,
+/// Serves these channels, to those who come in by these doors.
+fn host<
+    L: Ledgers + Send + Sync,
     R: Net<Listener = TcpListener, Stream = TcpStream>
         + Eprint
         + time::Clock
@@ -91,21 +109,117 @@ fn admit<
         + Wait
         + Sync,
 >(
-    rt: &R,
-    alloc: Global,
-    door: &mut Door<'_, R>,
-    workers: Workers,
-    clock: &C,
-    hub: &Hub,
-) -> Result<(), AllocError> {
-    let role = door.role();
-    serve_links(rt, alloc, role, door, workers.count, clock, &Open, hub)
+    server: &Server<'_, R>,
+    channels: Vec<Settings>,
+    blanks: Blanks,
+    players: &mut Door<'_, R>,
+    publishers: &mut Door<'_, R>,
+) -> Result<(), Fault>
+    requires some { 1 ≤ length channels.items }
+    requires most { length channels.items ≤ 1024 }
+    requires names { blanks ≡ L.names }
+    requires channels { L.channels ≡ length channels.items }
+{
+    let (asked, told) = (players.address()?, publishers.address()?);
+    let Ok(hub) = Hub::<L>::new(server.alloc, channels, blanks) else {
+        return Err(Fault::Memory);
+    };
+    let _ = eprintln!(server.rt; "llhls: players on {asked}");
+    let _ = eprintln!(server.rt; "llhls: publishers on {told}");
+    let shared = &hub;
+    let (_ticked, (served, fed)) = thread::join(
+        server.rt,
+        || server.keep_time(shared),
+        || {
+            thread::join(
+                server.rt,
+                || server.admit(players, shared),
+                || server.admit(publishers, shared),
+            )
+        },
+    );
+    let (mut passes, served) = served;
+    let (more, fed) = fed;
+    let mut all = served.is_none() && fed.is_none();
+    for pass in more {
+        all &= passes.push(pass).is_ok();
+    }
+    match hub.finish(passes) {
+        Ok(_) if all => Ok(()),
+        _ => Err(Fault::Memory),
+    }
 }
 
-/// Tells the channels the time, again and again.
-fn tick<C: Clock, R: Wait + time::Clock>(rt: &R, clock: &C, hub: &Hub) {
-    for _ in rt.forever() {
-        let _ = hub.tick(rt, clock.now());
-        thread::sleep(rt, Duration::from_millis(TICK));
+impl<
+    R: Net<Listener = TcpListener, Stream = TcpStream>
+        + Eprint
+        + time::Clock
+        + Threads
+        + Wait
+        + Sync,
+> Server<'_, R> {
+    /// Serves those who come in by a door: the workers' passes, and why they aren't all there.
+    fn admit<L: Ledgers + Send + Sync>(
+        &self,
+        door: &mut Door<'_, R>,
+        hub: &Hub<L>,
+    ) -> (Vec<Pass<L>>, Option<HubFault>) {
+        let (role, workers) = (door.role(), self.workers.count);
+        match serve_links(
+            self.rt,
+            self.alloc,
+            role,
+            door,
+            workers,
+            &self.watch,
+            &Open,
+            &self.records,
+            hub,
+        ) {
+            Ok(passes) => (passes, None),
+            Err((passes, fault)) => (passes, Some(fault)),
+        }
+    }
+
+    /// Tells the channels the time, again and again, and hands their records out from time to time, where they are kept.
+    fn keep_time<L: Ledgers>(&self, hub: &Hub<L>) {
+        for _ in self.rt.forever() {
+            self.tick(hub);
+            self.hand_out(hub);
+        }
+    }
+
+    /// Tells the channels the time, as often as it is told between two records.
+    fn tick<L: Ledgers>(&self, hub: &Hub<L>) {
+        for _ in 0..TICKS {
+            self.tell(hub);
+            thread::sleep(self.rt, Duration::from_millis(TICK));
+        }
+    }
+
+    /// Tells the channels the time. Where the record of one is full, that is handed out and the time told once more.
+    fn tell<L: Ledgers>(&self, hub: &Hub<L>) {
+        let ms = self.watch.now();
+        for _ in 0..CHANNELS {
+            let Err(
+                HubFault::Room {
+                    channel,
+                    fault: RoomFault::Clock(ReadingFault::RecordFull),
+                },
+            ) = hub.tick(self.rt, ms)
+            else {
+                return;
+            };
+            if hub.rotate_to(self.rt, channel, &self.records).is_err() {
+                return;
+            }
+        }
+    }
+
+    /// Hands out the record of each channel that has one.
+    fn hand_out<L: Ledgers>(&self, hub: &Hub<L>) {
+        for channel in 0..self.records.len() {
+            let _ = hub.rotate_to(self.rt, channel, &self.records);
+        }
     }
 }

@@ -5,8 +5,8 @@ use Rattle.ll_link.proofs.player.send.Given as goal
 
 abbrev pub invariant-loop-length : goal.invariant-loop-length
 invariant-loop-length g l = record {
-  steady : g.L.Writer.failures l.link ≡ g.L.Writer.failures l.fn.link;
-  sent : IsSent (g.L.Writer.written l.fn.link) (g.L.Writer.written l.link) l.fn.session.answers l.session.answers;
+  steady : g.P.Writer.failures l.link ≡ g.P.Writer.failures l.fn.link;
+  sent : IsSent (g.P.Writer.written l.fn.link) (g.P.Writer.written l.link) l.fn.session.answers l.session.answers;
   rest : l.session ≡ record l.fn.session { answers = l.session.answers };
 }
 

@@ -1,5 +1,6 @@
-use Rattle.std.specs.Prelude.{◌≡◌}
+use Rattle.std.specs.Prelude.{◌≡◌, length}
+use Rattle.ll_ledger.specs.Ledgers.{IsRest}
 use Rattle.ll_hub.proofs.hub.Hub.new.Given as goal
 
 abbrev pub invariant-loop-settings : goal.invariant-loop-settings
-invariant-loop-settings l = l.hub ≡ l.yielded
+invariant-loop-settings g l = (l.slots ≡ l.yielded) × IsRest l.rest (length l.yielded)

@@ -1,3 +1,0 @@
-pub mod LastLemmas
-pub mod ParkedLemmas
-pub mod ToldLemmas

@@ -1,0 +1,14 @@
+use Rattle.std.specs.Prelude.{◌≡◌, ◌+◌, ◌≤◌, length, map, sum, vec_capacity, vec_len}
+use Rattle.ll_hub.proofs.slots.Slots.finish.Given as goal
+
+abbrev pub invariant-loop-slot : goal.invariant-loop-slot
+invariant-loop-slot g l = record {
+  each : vec_len l.found + vec_len l.left ≡ length l.fn.self;
+  room : vec_len l.found + vec_len l.left ≤ vec_capacity l.found;
+  parts : l.all.parts ≡ l.fn.all.parts + vec_len l.found;
+  publishes : l.all.publishes ≡ l.fn.all.publishes + sum (map (λ t. t.publishes) l.found.items);
+  asks : l.all.asks ≡ l.fn.all.asks + sum (map (λ t. t.asks) l.found.items);
+}
+
+abbrev pub decreases-loop-slot : goal.decreases-loop-slot
+decreases-loop-slot g l = goal.left-loop-slot g l

@@ -1,0 +1,248 @@
+//! The channels of a hub, under a lock each.
+ghost use Rattle.std.specs.Prelude.{◌≡◌, ◌+◌, ◌<◌, ◌≤◌, ◌++◌, ◌∷◌, [], None, Some, IfErr, IfOk, MatchOption, OnErr, OnOk, false, length, map, slice_get, sum, vec_capacity};
+ghost use Rattle.ll_channels.specs.Channels.{channel_of_name};
+ghost use Rattle.ll_hub.specs.Calls as calls;
+ghost use Rattle.ll_ledger.specs.Ledgers.{blank};
+ghost use Rattle.ll_locked.specs.Told.{IsDecided};
+ghost use Rattle.ll_room.specs.declared.stamped.Stamp.TheVariants as stamp;
+
+use crate::counted::Counted;
+use ll_channels::Declared;
+use ll_item::Settings;
+use ll_ledger::{ChannelCounts, Ledgers};
+use ll_locked::{HubFault, Known, Total, Tried};
+use ll_record::ReadingFault;
+use ll_room::Stamped;
+use ll_verdict::{Entry, Reply};
+use std::alloc::{AllocError, Global};
+use std::marker::Model;
+use std::sync::{Condvar, Mutex, MutexGuard, Wait};
+
+/// One channel's lock, and what wakes those who wait for replies.
+pub(crate) struct Slot<L: Ledgers> {
+    state: Mutex<Counted<L>>,
+    changed: Condvar,
+}
+
+/// Channels under a lock each, found by their names and their places.
+pub(crate) struct Slots<L: Ledgers> {
+    alloc: Global,
+    declared: Declared,
+    slots: Vec<Slot<L>>,
+}
+
+impl<L: Ledgers> Model for Slots<L> {
+    ghost use Rattle.std.specs.Prelude.{◌≡◌, List, length, vec_len};
+    ghost use Rattle.ll_item.specs.Settings.{Configuration};
+
+    ghost Value = { List Configuration };
+
+    ghost view = { λ s. s.declared };
+
+    ghost invariant = { λ s. vec_len s.slots ≡ length s.declared };
+}
+
+/// Only none may be let go: a leak is a failed proof.
+impl<L: Ledgers> Drop for Slots<L> {
+    ghost use Rattle.std.specs.Prelude.{◌≡◌, []};
+
+    fn drop(self)
+        requires { self ≡ [] }
+    {
+        let Slots {
+            alloc: _,
+            declared: _declared,
+            slots,
+        } = self;
+        slots.destroy_empty();
+    }
+}
+
+impl<L: Ledgers> Slots<L> {
+    /// No channels.
+    pub(crate) fn new(alloc: Global) -> Slots<L>
+        ensures { result ≡ [] }
+    {
+        Slots {
+            alloc,
+            declared: Declared::new(alloc),
+            slots: Vec::new(alloc),
+        }
+    }
+
+    /// What they are kept in.
+    pub(crate) fn alloc(&self) -> Global {
+        self.alloc
+    }
+
+    /// How many there are.
+    pub(crate) fn len(&self) -> usize
+        ensures { result ≡ length self.now }
+    {
+        self.slots.len()
+    }
+
+    /// Adds a channel after the others.
+    pub(crate) fn add(
+        &mut self,
+        settings: Settings,
+        counts: ChannelCounts<L>,
+    ) -> Result<(), AllocError>
+        requires { counts ≡ blank 1 }
+        ensures added { OnOk result (self.new ≡ self.old ++ settings ∷ []) }
+        ensures unchanged { OnErr result (self.new ≡ self.old) }
+    {
+        let own = settings.copy(self.alloc)?;
+        self.slots.reserve(1)?;
+        let channel = Counted::new(self.alloc, self.slots.len(), own, counts)?;
+        match self.declared.declare(self.alloc, settings) {
+            Ok(()) => {}
+            Err(AllocError) => {
+                channel.finish();
+                return Err(AllocError);
+            }
+        }
+        self.slots.push_reserved(Slot::new(channel));
+        Ok(())
+    }
+
+    /// The channel of this name, and its settings.
+    pub(crate) fn find(&self, name: &str) -> Option<(usize, &Settings)>
+        ensures { MatchOption result (channel_of_name self.now 0 name.now ≡ None)
+            (λ f. channel_of_name self.now 0 name.now ≡ Some (f.0, f.1.now)) }
+    {
+        self.declared.find(name)
+    }
+
+    /// The channel at this place as the caller knows it, with its lock.
+    pub(crate) fn reach(
+        &self,
+        channel: usize,
+        seen: Option<u64>,
+    ) -> Result<(&Slot<L>, Known<'_>), HubFault>
+        ensures known { IfOk result (λ k. (k.1.place ≡ channel) × (slice_get self.now channel ≡ Some k.1.settings.now) × (seen ≡ Some k.1.seen)) }
+        ensures unknown { IfErr result (λ f. calls.IsUnreached self.now channel seen f) }
+    {
+        let (Some(slot), Some(settings)) = (self.slots.get(channel), self.declared.get(channel))
+        else {
+            return Err(HubFault::UnknownChannel);
+        };
+        let Some(seen) = seen else {
+            return Err(HubFault::Stranger);
+        };
+        Ok((
+            slot,
+            Known {
+                place: channel,
+                settings,
+                seen,
+            },
+        ))
+    }
+
+    /// Tells the channel at this place what the clock shows, in milliseconds.
+    pub(crate) fn tick<R: Wait>(&self, rt: &R, channel: usize, ms: u64) -> Result<(), ReadingFault>
+        requires { channel < length self.now }
+    {
+        self.slots[channel].tick(rt, ms)
+    }
+
+    /// Closes what is held, tells what each channel has come to, and takes their shares in. It takes no memory.
+    pub(crate) fn finish(self, found: &mut Vec<Total>, all: &mut ChannelCounts<L>)
+        requires none { found.old.items ≡ [] }
+        requires room { length self ≤ vec_capacity found.old }
+        ensures each { length found.new.items ≡ length self }
+        ensures parts { all.new.parts ≡ all.old.parts + length self }
+        ensures publishes { all.new.publishes ≡ all.old.publishes + sum (map (λ t. t.publishes) found.new.items) }
+        ensures asks { all.new.asks ≡ all.old.asks + sum (map (λ t. t.asks) found.new.items) }
+    {
+        let Slots {
+            alloc: _,
+            declared: _declared,
+            slots: mut left,
+        } = self;
+        left.reverse();
+        while let Some(slot) = left.pop() {
+            let (total, counts) = slot.finish();
+            found.push_reserved(total);
+            all.merge(counts);
+        }
+        left.destroy_empty();
+    }
+
+    /// Closes what is held.
+    pub(crate) fn end(self) {
+        let Slots {
+            alloc: _,
+            declared: _declared,
+            slots: mut left,
+        } = self;
+        while let Some(slot) = left.pop() {
+            slot.finish();
+        }
+        left.destroy_empty();
+    }
+}
+
+impl<L: Ledgers> Slot<L> {
+    fn new(channel: Counted<L>) -> Slot<L> {
+        Slot {
+            state: Mutex::new(channel),
+            changed: Condvar::new(),
+        }
+    }
+
+    /// Takes the lock.
+    pub(crate) fn lock<R: Wait>(&self, rt: &R) -> MutexGuard<'_, Counted<L>> {
+        self.state.lock(rt)
+    }
+
+    /// Lets the lock go, and wakes those who wait where more replies are there than before.
+    pub(crate) fn leave(&self, state: MutexGuard<'_, Counted<L>>, ready: usize) {
+        let wakes = ready < state.ready();
+        drop(state);
+        if wakes {
+            self.changed.notify_all();
+        }
+    }
+
+    /// Tells the channel what the clock shows, in milliseconds.
+    fn tick<R: Wait>(&self, rt: &R, ms: u64) -> Result<(), ReadingFault> {
+        let mut state = self.state.lock(rt);
+        let ready = state.ready();
+        let told = state.tick(ms);
+        self.leave(state, ready);
+        told
+    }
+
+    /// Waits until the reply of a held request is there.
+    pub(crate) fn wait<R: Wait>(
+        &self,
+        rt: &R,
+        known: Known<'_>,
+        entry: Entry,
+    ) -> Result<Stamped<Reply>, HubFault>
+        ensures replied { IfOk result (λ r. (r.room ≡ known.entry.place) × (r.stamp ≡ stamp.Collect entry.ticket)) }
+        ensures decided { IfOk result (λ r. IsDecided known.entry.settings.now entry r.value) }
+        ensures stranger { IfErr result (λ f. f ≡ HubFault.Stranger) }
+    {
+        let mut state = self.state.lock(rt);
+        for _ in rt.forever() {
+            match state.collect(known, entry) {
+                Tried::Got(reply) => return Ok(reply),
+                Tried::Stranger => return Err(HubFault::Stranger),
+                Tried::Still => {}
+            }
+            state = self.changed.wait(rt, state);
+        }
+        unreachable!()
+    }
+
+    /// Closes what is held, tells what the channel has come to, and gives its shares.
+    fn finish(self) -> (Total, ChannelCounts<L>)
+        ensures { result.1 ≡ record { parts = 1; publishes = result.0.publishes; asks = result.0.asks } }
+    {
+        let Slot { state, changed: _ } = self;
+        state.into_inner().finish()
+    }
+}

@@ -1,0 +1,55 @@
+-- What one more event changes of how many items a room has accepted and how many requests it had.
+use Rattle.std.proofs.Common.{◌≡◌, ℕ, ◌+◌, List, [], ◌∷◌, ◌++◌, None, if◌then◌else◌, is_none, refl, ap, ◌∙◌, sym, length}
+use Rattle.std.proofs.lemmas.List.{length-append}
+use Rattle.ll_directive.specs.Targets.{WantValue}
+use Rattle.ll_item.specs.Settings.{Configuration}
+use Rattle.ll_item.specs.declared.item.Item.{Item}
+use Rattle.ll_record.specs.Recording.{IsRecorded, Recording, is_record_full, record_refusal}
+use Rattle.ll_room.specs.Full.{full_by, is_full, refusal_after}
+use Rattle.ll_room.specs.Home.{Home, IsSame, Stands}
+use Rattle.ll_verdict.specs.Accepted.{refusal}
+use Rattle.ll_verdict.proofs.StepLemmas.{asks-snoc, items-snoc}
+use Rattle.ll_verdict.specs.Events.{Event, Ask, Clock, Publish, counted, items, taken}
+use Rattle.ll_locked.proofs.ToldLemmas.{asks-is, count-is, none_before}
+use Rattle.ll_locked.specs.Section.{HasAsked, HasPublished, IsAsCounted}
+
+items-after : (h h2 : Home) (es : List Event) (e : Event) → Stands h2 (es ++ e ∷ []) → IsSame h h2 → h2.count ≡ length (taken h.settings (items h.settings es) e)
+items-after h h2 es e st2 same =
+    count-is h2 (es ++ e ∷ []) st2 ∙ ap (λ c. length (items c (es ++ e ∷ []))) same.settings ∙ ap length (items-snoc h.settings es e)
+
+asks-after : (h h2 : Home) (es : List Event) (e : Event) → Stands h es → Stands h2 (es ++ e ∷ []) → h2.asks ≡ counted h.asks e
+asks-after h h2 es e st st2 = asks-is h2 (es ++ e ∷ []) st2 ∙ asks-snoc es e ∙ ap (λ n. counted n e) (sym (asks-is h es st))
+
+-- an event that is no item and no request
+pub as-counted : (h h2 : Home) (es : List Event) (e : Event) → Stands h es → Stands h2 (es ++ e ∷ []) → IsSame h h2
+    → taken h.settings (items h.settings es) e ≡ items h.settings es → counted h.asks e ≡ h.asks → IsAsCounted h h2
+as-counted h h2 es e st st2 same no_item no_request = record {
+  publishes = items-after h h2 es e st2 same ∙ ap length no_item ∙ sym (count-is h es st);
+  asks = asks-after h h2 es e st st2 ∙ no_request;
+}
+
+-- a request after a reading of the clock
+pub has-asked : (h h1 h2 : Home) (es : List Event) (ms : ℕ) (w : WantValue) → Stands h es → Stands h1 (es ++ Clock ms ∷ []) → Stands h2 ((es ++ Clock ms ∷ []) ++ Ask w ∷ [])
+    → IsSame h h1 → IsSame h1 h2 → HasAsked h h2
+has-asked h h1 h2 es ms w st st1 st2 same more =
+    let clocked = as-counted h h1 es (Clock ms) st st1 same refl refl in
+    record {
+      publishes = items-after h1 h2 (es ++ Clock ms ∷ []) (Ask w) st2 more ∙ sym (count-is h1 (es ++ Clock ms ∷ []) st1) ∙ clocked.publishes;
+      asks = asks-after h1 h2 (es ++ Clock ms ∷ []) (Ask w) st1 st2 ∙ ap (λ n. n + 1) clocked.asks;
+    }
+
+taken_one : (c : Configuration) (list : List Item) (i : Item) → refusal c list i ≡ None → taken c list (Publish i) ≡ list ++ i ∷ []
+taken_one c list i free = ap (λ o. if is_none o then list ++ i ∷ [] else list) free
+
+-- an item that no rule refuses
+pub has-published : (r r2 : Recording) (es : List Event) (i : Item) → IsRecorded r es → record_refusal r es i ≡ None → IsRecorded r2 (es ++ Publish i ∷ []) → IsSame r.room r2.room
+    → HasPublished r.room r2.room
+has-published r r2 es i recorded free more same =
+    let c = r.room.settings in
+    let allowed = none_before (refusal c (items c es) i) (full_by (is_full (length es))) (none_before (refusal_after c es i) (full_by (is_record_full r)) free) in
+    record {
+      publishes =
+          items-after r.room r2.room es (Publish i) more.stands same ∙ ap length (taken_one c (items c es) i allowed) ∙ length-append (items c es) (i ∷ [])
+          ∙ ap (λ n. n + 1) (sym (count-is r.room es recorded.stands));
+      asks = asks-after r.room r2.room es (Publish i) recorded.stands more.stands;
+    }

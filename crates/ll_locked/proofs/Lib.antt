@@ -1,0 +1,4 @@
+pub mod CountLemmas
+pub mod LastLemmas
+pub mod ParkedLemmas
+pub mod ToldLemmas

@@ -1,0 +1,13 @@
+use Rattle.std.specs.Prelude.{◌≡◌}
+use Rattle.ll_room.specs.Home.{AreDistinct, tickets}
+use Rattle.ll_locked.specs.Channel.{parked_for}
+use Rattle.ll_locked.proofs.channel.Channel.finish.Given as goal
+
+abbrev pub invariant-loop-one : goal.invariant-loop-one
+invariant-loop-one l = record {
+  each : l.parked.items ≡ parked_for l.recorder.room.channel (tickets l.recorder.room);
+  distinct : AreDistinct (tickets l.recorder.room);
+}
+
+abbrev pub decreases-loop-one : goal.decreases-loop-one
+decreases-loop-one l = goal.left-loop-one l

@@ -1,0 +1,5 @@
+pub mod Channel
+pub mod Section
+pub mod Told
+pub use Rattle.ll_verdict.specs.Events
+pub use Rattle.ll_verdict.specs.Verdict

@@ -1,0 +1,307 @@
+//! What lies under a channel's lock. Each method is one locked section.
+ghost use Rattle.std.specs.Prelude.{◌≡◌, [], ℕ, List, IfErr, IfOk, None, Some, OnErr, OnOk, filter, find, length, option_map, position, true, if◌then◌else◌};
+ghost use Rattle.std.specs.Bool.{Decides};
+ghost use Rattle.ll_book.specs.Waiting as waiting;
+ghost use Rattle.ll_book.specs.Waiting.{entry_in, found, is_ready_at};
+ghost use Rattle.ll_locked.specs.Channel.{is_of, parked_for, ticket_at};
+ghost use Rattle.ll_locked.specs.Section as spec;
+ghost use Rattle.ll_locked.specs.Told.{IsAccepted, IsHandedOut};
+ghost use Rattle.ll_room.specs.Home.{AreDistinct, among, home, less};
+ghost use Rattle.ll_room.specs.declared.stamped.Stamp.TheVariants as stamp;
+ghost use Rattle.ll_verdict.specs.State.{state_of};
+
+use crate::clock::Clock;
+use crate::fault::{HubFault, RoomFault};
+use crate::total::Total;
+use ll_directive::Want;
+use ll_item::{Item, Settings};
+use ll_record::{Chunk, ReadingFault, Recorder};
+use ll_room::{Asked, Closed, Collected, Parked, Stamped, Stored};
+use ll_verdict::{Entry, Reply};
+use std::alloc::{AllocError, Global};
+use std::marker::Model;
+
+/// A channel as a caller knows it.
+#[derive(Clone, Copy)]
+pub struct Known<'a> {
+    /// The place of the channel, which is its room's number.
+    pub place: usize,
+    /// Its settings.
+    pub settings: &'a Settings,
+    /// How many items the caller has seen of it.
+    pub seen: u64,
+}
+
+/// What a request of a channel gets when it is made.
+pub enum Answer {
+    /// Its reply.
+    Now(Stamped<Reply>),
+    /// It is held, as this one.
+    Held(Entry),
+}
+
+/// What a held request of a channel gets when its reply is asked for.
+pub enum Tried {
+    /// Its reply.
+    Got(Stamped<Reply>),
+    /// It is still held.
+    Still,
+    /// It isn't held here.
+    Stranger,
+}
+
+/// A channel's room with the record of its events, and the values that stand for its open requests.
+pub struct Channel {
+    recorder: Recorder,
+    parked: Vec<Stored>,
+}
+
+impl Model for Channel {
+    ghost use Rattle.ll_room.specs.Home.{Home};
+    ghost use Rattle.ll_locked.specs.Channel.{IsChannel};
+
+    ghost Value = { Home };
+
+    ghost view = { λ c. c.recorder.room };
+
+    ghost invariant = { λ c. IsChannel c.recorder c.parked.items };
+}
+
+impl Channel {
+    /// The channel at this place, to which nothing has happened.
+    pub fn new(alloc: Global, place: usize, settings: Settings) -> Result<Channel, AllocError>
+        ensures { IfOk result (λ c. c ≡ home place settings (state_of settings [])) }
+    {
+        Ok(Channel {
+            recorder: Recorder::new(alloc, place as u64, settings)?,
+            parked: Vec::new(alloc),
+        })
+    }
+
+    /// How many replies are there that weren't collected.
+    pub fn ready(&self) -> usize
+        ensures { result ≡ length (filter waiting.is_ready self.now.slots) }
+    {
+        self.recorder.room().ready()
+    }
+
+    /// Whether this is the channel that the caller knows.
+    fn is_known(&self, known: Known<'_>) -> bool
+        ensures { result ≡ true → (self.now.channel ≡ known.entry.place) × (self.now.settings ≡ known.entry.settings.now) }
+    {
+        let room = self.recorder.room();
+        room.channel() == known.place as u64 && is_same(room.settings(), known.settings)
+    }
+
+    /// Whether this is the channel that the caller knows, and has what the caller has seen.
+    pub fn meet(&self, known: Known<'_>) -> Result<(), HubFault>
+        ensures met { OnOk result (spec.IsMet self.now known.entry.place known.entry.settings.now known.entry.seen) }
+        ensures unmet { IfErr result (λ f. spec.IsUnmetBy known.entry.seen f) }
+    {
+        if !self.is_known(known) {
+            return Err(HubFault::Stranger);
+        }
+        let found = self.recorder.room().count();
+        if found < known.seen {
+            return Err(HubFault::WentBack {
+                seen: known.seen,
+                found,
+            });
+        }
+        Ok(())
+    }
+
+    /// Publishes an item in the channel, which the caller has met.
+    pub fn publish(&mut self, known: Known<'_>, item: Item) -> Result<Stamped<u64>, HubFault>
+        requires { spec.IsMet self.old known.place known.settings.now known.seen }
+        ensures room { IfOk result (λ n. (n.room ≡ known.entry.place) × (n.stamp ≡ stamp.Publish item)) }
+        ensures accepted { IfOk result (λ n. IsAccepted known.entry.settings.now item known.entry.seen n.value) }
+        ensures refused { IfErr result (λ f. spec.IsPublishFaultBy known.entry.place known.entry.settings.now known.entry.seen item f) }
+        ensures counted { OnOk result (spec.HasPublished self.old self.new) }
+        ensures unchanged { OnErr result (self.new ≡ self.old) }
+    {
+        let count = match self.recorder.publish(item) {
+            Ok(count) => count,
+            Err(fault) => return Err(known.refuses(RoomFault::Publish(fault))),
+        };
+        Ok(count)
+    }
+
+    /// Reads the clock, and then makes a request of the channel, which the caller has met. The place for what stands for it is made before.
+    pub fn ask<C: Clock>(
+        &mut self,
+        known: Known<'_>,
+        clock: &C,
+        want: Want,
+    ) -> Result<Answer, HubFault>
+        requires { spec.IsMet self.old known.place known.settings.now known.seen }
+        ensures asked { IfOk result (λ a. spec.IsAskedBy known.entry.place known.entry.settings.now known.entry.seen want a) }
+        ensures refused { IfErr result (λ f. spec.IsAskFaultBy known.entry.place known.entry.seen f) }
+        ensures counted { OnOk result (spec.HasAsked self.old self.new) }
+        ensures uncounted { OnErr result (spec.IsAsCounted self.old self.new) }
+    {
+        if self.parked.reserve(1).is_err() {
+            return Err(HubFault::Memory);
+        }
+        match self.recorder.clock(clock.now()) {
+            Ok(()) => {}
+            Err(fault) => return Err(known.refuses(RoomFault::Clock(fault))),
+        }
+        match self.recorder.ask(want) {
+            Ok(Asked::Now(reply)) => Ok(Answer::Now(reply)),
+            Ok(Asked::Held(parked)) => {
+                let ticket = parked.ticket();
+                self.parked.push_reserved(parked.store());
+                match opened(&self.recorder, ticket) {
+                    Some(entry) => Ok(Answer::Held(entry)),
+                    None => unreachable!(),
+                }
+            }
+            Err(fault) => Err(known.refuses(RoomFault::Ask(fault))),
+        }
+    }
+
+    /// Hands out the reply to a held request, where it is there.
+    pub fn collect(&mut self, known: Known<'_>, entry: Entry) -> Tried
+        ensures tried { spec.IsTriedBy known.entry.place known.entry.settings.now entry result }
+        ensures counts { spec.IsAsCounted self.old self.new }
+    {
+        if !self.is_known(known) || !is_open(&self.recorder, entry) {
+            return Tried::Stranger;
+        }
+        if !is_ready(&self.recorder, entry) {
+            return Tried::Still;
+        }
+        let Some(parked) = take(&mut self.parked, entry.ticket) else {
+            unreachable!();
+        };
+        match self.recorder.collect(parked) {
+            Collected::Got(reply) => Tried::Got(reply),
+            Collected::Still(_parked) => unreachable!(),
+            Collected::Stranger(_parked) => unreachable!(),
+        }
+    }
+
+    /// Gives a held request up: it gets no reply. Answers whether it was held here.
+    pub fn close(&mut self, known: Known<'_>, entry: Entry) -> bool
+        ensures { spec.IsAsCounted self.old self.new }
+    {
+        if !self.is_known(known) || !is_open(&self.recorder, entry) {
+            return false;
+        }
+        let Some(parked) = take(&mut self.parked, entry.ticket) else {
+            unreachable!();
+        };
+        match self.recorder.close(parked) {
+            Closed::Done => true,
+            Closed::Stranger(_parked) => unreachable!(),
+        }
+    }
+
+    /// Tells the channel what its clock shows, in milliseconds.
+    pub fn tick(&mut self, ms: u64) -> Result<(), ReadingFault>
+        ensures { spec.IsAsCounted self.old self.new }
+    {
+        self.recorder.clock(ms)
+    }
+
+    /// Hands out the record of the channel, and begins another.
+    pub fn rotate(&mut self, known: Known<'_>) -> Result<Chunk, HubFault>
+        ensures handed_out { IfOk result (λ k. IsHandedOut known.entry.settings.now k) }
+        ensures refused { IfErr result spec.IsRotateFault }
+        ensures same { self.new ≡ self.old }
+    {
+        if !self.is_known(known) {
+            return Err(HubFault::Stranger);
+        }
+        match self.recorder.rotate() {
+            Ok(chunk) => Ok(chunk),
+            Err(AllocError) => Err(HubFault::Memory),
+        }
+    }
+
+    /// Closes what is held, and tells what the channel has come to.
+    pub fn finish(self) -> Total
+        ensures publishes { result.publishes ≡ self.count }
+        ensures asks { result.asks ≡ self.asks }
+        ensures held { result.held ≡ length self.slots }
+    {
+        let Channel {
+            mut recorder,
+            mut parked,
+        } = self;
+        let room = recorder.room();
+        let ended = Total {
+            publishes: room.count(),
+            asks: room.asks(),
+            held: parked.len() as u64,
+        };
+        while let Some(one) = parked.pop() {
+            match recorder.close(one.into_parked()) {
+                Closed::Done => {}
+                Closed::Stranger(_one) => unreachable!(),
+            }
+        }
+        parked.destroy_empty();
+        ended
+    }
+}
+
+/// The open request of this ticket.
+fn opened(recorder: &Recorder, ticket: u64) -> Option<Entry>
+    ensures { result ≡ found ticket recorder.now.room.slots }
+{
+    recorder.room().open(ticket)
+}
+
+/// Whether this request is open.
+fn is_open(recorder: &Recorder, entry: Entry) -> bool
+    ensures { result ≡ true → found entry.ticket recorder.now.room.slots ≡ Some entry }
+{
+    opened(recorder, entry.ticket) == Some(entry)
+}
+
+/// Whether this request's reply is there.
+fn is_ready(recorder: &Recorder, entry: Entry) -> bool
+    ensures { result ≡ true → option_map entry_in (find (is_ready_at entry.ticket) recorder.now.room.slots) ≡ Some entry }
+{
+    recorder.room().ready_at(entry.ticket) == Some(entry)
+}
+
+/// Whether settings are equal.
+#[tactic(auto, using(ll_item::proofs::SameLemmas::settings_decided))]
+fn is_same(a: &Settings, b: &Settings) -> bool
+    ensures { Decides result (a.now ≡ b.now) }
+{
+    a == b
+}
+
+/// Takes out the value of the request of this ticket.
+fn take(parked: &mut Vec<Stored>, ticket: u64) -> Option<Parked>
+    ensures value { (channel : ℕ) (tickets : List ℕ) → AreDistinct tickets → parked.old.items ≡ parked_for channel tickets
+        → result ≡ (if among ticket tickets then Some (ticket_at channel ticket) else None) }
+    ensures left { (channel : ℕ) (tickets : List ℕ) → AreDistinct tickets → parked.old.items ≡ parked_for channel tickets
+        → parked.new.items ≡ parked_for channel (less ticket tickets) }
+{
+    let place = place_of(parked, ticket)?;
+    Some(parked.remove(place).into_parked())
+}
+
+/// The place of the value of the request of this ticket.
+fn place_of(parked: &[Stored], ticket: u64) -> Option<usize>
+    ensures { result ≡ position (is_of ticket) parked.now }
+{
+    parked.iter().position(|one| one.ticket() == ticket)
+}
+
+impl Known<'_> {
+    /// Its room refuses the call.
+    fn refuses(self, fault: RoomFault) -> HubFault
+        ensures { result ≡ HubFault.Room self.entry.place fault }
+    {
+        HubFault::Room {
+            channel: self.place,
+            fault,
+        }
+    }
+}
