@@ -1,6 +1,8 @@
 //! Hubs, and calls of them.
+ghost use Rattle.std.specs.Prelude.{◌≡◌};
+
 use ll_directive::read_target;
-use ll_hub::{Claim, Clock, Hub, HubAsked, HubFault, Pass};
+use ll_hub::{Blanks, Claim, Clock, Hub, HubAsked, HubFault, Ledgers, Pass};
 use ll_item::{Item, Settings};
 use ll_room::Stamped;
 use ll_verdict::Reply;
@@ -97,30 +99,36 @@ pub(crate) fn settings(rt: &impl Abort, alloc: Global, line: &str) -> Settings {
 }
 
 /// A hub of one channel.
-pub(crate) fn hub_of_one(rt: &impl Abort, alloc: Global) -> Hub {
+pub(crate) fn hub_of_one<L: Ledgers>(rt: &impl Abort, alloc: Global, blanks: Blanks) -> Hub<L>
+    requires names { blanks ≡ L.names }
+    requires channels { L.channels ≡ 1 }
+{
     let channels = vec![in alloc; settings(rt, alloc, CAM)].expect(rt, "channels");
-    Hub::new(alloc, channels).expect(rt, "a hub")
+    Hub::new(alloc, channels, blanks).expect(rt, "a hub")
 }
 
 /// A hub of two channels.
-pub(crate) fn hub_of_two(rt: &impl Abort, alloc: Global) -> Hub {
+pub(crate) fn hub_of_two<L: Ledgers>(rt: &impl Abort, alloc: Global, blanks: Blanks) -> Hub<L>
+    requires names { blanks ≡ L.names }
+    requires channels { L.channels ≡ 2 }
+{
     let first = settings(rt, alloc, CAM);
     let second = settings(rt, alloc, DOOR);
     let channels = vec![in alloc; first, second].expect(rt, "channels");
-    Hub::new(alloc, channels).expect(rt, "a hub")
+    Hub::new(alloc, channels, blanks).expect(rt, "a hub")
 }
 
 /// A pass of a hub.
-pub(crate) fn seat(rt: &impl Abort, hub: &Hub) -> Pass {
-    hub.seat().expect(rt, "a pass")
+pub(crate) fn seat<L: Ledgers, R: Wait + Abort>(rt: &R, hub: &Hub<L>) -> Pass<L> {
+    hub.seat(rt).expect(rt, "a pass")
 }
 
 /// Publishes what a line announces.
-pub(crate) fn publish<R: Wait + Abort>(
+pub(crate) fn publish<L: Ledgers, R: Wait + Abort>(
     rt: &R,
     alloc: Global,
-    hub: &Hub,
-    pass: &mut Pass,
+    hub: &Hub<L>,
+    pass: &mut Pass<L>,
     channel: usize,
     line: &str,
 ) -> Result<u64, HubFault> {
@@ -131,12 +139,12 @@ pub(crate) fn publish<R: Wait + Abort>(
 }
 
 /// Asks for a target.
-pub(crate) fn ask<C: Clock, R: Wait + Abort>(
+pub(crate) fn ask<L: Ledgers, C: Clock, R: Wait + Abort>(
     rt: &R,
     alloc: Global,
-    hub: &Hub,
+    hub: &Hub<L>,
     clock: &C,
-    pass: &mut Pass,
+    pass: &mut Pass<L>,
     channel: usize,
     target: &str,
 ) -> Result<HubAsked, HubFault> {
@@ -145,12 +153,12 @@ pub(crate) fn ask<C: Clock, R: Wait + Abort>(
 }
 
 /// A request that is answered at once.
-pub(crate) fn answered<C: Clock, R: Wait + Abort>(
+pub(crate) fn answered<L: Ledgers, C: Clock, R: Wait + Abort>(
     rt: &R,
     alloc: Global,
-    hub: &Hub,
+    hub: &Hub<L>,
     clock: &C,
-    pass: &mut Pass,
+    pass: &mut Pass<L>,
     channel: usize,
     target: &str,
 ) -> Reply {
@@ -162,12 +170,12 @@ pub(crate) fn answered<C: Clock, R: Wait + Abort>(
 }
 
 /// A request that is held.
-pub(crate) fn held<C: Clock, R: Wait + Abort>(
+pub(crate) fn held<L: Ledgers, C: Clock, R: Wait + Abort>(
     rt: &R,
     alloc: Global,
-    hub: &Hub,
+    hub: &Hub<L>,
     clock: &C,
-    pass: &mut Pass,
+    pass: &mut Pass<L>,
     channel: usize,
     target: &str,
 ) -> Claim {
@@ -200,9 +208,15 @@ pub(crate) fn told(alloc: Global, reply: &Reply) -> Option<String> {
     }
 }
 
-/// Spends a hub: of each channel how many items were accepted, how many requests made, and how many of them held at the end.
-pub(crate) fn finished(rt: &impl Abort, alloc: Global, hub: Hub) -> String {
-    let totals = hub.finish().expect(rt, "totals");
+/// Spends a hub and these passes: of each channel how many items were accepted, how many requests made, and how many of them held at
+/// the end.
+pub(crate) fn finished<L: Ledgers>(
+    rt: &impl Abort,
+    alloc: Global,
+    hub: Hub<L>,
+    passes: Vec<Pass<L>>,
+) -> String {
+    let totals = hub.finish(passes).expect(rt, "totals");
     let mut text = String::new(alloc);
     for total in &totals.channels {
         let (publishes, asks, held) = (total.publishes, total.asks, total.held);
@@ -210,4 +224,15 @@ pub(crate) fn finished(rt: &impl Abort, alloc: Global, hub: Hub) -> String {
         text.push_str(told.as_str()).expect(rt, "a text");
     }
     text
+}
+
+/// Spends a hub that gave one pass: what [`finished`] tells.
+pub(crate) fn finished_with<L: Ledgers>(
+    rt: &impl Abort,
+    alloc: Global,
+    hub: Hub<L>,
+    pass: Pass<L>,
+) -> String {
+    let passes = vec![in alloc; pass].expect(rt, "passes");
+    finished(rt, alloc, hub, passes)
 }

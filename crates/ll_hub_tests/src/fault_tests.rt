@@ -1,51 +1,21 @@
 //! Calls that a hub refuses.
+ghost use Rattle.std.specs.Prelude.{◌≡◌};
+
 use crate::cases::{
-    FIRST, NOW, PART, Stopped, ask, finished, held, hub_of_one, hub_of_two, publish, seat,
+    FIRST, NOW, PART, Stopped, ask, finished_with, held, hub_of_one, hub_of_two, publish, seat,
 };
-use ll_hub::{Hub, HubAsked, HubFault, Pass};
+use ll_hub::{Blanks, Hub, HubAsked, HubFault, Ledgers, Pass};
 use std::alloc::Global;
+use std::marker::Brand;
 use std::process::Abort;
 use std::sync::Wait;
 
-/// Whose pass a call is made with.
-#[derive(Clone, Copy, Debug)]
-enum Whose {
-    /// The hub's.
-    Own,
-    /// One of a hub of one channel.
-    Narrow,
-    /// One of a hub of as many channels, which has seen two items of the first.
-    Later,
-}
-
-/// A pass for a hub of two channels.
-fn pass_of<R: Wait + Abort>(rt: &R, alloc: Global, hub: &Hub, whose: Whose) -> Pass {
-    match whose {
-        Whose::Own => seat(rt, hub),
-        Whose::Narrow => {
-            let narrow = hub_of_one(rt, alloc);
-            let pass = seat(rt, &narrow);
-            narrow.finish().expect(rt, "totals");
-            pass
-        }
-        Whose::Later => {
-            let later = hub_of_two(rt, alloc);
-            let mut pass = seat(rt, &later);
-            for _ in 0..2 {
-                assert!(rt; publish(rt, alloc, &later, &mut pass, 0, PART).is_ok());
-            }
-            later.finish().expect(rt, "totals");
-            pass
-        }
-    }
-}
-
 /// Why a request is refused, which is given up where it is held.
-fn refused<R: Wait + Abort>(
+fn refused<L: Ledgers, R: Wait + Abort>(
     rt: &R,
     alloc: Global,
-    hub: &Hub,
-    pass: &mut Pass,
+    hub: &Hub<L>,
+    pass: &mut Pass<L>,
     channel: usize,
 ) -> Option<HubFault> {
     match ask(rt, alloc, hub, &Stopped, pass, channel, NOW) {
@@ -58,49 +28,77 @@ fn refused<R: Wait + Abort>(
     }
 }
 
-/// A pass is good for the channels that its hub has, as long as they have what it has seen. A refused call changes nothing.
+/// Publishes in a channel that a hub doesn't have, and asks it: nothing happens.
+fn call_beyond<L: Ledgers, R: Wait + Abort>(rt: &R, alloc: Global, blanks: Blanks, channel: usize)
+    requires names { blanks ≡ L.names }
+    requires channels { L.channels ≡ 2 }
+{
+    let hub: Hub<L> = hub_of_two(rt, alloc, blanks);
+    let mut pass = seat(rt, &hub);
+    let published = publish(rt, alloc, &hub, &mut pass, channel, PART);
+    let asked = refused(rt, alloc, &hub, &mut pass, channel);
+    assert_eq!(rt;
+        (published, asked, (pass.seen(0), pass.seen(1))),
+        (
+            Err(HubFault::UnknownChannel),
+            Some(HubFault::UnknownChannel),
+            (Some(0), Some(0))
+        ),
+        "{channel}"
+    );
+    assert_eq!(rt;
+        finished_with(rt, alloc, hub, pass).as_str(),
+        "0 0 0;0 0 0;"
+    );
+}
+
 #[test]
-fn passes_of_other_hubs_are_refused(rt: HostRuntime) {
-    let alloc = rt.alloc();
-    let back = HubFault::WentBack { seen: 2, found: 0 };
-    for (whose, channel, fault) in [
-        (Whose::Own, 2, HubFault::UnknownChannel),
-        (Whose::Own, usize::MAX, HubFault::UnknownChannel),
-        (Whose::Narrow, 1, HubFault::Stranger),
-        (Whose::Narrow, 2, HubFault::UnknownChannel),
-        (Whose::Later, 0, back),
-        (Whose::Later, 2, HubFault::UnknownChannel),
-    ] {
-        let hub = hub_of_two(&rt, alloc);
-        let mut pass = pass_of(&rt, alloc, &hub, whose);
-        let seen = (pass.seen(0), pass.seen(1));
-        let published = publish(&rt, alloc, &hub, &mut pass, channel, PART);
-        let asked = refused(&rt, alloc, &hub, &mut pass, channel);
-        assert_eq!(rt;
-            (published, asked, (pass.seen(0), pass.seen(1))),
-            (Err(fault), Some(fault), seen),
-            "{whose:?} {channel}"
-        );
-        assert_eq!(rt; finished(&rt, alloc, hub).as_str(), "0 0 0;0 0 0;");
+fn unknown_channels_are_refused(rt: HostRuntime) {
+    for channel in [2, usize::MAX] {
+        call_beyond::<Brand, HostRuntime>(&rt, rt.alloc(), Blanks::new(), channel);
     }
+}
+
+/// Holds two requests of a channel, and waits for one and gives the other up in a hub of one channel, which doesn't hold them: why the
+/// wait is refused, and what the first hub comes to.
+fn claim_elsewhere<L: Ledgers, M: Ledgers, R: Wait + Abort>(
+    rt: &R,
+    alloc: Global,
+    blanks: Blanks,
+    others: Blanks,
+    channel: usize,
+) -> (Option<HubFault>, String)
+    requires names { blanks ≡ L.names }
+    requires channels { L.channels ≡ 2 }
+    requires other_names { others ≡ M.names }
+    requires other_channels { M.channels ≡ 1 }
+{
+    let hub: Hub<L> = hub_of_two(rt, alloc, blanks);
+    let other: Hub<M> = hub_of_one(rt, alloc, others);
+    let mut pass = seat(rt, &hub);
+    let mut theirs = seat(rt, &other);
+    let claim = held(rt, alloc, &hub, &Stopped, &mut pass, channel, FIRST);
+    let waited = other.wait(rt, &mut theirs, claim).err();
+    let claim = held(rt, alloc, &hub, &Stopped, &mut pass, channel, FIRST);
+    assert!(rt; !other.close(rt, claim));
+    assert_eq!(rt; finished_with(rt, alloc, other, theirs).as_str(), "0 0 0;");
+    (waited, finished_with(rt, alloc, hub, pass))
 }
 
 /// A claim is spent where its hub doesn't have it, too.
 #[test]
 fn claims_of_other_hubs_are_refused(rt: HostRuntime) {
-    let alloc = rt.alloc();
     for (channel, fault, expected) in [
         (0, HubFault::Stranger, "0 2 2;0 0 0;"),
         (1, HubFault::UnknownChannel, "0 0 0;0 2 2;"),
     ] {
-        let (hub, other) = (hub_of_two(&rt, alloc), hub_of_one(&rt, alloc));
-        let mut pass = seat(&rt, &hub);
-        let claim = held(&rt, alloc, &hub, &Stopped, &mut pass, channel, FIRST);
-        let waited = other.wait(&rt, &mut pass, claim);
-        assert_eq!(rt; waited.err(), Some(fault));
-        let claim = held(&rt, alloc, &hub, &Stopped, &mut pass, channel, FIRST);
-        assert!(rt; !other.close(&rt, claim));
-        assert_eq!(rt; finished(&rt, alloc, hub).as_str(), expected);
-        assert_eq!(rt; finished(&rt, alloc, other).as_str(), "0 0 0;");
+        let (waited, totals) = claim_elsewhere::<Brand, Brand, HostRuntime>(
+            &rt,
+            rt.alloc(),
+            Blanks::new(),
+            Blanks::new(),
+            channel,
+        );
+        assert_eq!(rt; (waited, totals.as_str()), (Some(fault), expected));
     }
 }

@@ -10,6 +10,8 @@ mod hub_tests;
 #[cfg(test)]
 mod link_tests;
 #[cfg(test)]
+mod record_tests;
+#[cfg(test)]
 mod socket_tests;
 #[cfg(test)]
 mod thread_tests;

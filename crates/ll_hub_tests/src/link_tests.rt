@@ -1,17 +1,21 @@
 //! Connections that fail, or take a few bytes at a time.
-use crate::cases::{SEGMENT, Stopped, Waiting, comes_to, finished, hub_of_one, publish, seat};
-use crate::wires::{ANSWER, GET, GET_FIRST, Open, Plan, SOUND, Wire};
-use ll_hub::Hub;
+ghost use Rattle.std.specs.Prelude.{◌≡◌};
+
+use crate::cases::{
+    SEGMENT, Stopped, Waiting, comes_to, finished, finished_with, hub_of_one, publish, seat,
+};
+use crate::wires::{ANSWER, Dropped, GET, GET_FIRST, LINE, Open, Plan, SOUND, Wire};
+use ll_hub::{Blanks, Hub, Ledgers, Pass};
 use ll_link::{LinkFault, Role, serve_link};
 use std::alloc::Global;
+use std::marker::Brand;
 use std::process::Abort;
 use std::sync::Wait;
 use std::sync::atomic::AtomicU64;
 use std::thread;
+use std::thread::Threads;
 
-/// What a publisher says, and what it is answered after one segment.
-const LINE: &[u8] = b"cam part hi 1000000 if\n";
-
+/// What a publisher is answered after one segment.
 const REPLIES: [&[u8]; 2] = [b"ok 2\n", b"ok 3\n"];
 
 /// What a connection came to, what was sent, and the totals of its hub.
@@ -53,16 +57,28 @@ fn two_requests(rt: &impl Abort, alloc: Global, role: Role) -> Talk {
 }
 
 /// Serves a connection on a hub of one channel, in which a segment was published.
-fn serve<R: Wait + Abort>(rt: &R, alloc: Global, role: Role, bytes: &[u8], plan: Plan) -> Served {
-    let hub = hub_of_one(rt, alloc);
+fn serve<L: Ledgers, R: Wait + Abort>(
+    rt: &R,
+    alloc: Global,
+    blanks: Blanks,
+    role: Role,
+    bytes: &[u8],
+    plan: Plan,
+) -> Served
+    requires names { blanks ≡ L.names }
+    requires channels { L.channels ≡ 1 }
+{
+    let hub: Hub<L> = hub_of_one(rt, alloc, blanks);
     let mut pass = seat(rt, &hub);
     assert!(rt; publish(rt, alloc, &hub, &mut pass, 0, SEGMENT).is_ok());
     let mut wire = Wire::new(alloc, bytes, plan);
-    let result = serve_link(rt, alloc, role, &mut wire, &Stopped, &Open, &hub, &mut pass);
+    let result = serve_link(
+        rt, alloc, role, &mut wire, &Stopped, &Open, &Dropped, &hub, &mut pass,
+    );
     Served {
         result,
         sent: wire.into_sent(),
-        totals: finished(rt, alloc, hub),
+        totals: finished_with(rt, alloc, hub, pass),
     }
 }
 
@@ -82,7 +98,7 @@ fn check<R: Wait + Abort>(
     wanted: (Result<u64, LinkFault>, usize, usize),
 ) {
     let (result, requests, sent) = wanted;
-    let found = serve(rt, alloc, talk.role, &talk.bytes, plan);
+    let found = serve::<Brand, R>(rt, alloc, Blanks::new(), talk.role, &talk.bytes, plan);
     assert_eq!(rt; found.result, result, "{:?}: {plan:?}", talk.role);
     let sent = talk.answers.get(..sent).unwrap_or(&talk.answers);
     assert!(rt; found.sent.as_slice() == sent, "{:?}: {plan:?}", talk.role);
@@ -184,57 +200,66 @@ fn writes_that_take_nothing_fail(rt: HostRuntime) {
 }
 
 /// Publishes a segment, once a request was made.
-fn publish_after<R: Wait + Abort>(rt: &R, alloc: Global, hub: &Hub, asked: &AtomicU64) {
+fn publish_after<L: Ledgers, R: Wait + Abort>(
+    rt: &R,
+    alloc: Global,
+    hub: &Hub<L>,
+    asked: &AtomicU64,
+) -> Pass<L> {
     let mut pass = seat(rt, hub);
     comes_to(asked, 1);
     assert_eq!(rt; publish(rt, alloc, hub, &mut pass, 0, SEGMENT), Ok(1));
+    pass
+}
+
+/// Serves a player whose request waits for what is published after it, where so many writes go well.
+fn serve_held<L: Ledgers + Send + Sync, R: Threads + Wait + Abort + Sync>(
+    rt: &R,
+    alloc: Global,
+    blanks: Blanks,
+    writes: usize,
+) -> Served
+    requires names { blanks ≡ L.names }
+    requires channels { L.channels ≡ 1 }
+{
+    let hub: Hub<L> = hub_of_one(rt, alloc, blanks);
+    let mut pass = seat(rt, &hub);
+    let mut wire = Wire::new(alloc, GET_FIRST, Plan { writes, ..SOUND });
+    let clock = Waiting::new(1);
+    let (result, publisher) = thread::join(
+        rt,
+        || serve_link(
+            rt,
+            alloc,
+            Role::Player,
+            &mut wire,
+            &clock,
+            &Open,
+            &Dropped,
+            &hub,
+            &mut pass,
+        ),
+        || publish_after(rt, alloc, &hub, &clock.readings),
+    );
+    let passes = vec![in alloc; pass, publisher].expect(rt, "passes");
+    Served {
+        result,
+        sent: wire.into_sent(),
+        totals: finished(rt, alloc, hub, passes),
+    }
 }
 
 /// A connection whose request was held isn't held any more, whether or not its answer could be sent.
 #[test]
 fn held_requests_are_spent(rt: HostRuntime) {
-    let alloc = rt.alloc();
     for (writes, result, sent) in [
         (0, Err(LinkFault::Write), b"".as_slice()),
         (1, Ok(1), ANSWER),
     ] {
-        let hub = hub_of_one(&rt, alloc);
-        let mut pass = seat(&rt, &hub);
-        let mut wire = Wire::new(alloc, GET_FIRST, Plan { writes, ..SOUND });
-        let clock = Waiting::new(1);
-        let (found, _published) = thread::join(
-            &rt,
-            || serve_link(
-                &rt,
-                alloc,
-                Role::Player,
-                &mut wire,
-                &clock,
-                &Open,
-                &hub,
-                &mut pass,
-            ),
-            || publish_after(&rt, alloc, &hub, &clock.readings),
+        let found = serve_held::<Brand, HostRuntime>(&rt, rt.alloc(), Blanks::new(), writes);
+        assert_eq!(rt;
+            (found.result, found.sent.as_slice(), found.totals.as_str()),
+            (result, sent, "1 1 0;")
         );
-        assert_eq!(rt; (found, wire.into_sent().as_slice()), (result, sent));
-        assert_eq!(rt; finished(&rt, alloc, hub).as_str(), "1 1 0;");
-    }
-}
-
-/// A connection that is served with a pass of another hub is ended without an answer.
-#[test]
-fn passes_of_other_hubs_end_connections(rt: HostRuntime) {
-    let alloc = rt.alloc();
-    for (role, bytes) in [(Role::Player, GET), (Role::Publisher, LINE)] {
-        let (hub, other) = (hub_of_one(&rt, alloc), hub_of_one(&rt, alloc));
-        let mut pass = seat(&rt, &other);
-        assert_eq!(rt; publish(&rt, alloc, &other, &mut pass, 0, SEGMENT), Ok(1));
-        let mut wire = Wire::new(alloc, bytes, SOUND);
-        let found = serve_link(
-            &rt, alloc, role, &mut wire, &Stopped, &Open, &hub, &mut pass,
-        );
-        assert_eq!(rt; (found, wire.into_sent().len()), (Err(LinkFault::Hub), 0));
-        assert_eq!(rt; finished(&rt, alloc, hub).as_str(), "0 0 0;");
-        assert_eq!(rt; finished(&rt, alloc, other).as_str(), "1 0 0;");
     }
 }

@@ -1,14 +1,16 @@
 //! Connections over sockets of one machine.
-ghost use Rattle.std.specs.Prelude.{None, if◌then◌else◌};
+ghost use Rattle.std.specs.Prelude.{◌≡◌, None, if◌then◌else◌};
 
 use crate::cases::{Stopped, finished, hub_of_one};
-use crate::wires::{ANSWER, GET, Open};
+use crate::wires::{ANSWER, Dropped, GET, LINE, Open};
 use ll_device::{Failed, Writer};
-use ll_hub::Hub;
+use ll_hub::{Blanks, Hub, Ledgers, Pass};
 use ll_link::{Link, Role, Source, serve_links};
 use std::alloc::Global;
 use std::io::{Read, Write};
+use std::marker::Brand;
 use std::net::{Net, Shutdown, SocketAddr, TcpListener, TcpStream};
+use std::process::Abort;
 use std::sync::Wait;
 use std::test::Fail;
 use std::thread::Threads;
@@ -126,53 +128,98 @@ fn talk<R: Net<Listener = TcpListener, Stream = TcpStream>>(
     publishers: SocketAddr,
     players: SocketAddr,
 ) -> (Option<Vec<u8>>, Option<Vec<u8>>) {
-    let published = exchanged(rt, alloc, publishers, b"cam part hi 1000000 if\n");
+    let published = exchanged(rt, alloc, publishers, LINE);
     let played = exchanged(rt, alloc, players, GET);
     (published.ok(), played.ok())
 }
 
-/// Serves one publisher and one player: whether memory was found.
-fn serve_both<R: Threads + Wait + Sync>(
+/// Serves those who come in by a door with one worker: its pass, where memory was found.
+fn admit<L: Ledgers + Send + Sync, R: Threads + Wait + Sync>(
     rt: &R,
     alloc: Global,
-    hub: &Hub,
+    hub: &Hub<L>,
+    role: Role,
+    door: &mut Door,
+) -> Vec<Pass<L>> {
+    match serve_links(rt, alloc, role, door, 1, &Stopped, &Open, &Dropped, hub) {
+        Ok(passes) => passes,
+        Err((passes, _fault)) => passes,
+    }
+}
+
+/// Serves one publisher and one player: the workers' passes.
+fn serve_both<L: Ledgers + Send + Sync, R: Threads + Wait + Abort + Sync>(
+    rt: &R,
+    alloc: Global,
+    hub: &Hub<L>,
     publishers: &mut Door,
     players: &mut Door,
-) -> bool {
-    let (fed, served) = thread::join(
+) -> Vec<Pass<L>> {
+    let (mut passes, more) = thread::join(
         rt,
-        || serve_links(
-            rt,
-            alloc,
-            Role::Publisher,
-            publishers,
-            1,
-            &Stopped,
-            &Open,
-            hub,
-        ),
-        || serve_links(rt, alloc, Role::Player, players, 1, &Stopped, &Open, hub),
+        || admit(rt, alloc, hub, Role::Publisher, publishers),
+        || admit(rt, alloc, hub, Role::Player, players),
     );
-    fed.is_ok() && served.is_ok()
+    for pass in more {
+        passes.push(pass).expect(rt, "passes");
+    }
+    passes
+}
+
+/// What a publisher and a player were sent, and the totals of their hub.
+#[derive(Drop)]
+struct Talked {
+    published: Option<Vec<u8>>,
+    played: Option<Vec<u8>>,
+    totals: String,
+}
+
+/// Serves one publisher and one player, while they talk.
+fn serve_sockets<
+    L: Ledgers + Send + Sync,
+    R: Net<Listener = TcpListener, Stream = TcpStream> + Threads + Wait + Abort + Sync,
+>(
+    rt: &R,
+    alloc: Global,
+    blanks: Blanks,
+    publishers: &mut Door,
+    players: &mut Door,
+) -> io::Result<Talked>
+    requires names { blanks ≡ L.names }
+    requires channels { L.channels ≡ 1 }
+{
+    let (lines, requests) = (publishers.address()?, players.address()?);
+    let hub: Hub<L> = hub_of_one(rt, alloc, blanks);
+    let ((published, played), passes) = thread::join(
+        rt,
+        || talk(rt, alloc, lines, requests),
+        || serve_both(rt, alloc, &hub, publishers, players),
+    );
+    Ok(Talked {
+        published,
+        played,
+        totals: finished(rt, alloc, hub, passes),
+    })
 }
 
 /// What a publisher announces over one connection, a player gets over another.
 #[test]
 fn sockets_are_served(rt: HostRuntime) -> Result<(), Fail> {
-    let alloc = rt.alloc();
     let (mut publishers, mut players) = (Door::open(&rt)?, Door::open(&rt)?);
-    let (lines, requests) = (publishers.address()?, players.address()?);
-    let hub = hub_of_one(&rt, alloc);
-    let ((published, played), served) = thread::join(
+    let found = serve_sockets::<Brand, HostRuntime>(
         &rt,
-        || talk(&rt, alloc, lines, requests),
-        || serve_both(&rt, alloc, &hub, &mut publishers, &mut players),
-    );
+        rt.alloc(),
+        Blanks::new(),
+        &mut publishers,
+        &mut players,
+    )?;
     assert_eq!(rt;
-        (finished(&rt, alloc, hub).as_str(), served),
-        ("1 1 0;", true)
+        (
+            found.published.as_deref(),
+            found.played.as_deref(),
+            found.totals.as_str()
+        ),
+        (Some(b"ok 1\n".as_slice()), Some(ANSWER), "1 1 0;")
     );
-    assert_eq!(rt; published.as_deref(), Some(b"ok 1\n".as_slice()));
-    assert_eq!(rt; played.as_deref(), Some(ANSWER));
     Ok(())
 }

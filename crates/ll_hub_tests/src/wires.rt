@@ -2,8 +2,13 @@
 ghost use Rattle.std.specs.Prelude.{◌≤◌, None, if◌then◌else◌};
 
 use ll_device::{Failed, Writer};
+use ll_hub::Sink;
 use ll_link::{Gate, Link};
+use ll_record::Chunk;
 use std::alloc::Global;
+
+/// What a publisher announces: a segment of one part.
+pub(crate) const LINE: &[u8] = b"cam part hi 1000000 if\n";
 
 /// A request after which the connection is kept.
 pub(crate) const GET: &[u8] = b"GET /cam/hi/live.m3u8 HTTP/1.1\r\nHost: h\r\n\r\n";
@@ -29,6 +34,14 @@ pub(crate) struct Open;
 
 impl Gate for Open {
     fn pass(&self, _call: u64) {}
+}
+
+/// A sink that lets its chunks go.
+#[derive(Clone, Copy)]
+pub(crate) struct Dropped;
+
+impl Sink for Dropped {
+    fn take(&self, _channel: usize, _chunk: Chunk) {}
 }
 
 /// How a connection gives and takes its bytes.

@@ -1,12 +1,13 @@
 //! Workers and the connections that they serve.
-ghost use Rattle.std.specs.Prelude.{None};
+ghost use Rattle.std.specs.Prelude.{◌≡◌, ◌≤◌, None};
 
 use crate::cases::{SEGMENT, Stopped, add_one, comes_to, finished, hub_of_one, publish, seat};
-use crate::wires::{ANSWER, GET, Open};
+use crate::wires::{ANSWER, Dropped, GET, Open};
 use ll_device::{Failed, Writer};
-use ll_hub::Hub;
+use ll_hub::{Blanks, Hub, Ledgers, Pass};
 use ll_link::{Gate, Link, Role, Source, serve_links};
 use std::alloc::Global;
+use std::marker::Brand;
 use std::process::Abort;
 use std::sync::atomic::{AtomicU64, Ordering};
 use std::sync::{Mutex, Wait};
@@ -112,84 +113,141 @@ impl Gate for Latch {
     }
 }
 
+/// Serves a connection for each box by so many workers: their passes.
+fn serve_boxes<L: Ledgers + Send + Sync, G: Gate + Sync, R: Threads + Wait + Sync>(
+    rt: &R,
+    alloc: Global,
+    hub: &Hub<L>,
+    workers: usize,
+    gate: &G,
+    boxes: &[Mutex<Vec<u8>>],
+    writes: &AtomicU64,
+) -> Vec<Pass<L>>
+    requires some { 1 ≤ workers }
+    requires most { workers ≤ 4096 }
+{
+    let mut peers = Peers { rt, boxes, writes };
+    match serve_links(
+        rt,
+        alloc,
+        Role::Player,
+        &mut peers,
+        workers,
+        &Stopped,
+        gate,
+        &Dropped,
+        hub,
+    ) {
+        Ok(passes) => passes,
+        Err((passes, _fault)) => passes,
+    }
+}
+
 /// Publishes a segment, and counts it, once an answer was sent.
-fn publish_after<R: Wait + Abort>(rt: &R, alloc: Global, hub: &Hub, latch: &Latch) {
+fn publish_after<L: Ledgers, R: Wait + Abort>(
+    rt: &R,
+    alloc: Global,
+    hub: &Hub<L>,
+    latch: &Latch,
+) -> Pass<L> {
     let mut pass = seat(rt, hub);
     comes_to(&latch.writes, 1);
     assert_eq!(rt; publish(rt, alloc, hub, &mut pass, 0, SEGMENT), Ok(2));
     add_one(&latch.published);
+    pass
 }
 
-/// Serves a connection for each box by two workers.
-fn serve_by_two<'a, R: Threads + Wait + Sync>(
-    rt: &'a R,
+/// Publishes a segment, and serves two connections by two workers while another segment is published: whether both were answered,
+/// whether the first answer was kept meanwhile, and the totals.
+fn serve_by_two<L: Ledgers + Send + Sync, R: Threads + Wait + Abort + Sync>(
+    rt: &R,
     alloc: Global,
-    hub: &Hub,
-    latch: &'a Latch,
-    boxes: &'a [Mutex<Vec<u8>>],
-) -> bool {
-    let mut peers = Peers {
+    blanks: Blanks,
+) -> (bool, u64, String)
+    requires names { blanks ≡ L.names }
+    requires channels { L.channels ≡ 1 }
+{
+    let hub: Hub<L> = hub_of_one(rt, alloc, blanks);
+    let mut pass = seat(rt, &hub);
+    assert_eq!(rt; publish(rt, alloc, &hub, &mut pass, 0, SEGMENT), Ok(1));
+    let boxes = boxes(rt, alloc, 2);
+    let latch = Latch::new();
+    let (mut passes, publisher) = thread::join(
         rt,
-        boxes,
-        writes: &latch.writes,
-    };
-    serve_links(rt, alloc, Role::Player, &mut peers, 2, &Stopped, latch, hub).is_ok()
+        || serve_boxes(rt, alloc, &hub, 2, &latch, &boxes, &latch.writes),
+        || publish_after(rt, alloc, &hub, &latch),
+    );
+    passes.push(pass).expect(rt, "passes");
+    passes.push(publisher).expect(rt, "passes");
+    (
+        are_answered(rt, &boxes),
+        latch.met.load(Ordering::SeqCst),
+        finished(rt, alloc, hub, passes),
+    )
 }
 
 /// While one connection is kept, another gets its answer, and an item is published.
 #[test]
 fn connections_share_no_worker(rt: HostRuntime) {
-    let alloc = rt.alloc();
-    let hub = hub_of_one(&rt, alloc);
-    let mut pass = seat(&rt, &hub);
-    assert_eq!(rt; publish(&rt, alloc, &hub, &mut pass, 0, SEGMENT), Ok(1));
-    let boxes = boxes(&rt, alloc, 2);
-    let latch = Latch::new();
-    let (served, _published) = thread::join(
+    let (answered, met, totals) = serve_by_two::<Brand, HostRuntime>(
         &rt,
-        || serve_by_two(&rt, alloc, &hub, &latch, &boxes),
-        || publish_after(&rt, alloc, &hub, &latch),
+        rt.alloc(),
+        Blanks::new(),
     );
-    assert!(rt; served && are_answered(&rt, &boxes));
-    assert_eq!(rt; latch.met.load(Ordering::SeqCst), 1);
-    assert_eq!(rt; finished(&rt, alloc, hub).as_str(), "2 2 0;");
+    assert_eq!(rt; (answered, met, totals.as_str()), (true, 1, "2 2 0;"));
 }
 
-/// Each connection is served, whether there are more of them than workers, or fewer.
+/// Publishes a segment, and serves so many connections by so many workers: how many of their passes come back, whether each connection
+/// was answered, and the totals.
+fn serve_all<L: Ledgers + Send + Sync, R: Threads + Wait + Abort + Sync>(
+    rt: &R,
+    alloc: Global,
+    blanks: Blanks,
+    workers: usize,
+    links: usize,
+) -> (usize, bool, String)
+    requires names { blanks ≡ L.names }
+    requires channels { L.channels ≡ 1 }
+    requires some { 1 ≤ workers }
+    requires most { workers ≤ 4096 }
+{
+    let hub: Hub<L> = hub_of_one(rt, alloc, blanks);
+    let mut pass = seat(rt, &hub);
+    assert_eq!(rt; publish(rt, alloc, &hub, &mut pass, 0, SEGMENT), Ok(1));
+    let boxes = boxes(rt, alloc, links);
+    let writes = AtomicU64::new(0);
+    let mut passes = serve_boxes(rt, alloc, &hub, workers, &Open, &boxes, &writes);
+    let returned = passes.len();
+    passes.push(pass).expect(rt, "passes");
+    (
+        returned,
+        are_answered(rt, &boxes),
+        finished(rt, alloc, hub, passes),
+    )
+}
+
+/// Each connection is served and each worker's pass comes back, whether there are more connections than workers, or fewer, or none.
 #[test]
 fn drops_no_link(rt: HostRuntime) {
-    let alloc = rt.alloc();
     for (workers, links, totals) in [
         (1, 0, "1 0 0;"),
+        (2, 0, "1 0 0;"),
         (1, 5, "1 5 0;"),
         (2, 1, "1 1 0;"),
         (2, 2, "1 2 0;"),
         (3, 20, "1 20 0;"),
     ] {
-        let hub = hub_of_one(&rt, alloc);
-        let mut pass = seat(&rt, &hub);
-        assert_eq!(rt; publish(&rt, alloc, &hub, &mut pass, 0, SEGMENT), Ok(1));
-        let boxes = boxes(&rt, alloc, links);
-        let writes = AtomicU64::new(0);
-        let mut peers = Peers {
-            rt: &rt,
-            boxes: &boxes,
-            writes: &writes,
-        };
-        let served = serve_links(
+        let (passes, answered, found) = serve_all::<Brand, HostRuntime>(
             &rt,
-            alloc,
-            Role::Player,
-            &mut peers,
+            rt.alloc(),
+            Blanks::new(),
             workers,
-            &Stopped,
-            &Open,
-            &hub,
+            links,
         );
-        assert!(rt;
-            served.is_ok() && are_answered(&rt, &boxes),
+        assert_eq!(rt;
+            (passes, answered, found.as_str()),
+            (workers, true, totals),
             "{workers} workers, {links} links"
         );
-        assert_eq!(rt; finished(&rt, alloc, hub).as_str(), totals);
     }
 }

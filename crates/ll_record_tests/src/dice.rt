@@ -1,0 +1,37 @@
+//! Numbers that look random, and are the same at each run.
+ghost use Rattle.std.specs.Prelude.{◌<◌, length};
+
+/// A linear congruence: each number comes from the one before.
+#[derive(Drop)]
+pub(crate) struct Dice {
+    state: u64,
+}
+
+impl Dice {
+    /// The dice of this number.
+    pub(crate) fn new(seed: u64) -> Dice {
+        // Numbers that follow each other start far apart.
+        Dice {
+            state: seed.wrapping_mul(0x9e37_79b9_7f4a_7c15),
+        }
+    }
+
+    /// A number from 0 on, below that of the sides.
+    pub(crate) fn roll(&mut self, sides: u64) -> u64
+        requires { 0 < sides }
+        ensures { result < sides }
+    {
+        let next = self.state.wrapping_mul(6_364_136_223_846_793_005);
+        self.state = next.wrapping_add(1_442_695_040_888_963_407);
+        // The low bits repeat too soon.
+        (self.state >> 33) % sides
+    }
+
+    /// One of these.
+    pub(crate) fn pick(&mut self, words: &[&'static str]) -> &'static str
+        requires { 0 < length words.now }
+    {
+        let place = self.roll(words.len() as u64);
+        words[place as usize]
+    }
+}

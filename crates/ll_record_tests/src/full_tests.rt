@@ -1,0 +1,125 @@
+//! Records that are full.
+use crate::cases::{keep, recorder, spend};
+use ll_directive::read_target;
+use ll_item::Item;
+use ll_record::Recorder;
+use ll_room::{AskFault, Asked, Closed, Stored};
+use ll_verdict::{PublishFault, Reply};
+use std::alloc::Global;
+use std::process::Abort;
+
+const CHANNEL: &str =
+    "channel cam target=4 part=1000000 skip=24 window=36 renditions=hi,lo first=0 start=0";
+
+/// How many items, requests and readings a record holds.
+const HELD: u64 = 65_536;
+
+/// How many entries the record has that is handed out.
+fn rotated(rt: &impl Abort, recorder: &mut Recorder) -> u64 {
+    recorder.rotate().expect(rt, "memory").entries()
+}
+
+/// What a part gets that is published: how many items the channel has then accepted.
+fn published(rt: &impl Abort, alloc: Global, recorder: &mut Recorder) -> Result<u64, PublishFault> {
+    let line = "part hi 1000000 if";
+    let item = Item::read(alloc, recorder.room().settings(), line).expect(rt, "an item");
+    match recorder.publish(item) {
+        Ok(count) => Ok(*count.get()),
+        Err(fault) => Err(fault),
+    }
+}
+
+/// What a request for the first segment gets. One that is held is kept.
+fn asked(
+    rt: &impl Abort,
+    alloc: Global,
+    recorder: &mut Recorder,
+    kept: &mut Vec<Stored>,
+) -> Result<&'static str, AskFault> {
+    let target = "/cam/hi/live.m3u8?_HLS_msn=0";
+    let want = read_target(alloc, target.as_bytes()).expect(rt, "a target");
+    match recorder.ask(want) {
+        Ok(Asked::Held(parked)) => {
+            keep(rt, kept, parked);
+            Ok("Held")
+        }
+        Ok(Asked::Now(reply)) => match reply.get() {
+            Reply::Busy => Ok("Busy"),
+            _ => Ok("another reply"),
+        },
+        Err(fault) => Err(fault),
+    }
+}
+
+/// Gives up the request that was kept last.
+fn close_last(rt: &impl Abort, recorder: &mut Recorder, kept: &mut Vec<Stored>) {
+    if let Some(one) = kept.pop() {
+        match recorder.close(one.into_parked()) {
+            Closed::Done => {}
+            Closed::Stranger(_parked) => panic!(rt; "it is held elsewhere"),
+        }
+    }
+}
+
+/// What an item, a request and a reading get, which come in this order.
+fn each(rt: &impl Abort, alloc: Global, recorder: &mut Recorder, kept: &mut Vec<Stored>) -> String {
+    let item = published(rt, alloc, recorder);
+    let request = asked(rt, alloc, recorder, kept);
+    let reading = recorder.clock(HELD);
+    format!(in alloc; "{item:?} {request:?} {reading:?}").expect(rt, "memory")
+}
+
+/// A recorder whose record is full of readings of the clock.
+fn full_of_readings(rt: &impl Abort, alloc: Global) -> Recorder {
+    let mut recorder = recorder(rt, alloc, CHANNEL);
+    for ms in 0..HELD {
+        recorder.clock(ms).expect(rt, "the record isn't full");
+    }
+    recorder
+}
+
+#[test]
+fn full_record_refuses_until_handed_out(rt: HostRuntime) {
+    let alloc = rt.alloc();
+    let mut kept = Vec::new(alloc);
+    let mut recorder = full_of_readings(&rt, alloc);
+    let refused = each(&rt, alloc, &mut recorder, &mut kept);
+    let entries = rotated(&rt, &mut recorder);
+    let accepted = published(&rt, alloc, &mut recorder);
+    spend(&rt, kept, &recorder);
+    assert_eq!(rt;
+        (refused.as_str(), entries, accepted),
+        (
+            "Err(RecordFull) Err(RecordFull) Err(RecordFull)",
+            HELD,
+            Ok(1)
+        )
+    );
+}
+
+/// A recorder whose record is full of requests that are held.
+fn full_of_requests(rt: &impl Abort, alloc: Global, kept: &mut Vec<Stored>) -> Recorder {
+    let mut recorder = recorder(rt, alloc, CHANNEL);
+    for _ in 0..HELD {
+        asked(rt, alloc, &mut recorder, kept).expect(rt, "the record isn't full");
+    }
+    recorder
+}
+
+/// As many requests as a record holds are as many as may be held in a channel.
+#[test]
+fn full_record_of_held_requests(rt: HostRuntime) {
+    let alloc = rt.alloc();
+    let mut kept = Vec::new(alloc);
+    let mut recorder = full_of_requests(&rt, alloc, &mut kept);
+    let full = asked(&rt, alloc, &mut recorder, &mut kept);
+    let entries = rotated(&rt, &mut recorder);
+    let busy = asked(&rt, alloc, &mut recorder, &mut kept);
+    close_last(&rt, &mut recorder, &mut kept);
+    let held = asked(&rt, alloc, &mut recorder, &mut kept);
+    spend(&rt, kept, &crate::cases::recorder(&rt, alloc, CHANNEL));
+    assert_eq!(rt;
+        (full, entries, busy, held),
+        (Err(AskFault::RecordFull), HELD, Ok("Busy"), Ok("Held"))
+    );
+}
