@@ -31,6 +31,7 @@ bench: kit
 	@$(HERE)bench/waiting.sh
 	@$(HERE)bench/connections.sh
 	@$(HERE)bench/serve.sh
+	@$(HERE)bench/rotate.sh
 
 .PHONY: kit
 kit:

@@ -2,7 +2,7 @@
 # Proves every crate from nothing, runs the crates' tests, and then each row of tests/rows: as `rt try --cases` builds the
 # program, with checks, and on the proved program, as each compiler of the toolchain builds it; then, on the proved program once,
 # devices that give and take a few bytes at a time, large inputs, mutated playlists, mutated records, the bytes of connections cut in every way, mutated heads,
-# and the server with real sockets. The last line is the sum.
+# the server with real sockets, and its records. The last line is the sum.
 set -u
 cd "$(dirname "${BASH_SOURCE[0]}")/.." || exit 2
 log=$(mktemp) || exit 2
@@ -43,5 +43,6 @@ add tests/mutated_records.sh crates/llhls/out/llhls
 add tests/connections.sh crates/llhls/out/llhls
 add tests/mutated_heads.sh crates/llhls/out/llhls
 add tests/serve.sh crates/llhls/out/llhls
+add tests/record.sh crates/llhls/out/llhls
 echo "$passed passed, $failed failed"
 [ "$failed" = 0 ]

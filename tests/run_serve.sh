@@ -1,5 +1,5 @@
 #!/usr/bin/env bash
-# run_serve.sh PROGRAM: starts `llhls serve` on loopback with examples/serve.settings, on two ports that are free in place of the two that stand there;
+# run_serve.sh PROGRAM: starts `llhls serve` on loopback with examples/serve.settings, on two ports that are free in place of the two that stand there, with its record in a folder that is removed;
 # publishes the part of examples/first.script, holds a request for the next part, publishes that, shows what the player got, and stops the
 # server. The playlist is to be the one that `llhls replay` writes for the same events.
 set -u
@@ -19,7 +19,7 @@ fail() {
 if [ ! -x "$program" ]; then
     fail "$1 is no program"
 fi
-sed 's/^\(listen\|publish\) 127\.0\.0\.1:[0-9]*$/\1 127.0.0.1:0/' "$root/examples/serve.settings" >"$room/settings"
+sed -e 's/^\(listen\|publish\) 127\.0\.0\.1:[0-9]*$/\1 127.0.0.1:0/' -e "s|^record |&$room/|" "$root/examples/serve.settings" >"$room/settings"
 : >"$room/log"
 "$program" serve "$room/settings" 2>>"$room/log" &
 server=$!

@@ -409,7 +409,13 @@ done <<END
 4 $three
 4 $three\n$cam\n
 4 ${three}channel cam\n
-4 ${three}record llhls.record\n$cam\n
+4 ${three}record\n$cam\n
+4 ${three}record \n$cam\n
+4 ${three}record \\xff\n$cam\n
+3 ${both}record a\nworkers 4\n$cam\n
+5 ${three}record a\nrecord b\n$cam\n
+5 ${three}$cam\nrecord a\n
+5 ${three}record a\n
 4 ${three}channel cam target=4 part=1000000 skip=23 window=36 renditions=hi first=0 start=0\n
 4 ${three}channel CAM target=4 part=1000000 skip=24 window=36 renditions=hi first=0 start=0\n
 4 ${three}\\xff\n

@@ -1,0 +1,139 @@
+"""What tests/record.sh runs.
+
+record.py load PLAYERS PUBLISHERS FOLDER: publishes on the channels cam and two, by a connection each, while players ask on connections of their own;
+writes the item lines that were accepted to FOLDER/published.cam and FOLDER/published.two.
+
+record.py places PROGRAM FILE SEED COUNT: changes one byte of a record at so many places, and has each checked. The last line is `N passed, M failed`.
+"""
+import http.client
+import random
+import re
+import socket
+import subprocess
+import sys
+import threading
+import time
+
+CHANNELS = ["cam", "two"]
+PARTS = 300  # at least, on each channel
+SEGMENT = 4  # parts
+PLAYERS = 200
+REQUESTS = 10  # of each player
+SECONDS = 30  # for any answer
+
+
+class Channel:
+    """How many parts a channel has, and whether its publisher is to go on."""
+
+    def __init__(self, name):
+        self.name = name
+        self.parts = 0
+
+
+def part(number):
+    """The item line of a channel's part of this number, from 0."""
+    kind = {0: "i", SEGMENT - 1: "f"}.get(number % SEGMENT, "-")
+    return f"part hi 1000000 {kind}"
+
+
+def publish(port, channel, folder, asking):
+    """Publishes until there are enough parts and nobody asks any more."""
+    link = socket.create_connection(("127.0.0.1", port), timeout=SECONDS)
+    answers = link.makefile("rb")
+    with open(f"{folder}/published.{channel.name}", "w") as published:
+        while channel.parts < PARTS or any(player.is_alive() for player in asking):
+            line = part(channel.parts)
+            link.sendall(f"{channel.name} {line}\n".encode())
+            answer = answers.readline().decode()
+            channel.parts += 1
+            if answer != f"ok {channel.parts}\n":
+                raise RuntimeError(f"part {channel.parts} of {channel.name} is answered {answer!r}")
+            published.write(line + "\n")
+            time.sleep(0.004)
+
+
+def wanted(channel, draw):
+    """A target, and the status of its answer."""
+    at = f"/{channel.name}/hi/live.m3u8"
+    segment = channel.parts // SEGMENT
+    return draw.choice([
+        (at, 200),
+        (f"{at}?_HLS_skip=YES", 200),
+        (f"{at}?_HLS_msn={segment}&_HLS_part=1", 200),
+        (f"{at}?_HLS_msn={segment + 1}", 200),
+        (f"{at}?_HLS_msn={segment + 1}&_HLS_part=0&_HLS_skip=YES", 200),
+        (f"{at}?_HLS_msn={segment + 1000}", 400),
+        (f"/{channel.name}/lo/live.m3u8", 200),
+    ])
+
+
+def ask(port, channels, seed):
+    """Asks again and again on one connection; some hang up while they wait."""
+    draw = random.Random(seed)
+    link = http.client.HTTPConnection("127.0.0.1", port, timeout=SECONDS)
+    for _ in range(REQUESTS):
+        target, status = wanted(draw.choice(channels), draw)
+        link.request("GET", target)
+        answer = link.getresponse()
+        body = answer.read()
+        if answer.status != status:
+            raise RuntimeError(f"{target} is answered {answer.status}: {body[:80]!r}")
+    channel = channels[seed % len(channels)]
+    link.request("GET", f"/{channel.name}/hi/live.m3u8?_HLS_msn={channel.parts // SEGMENT + 1}")
+    if seed % 4 == 0:
+        link.close()
+    else:
+        link.getresponse().read()
+
+
+def load(players_port, publishers_port, folder):
+    """Runs publishers and players at once; what goes wrong in any of them ends in status 1."""
+    wrong = []
+    threading.excepthook = lambda failed: wrong.append(failed.exc_value)
+    channels = [Channel(name) for name in CHANNELS]
+    players = [threading.Thread(target=ask, args=(players_port, channels, seed)) for seed in range(PLAYERS)]
+    publishers = [threading.Thread(target=publish, args=(publishers_port, channel, folder, players)) for channel in channels]
+    for thread in players + publishers:
+        thread.start()
+    for thread in players + publishers:
+        thread.join()
+    for error in wrong:
+        print(error)
+    return 1 if wrong else 0
+
+
+def check(program, file):
+    """What `check` says of a file: its status, standard output and standard error."""
+    done = subprocess.run([program, "check", file], stdin=subprocess.DEVNULL, capture_output=True, timeout=SECONDS)
+    return done.returncode, done.stdout.decode(), done.stderr.decode()
+
+
+def places(program, file, seed, count):
+    """Each change is found, or changes nothing that the record tells."""
+    with open(file, "rb") as record:
+        text = record.read()
+    right = check(program, file)
+    draw = random.Random(seed)
+    failed = 0 if right[0] == 0 else count
+    print(f"seed {seed}: {count} places of {len(text)} bytes")
+    for _ in range(count - failed):
+        at = draw.randrange(len(text))
+        byte = draw.choice([b for b in b"0179 -\",\r\n\xffxyPAGC#" if b != text[at]])
+        with open(f"{file}.changed", "wb") as changed:
+            changed.write(text[:at] + bytes([byte]) + text[at + 1:])
+        said = check(program, f"{file}.changed")
+        if said != right and not (said[0] == 3 and said[2] == ""
+                                  and re.fullmatch(r"bad [1-9][0-9]* (BadChunk|Gap|OtherChannel|Refused|WrongReply)\n", said[1])):
+            failed += 1
+            print(f"FAILED byte {at} changed to {byte}: {said}")
+    print(f"{count - failed} passed, {failed} failed")
+    return 1 if failed else 0
+
+
+def main(words):
+    if words[0] == "load":
+        return load(int(words[1]), int(words[2]), words[3])
+    return places(words[1], words[2], int(words[3]), int(words[4]))
+
+
+sys.exit(main(sys.argv[1:]))

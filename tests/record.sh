@@ -1,0 +1,182 @@
+#!/usr/bin/env bash
+# record.sh PROGRAM: `llhls serve` with a line `record` in its settings, on real sockets. Two channels are published, asked and waited for at once; then
+# `llhls check` is to find their records right, and each with the items that were published. A byte of one is changed at a thousand places: `check` is to
+# find it, where the byte tells anything. Then come files that can't be opened or written. The last line is `N passed, M failed`.
+set -u
+export LC_ALL=C
+here=$(cd "$(dirname "${BASH_SOURCE[0]}")" && pwd) || exit 2
+program=$(realpath -- "$1")
+if [ ! -x "$program" ]; then
+    echo "$1 is no program"
+    echo "0 passed, 1 failed"
+    exit 1
+fi
+room=$(mktemp -d) || exit 2
+log=$room/log
+server=
+trap 'stop; rm -rf "$room"' EXIT
+passed=0
+failed=0
+# Within so many seconds, and some to spare, the server hands out each record.
+handed_out=20
+
+cam='channel cam target=4 part=1000000 skip=24 window=36 renditions=hi,lo first=0 start=0'
+part='part hi 1000000 -'
+
+# start PATH NAME..: starts the server with records at this path and channels of these names, and waits until both ports are told.
+start() {
+    local path=$1 tries name
+    shift
+    printf '%s\n' 'listen 127.0.0.1:0' 'publish 127.0.0.1:0' 'workers 256' "record $path" >"$room/settings"
+    for name in "$@"; do
+        echo "${cam/ cam / $name }" >>"$room/settings"
+    done
+    : >"$log"
+    "$program" serve "$room/settings" >"$room/stdout" 2>>"$log" &
+    server=$!
+    for ((tries = 0; tries < 200; tries++)); do
+        port=$(sed -n 's/^llhls: players on 127\.0\.0\.1:\([0-9]*\)$/\1/p' "$log")
+        publish_port=$(sed -n 's/^llhls: publishers on 127\.0\.0\.1:\([0-9]*\)$/\1/p' "$log")
+        if [ -n "$port" ] && [ -n "$publish_port" ]; then
+            return 0
+        fi
+        sleep 0.05
+    done
+    echo "it isn't up after 10 s"
+    return 1
+}
+
+stop() {
+    if [ -n "$server" ]; then
+        kill "$server" 2>/dev/null
+        wait "$server" 2>/dev/null
+    fi
+    server=
+}
+
+# try NAME WORDS..: runs a test; what it says, and the server, stand where it failed.
+try() {
+    if "$@" >"$room/said" 2>&1; then
+        passed=$((passed + 1))
+    else
+        failed=$((failed + 1))
+        echo "FAILED $*: $(head -c 2000 "$room/said")"
+        head -c 1000 "$log"
+    fi
+    stop
+}
+
+# items FILE: the item lines of a record.
+items() {
+    sed -n 's/^P //p' "$1"
+}
+
+# wait_for FILE COUNT: waits until a record has so many items.
+wait_for() {
+    local tries
+    for ((tries = 0; tries < handed_out * 10; tries++)); do
+        if [ -e "$1" ] && [ "$(grep -c '^P ' "$1")" -ge "$2" ]; then
+            return 0
+        fi
+        sleep 0.1
+    done
+    echo "${1##*/} hasn't $2 items after $handed_out s"
+    return 1
+}
+
+# is_right FILE: `check` finds as many entries in a record as it has.
+is_right() {
+    local said
+    said=$("$program" check "$1" 2>&1)
+    [ "$said" = "ok $(grep -c '^[PACGX] ' "$1")" ] || { echo "${1##*/}: $said"; return 1; }
+}
+
+# publish LINE ANSWER: a publisher with a connection of its own.
+publish() {
+    local publisher answer
+    exec {publisher}<>"/dev/tcp/127.0.0.1/$publish_port" || return 1
+    echo "$1" >&"$publisher"
+    read -r -t 10 answer <&"$publisher"
+    exec {publisher}>&-
+    [ "$answer" = "$2" ] || { echo "$1 is answered '$answer'"; return 1; }
+}
+
+# is_served NAME: a player gets a playlist of this channel.
+is_served() {
+    local player
+    exec {player}<>"/dev/tcp/127.0.0.1/$port" || return 1
+    printf 'GET /%s/hi/live.m3u8 HTTP/1.1\r\nHost: a\r\nConnection: close\r\n\r\n' "$1" >&"$player"
+    timeout 10 cat <&"$player" | grep -q '^#EXT-X-PRELOAD-HINT' || { echo "a player of $1 isn't served"; return 1; }
+    exec {player}>&-
+}
+
+# told NAME COUNT: so many lines of standard error tell of this channel's record.
+told() {
+    local count
+    count=$(grep -c "^llhls: record: $1: ." "$log")
+    [ "$count" = "$2" ] || { echo "$count lines tell of the record of $1"; return 1; }
+}
+
+publishes_and_asks() {
+    local name
+    start "$room/kept" cam two || return 1
+    python3 "$here/record.py" load "$port" "$publish_port" "$room" || return 1
+    for name in cam two; do
+        wait_for "$room/kept.$name" "$(wc -l <"$room/published.$name")" || return 1
+    done
+    told cam 0 && told two 0
+}
+
+# has_all NAME: the record of a channel is right, has the items that were published, in order, and requests of each kind.
+has_all() {
+    local record=$room/kept.$1
+    is_right "$record" || return 1
+    items "$record" | cmp - "$room/published.$1" || return 1
+    [ "$(grep -c '^A ' "$record")" -ge 800 ] || { echo "too few requests"; return 1; }
+    [ "$(grep -c '^A .* held$' "$record")" -ge 100 ] || { echo "too few that wait"; return 1; }
+    [ "$(grep -c '^G .* text ' "$record")" -ge 100 ] || { echo "too few that have waited"; return 1; }
+}
+
+# The record of `open` isn't there and can't be made, that of `full` can't be written; that of `kept` is right. All three are served. Each fault is told
+# once, also where a later chunk would find it again.
+files_that_fail() {
+    local name number
+    ln -s none/there "$room/bad.open" && ln -s /dev/full "$room/bad.full" || return 1
+    start "$room/bad" open full kept || return 1
+    told open 1 && told full 0 && told kept 0 || return 1
+    for number in 1 2; do
+        for name in open full kept; do
+            publish "$name $part" "ok $number" && is_served "$name" || return 1
+        done
+        wait_for "$room/bad.kept" "$number" || return 1
+        sleep 1
+        for name in open full; do
+            told "$name" 1 || return 1
+        done
+    done
+    told kept 0 && is_right "$room/bad.kept"
+}
+
+no_folder() {
+    start "$room/none/kept" cam two || return 1
+    told cam 1 && told two 1 && publish "cam $part" 'ok 1' && is_served cam
+}
+
+try publishes_and_asks
+try has_all cam
+try has_all two
+if python3 "$here/record.py" places "$program" "$room/kept.cam" 1 1000 >"$room/said" 2>&1; then
+    head -n 1 "$room/said"
+else
+    head -c 5000 "$room/said"
+fi
+if [[ $(tail -n 1 "$room/said") =~ ^([0-9]+)\ passed,\ ([0-9]+)\ failed$ ]]; then
+    passed=$((passed + BASH_REMATCH[1]))
+    failed=$((failed + BASH_REMATCH[2]))
+else
+    failed=$((failed + 1))
+fi
+try files_that_fail
+try no_folder
+echo "$passed passed, $failed failed"
+[ "$failed" = 0 ]
