@@ -7,7 +7,7 @@ use std::alloc::AllocError;
 use thiserror::Error;
 
 /// What a publisher announces.
-#[derive(Debug, Drop)]
+#[derive(Debug, Drop, PartialEq)]
 pub enum Item {
     /// The next part of a rendition (EXT-X-PART, section 4.4.4.9).
     Part {
