@@ -3,67 +3,20 @@
 # `llhls check` is to find their records right, and each with the items that were published. A byte of one is changed at a thousand places: `check` is to
 # find it, where the byte tells anything. Then come files that can't be opened or written. The last line is `N passed, M failed`.
 set -u
-export LC_ALL=C
-here=$(cd "$(dirname "${BASH_SOURCE[0]}")" && pwd) || exit 2
-program=$(realpath -- "$1")
-if [ ! -x "$program" ]; then
-    echo "$1 is no program"
-    echo "0 passed, 1 failed"
-    exit 1
-fi
-room=$(mktemp -d) || exit 2
-log=$room/log
-server=
-trap 'stop; rm -rf "$room"' EXIT
-passed=0
-failed=0
+. "$(dirname "${BASH_SOURCE[0]}")/server.sh" "$1" || exit 2
 # Within so many seconds, and some to spare, the server hands out each record.
 handed_out=20
 
-cam='channel cam target=4 part=1000000 skip=24 window=36 renditions=hi,lo first=0 start=0'
 part='part hi 1000000 -'
 
-# start PATH NAME..: starts the server with records at this path and channels of these names, and waits until both ports are told.
+# start PATH NAME..: starts the server with records at this path and channels of these names.
 start() {
-    local path=$1 tries name
+    local path=$1 name lines=()
     shift
-    printf '%s\n' 'listen 127.0.0.1:0' 'publish 127.0.0.1:0' 'workers 256' "record $path" >"$room/settings"
     for name in "$@"; do
-        echo "${cam/ cam / $name }" >>"$room/settings"
+        lines+=("${cam/ cam / $name }")
     done
-    : >"$log"
-    "$program" serve "$room/settings" >"$room/stdout" 2>>"$log" &
-    server=$!
-    for ((tries = 0; tries < 200; tries++)); do
-        port=$(sed -n 's/^llhls: players on 127\.0\.0\.1:\([0-9]*\)$/\1/p' "$log")
-        publish_port=$(sed -n 's/^llhls: publishers on 127\.0\.0\.1:\([0-9]*\)$/\1/p' "$log")
-        if [ -n "$port" ] && [ -n "$publish_port" ]; then
-            return 0
-        fi
-        sleep 0.05
-    done
-    echo "it isn't up after 10 s"
-    return 1
-}
-
-stop() {
-    if [ -n "$server" ]; then
-        kill "$server" 2>/dev/null
-        wait "$server" 2>/dev/null
-    fi
-    server=
-}
-
-# try NAME WORDS..: runs a test; what it says, and the server, stand where it failed.
-try() {
-    if "$@" >"$room/said" 2>&1; then
-        passed=$((passed + 1))
-    else
-        failed=$((failed + 1))
-        echo "FAILED $*: $(head -c 2000 "$room/said")"
-        head -c 1000 "$log"
-    fi
-    stop
+    serve 'workers 256' "record $path" "${lines[@]}"
 }
 
 # items FILE: the item lines of a record.
@@ -89,25 +42,6 @@ is_right() {
     local said
     said=$("$program" check "$1" 2>&1)
     [ "$said" = "ok $(grep -c '^[PACGX] ' "$1")" ] || { echo "${1##*/}: $said"; return 1; }
-}
-
-# publish LINE ANSWER: a publisher with a connection of its own.
-publish() {
-    local publisher answer
-    exec {publisher}<>"/dev/tcp/127.0.0.1/$publish_port" || return 1
-    echo "$1" >&"$publisher"
-    read -r -t 10 answer <&"$publisher"
-    exec {publisher}>&-
-    [ "$answer" = "$2" ] || { echo "$1 is answered '$answer'"; return 1; }
-}
-
-# is_served NAME: a player gets a playlist of this channel.
-is_served() {
-    local player
-    exec {player}<>"/dev/tcp/127.0.0.1/$port" || return 1
-    printf 'GET /%s/hi/live.m3u8 HTTP/1.1\r\nHost: a\r\nConnection: close\r\n\r\n' "$1" >&"$player"
-    timeout 10 cat <&"$player" | grep -q '^#EXT-X-PRELOAD-HINT' || { echo "a player of $1 isn't served"; return 1; }
-    exec {player}>&-
 }
 
 # told NAME COUNT: so many lines of standard error tell of this channel's record.
@@ -178,5 +112,4 @@ else
 fi
 try files_that_fail
 try no_folder
-echo "$passed passed, $failed failed"
-[ "$failed" = 0 ]
+told_all

@@ -3,52 +3,18 @@
 # the same bytes on each connection. Then come crowds, peers that are slow, silent, cut off or gone, ports and files that can't be had, and each fault
 # of a settings file. With SLOW=1 also what takes the 30 seconds of a silent peer. The last line is `N passed, M failed`.
 set -u
-export LC_ALL=C
-here=$(cd "$(dirname "${BASH_SOURCE[0]}")" && pwd) || exit 2
-program=$(realpath -- "$1")
-room=$(mktemp -d) || exit 2
-log=$room/log
-server=
+. "$(dirname "${BASH_SOURCE[0]}")/server.sh" "$1" || exit 2
 peers=()
-trap 'stop; rm -rf "$room"' EXIT
-passed=0
-failed=0
-
-if [ ! -x "$program" ]; then
-    echo "$1 is no program"
-    echo "0 passed, 1 failed"
-    exit 1
-fi
 "${CC:-cc}" -O2 -Wall -Wextra -Werror -o "$room/follow" "$here/follow.c" || exit 2
 
-cam='channel cam target=4 part=1000000 skip=24 window=36 renditions=hi,lo first=0 start=0'
 present='/cam/hi/live.m3u8'
 next='/cam/hi/live.m3u8?_HLS_msn=0&_HLS_part=0'
 part='cam part hi 1000000 -'
 
-# start WORKERS CHANNEL..: starts the server with these channel lines, and waits until both ports are told. FILES limits its open files.
+# start WORKERS CHANNEL..: starts the server with these channel lines.
 start() {
-    local workers=$1 tries
-    shift
-    printf '%s\n' 'listen 127.0.0.1:0' 'publish 127.0.0.1:0' "workers $workers" "$@" >"$room/settings"
-    : >"$log"
-    (
-        if [ -n "${FILES-}" ]; then
-            ulimit -n "$FILES"
-        fi
-        exec "$program" serve "$room/settings"
-    ) >"$room/stdout" 2>>"$log" &
-    server=$!
-    for ((tries = 0; tries < 200; tries++)); do
-        port=$(sed -n 's/^llhls: players on 127\.0\.0\.1:\([0-9]*\)$/\1/p' "$log")
-        publish_port=$(sed -n 's/^llhls: publishers on 127\.0\.0\.1:\([0-9]*\)$/\1/p' "$log")
-        if [ -n "$port" ] && [ -n "$publish_port" ]; then
-            return 0
-        fi
-        sleep 0.05
-    done
-    echo "it isn't up after 10 s"
-    return 1
+    hang_up
+    serve "workers $1" "${@:2}"
 }
 
 # connect PORT: opens a connection, `peer`, that `hang_up` closes.
@@ -63,56 +29,6 @@ hang_up() {
         exec {each}>&-
     done
     peers=()
-}
-
-stop() {
-    hang_up
-    if [ -n "$server" ]; then
-        kill "$server" 2>/dev/null
-        wait "$server" 2>/dev/null
-    fi
-    server=
-}
-
-# try NAME WORDS..: runs a test; what it says, and the server, stand where it failed.
-try() {
-    if "$@" >"$room/said" 2>&1; then
-        passed=$((passed + 1))
-    else
-        failed=$((failed + 1))
-        echo "FAILED $*: $(head -c 2000 "$room/said")"
-        head -c 1000 "$log"
-    fi
-    stop
-}
-
-# request TARGET [FIELD]: a head.
-request() {
-    printf 'GET %s HTTP/1.1\r\nHost: a\r\n%s\r\n' "$1" "${2+$2$'\r\n'}"
-}
-
-# ask TARGET: prints the whole response, on a connection of its own that isn't kept.
-ask() {
-    local player
-    exec {player}<>"/dev/tcp/127.0.0.1/$port" || return 1
-    request "$1" 'Connection: close' >&"$player"
-    timeout 10 cat <&"$player"
-    exec {player}>&-
-}
-
-# is_served: a player gets a playlist.
-is_served() {
-    ask "$present" | grep -q '^#EXT-X-PRELOAD-HINT' || { echo "a player isn't served"; return 1; }
-}
-
-# publish LINE ANSWER: a publisher with a connection of its own.
-publish() {
-    local publisher answer
-    exec {publisher}<>"/dev/tcp/127.0.0.1/$publish_port" || return 1
-    echo "$1" >&"$publisher"
-    read -r -t 10 answer <&"$publisher"
-    exec {publisher}>&-
-    [ "$answer" = "$2" ] || { echo "$1 is answered '$answer'"; return 1; }
 }
 
 # follow WAY: the script `room/say` (tests/hex_lines.sh) by replay, and by the server that runs.
@@ -436,5 +352,4 @@ try ends usage 2 serve "$room/settings" "$room/settings"
 if [ -n "${SLOW-}" ]; then
     try silent_for_long
 fi
-echo "$passed passed, $failed failed"
-[ "$failed" = 0 ]
+told_all
