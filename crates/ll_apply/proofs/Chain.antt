@@ -1,22 +1,18 @@
 -- What comes of two texts, once it is known what was found of each.
-use Rattle.std.proofs.Common.{◌≡◌, ℕ, List, Option, Some, None, IfSome, Result, Ok, Err, IfOk, IfErr, IsOk, IsErrOf, is_ok, ◌≢◌, refl, ap, sym, ◌∙◌}
+use Rattle.std.proofs.Common.{◌≡◌, ℕ, List, Option, Some, None, IfSome, Result, Ok, Err, IsOk, IsErrOf, is_ok, refl, ap, sym, ◌∙◌}
 use Rattle.ll_page.specs.Playlist.{Skip, Playlist}
 use Rattle.ll_page.specs.Spelling.{spelling}
 use Rattle.ll_read.specs.Outline.{outline_of}
 use Rattle.ll_read.specs.declared.fault.ReadFault.{ReadFault}
 use Rattle.ll_apply.specs.Applied.{applied_by, updated, unless_missing}
 use Rattle.ll_apply.specs.Found.{IsAnswer, IsFound, missing_of, missing_by_skip, merged, merged_by}
-use Rattle.ll_apply.specs.Texts.{and_then, base_of, chain, delta_of, unless_skipping}
+use Rattle.ll_apply.specs.Texts.{and_then, base_of, chain, unless_skipping}
 use Rattle.ll_apply.specs.declared.fault.ApplyFault.{ApplyFault}
 use Rattle.ll_apply.specs.declared.fault.ApplyFault.TheVariants.{BadBase, BadDelta, NotRecent, Memory}
 use Rattle.ll_apply.specs.declared.found.Found.{Found}
 
 pub bad-base : (x y : Result Playlist ApplyFault) (f : ApplyFault) → x ≡ Err f → chain x y ≡ Err f
 bad-base x y f e = ap (λ r. chain r y) e
-
-pub bad-delta : (x y : Result Playlist ApplyFault) (f : ApplyFault) (o : Found) → IsFound o x → y ≡ Err f → chain x y ≡ Err f
-bad-delta (Err g) y f o found e = absurd found
-bad-delta (Ok b) y f o found e = ap (λ r. chain (Ok b) r) e
 
 lacks_by : (s : Option Skip) (b d : Playlist) (n : ℕ) → Some n ≡ missing_by_skip s b d → applied_by s b d ≡ Err (NotRecent n)
 lacks_by None b d n e = absurd (cc)
@@ -58,17 +54,6 @@ text-of-found (Ok b) (Ok d) o u p q text found also has is_p is_q is =
 
 -- an answer, clause by clause
 
-pub answer-value : (r x : Result (List ℕ) ApplyFault) → IsAnswer r x → IfOk r (λ text. x ≡ Ok text)
-answer-value (Ok text) x h = h
-answer-value (Err fault) x h = tt
-
-pub answer-refused : (r x : Result (List ℕ) ApplyFault) → IsAnswer r x → IfErr r (λ fault. fault ≢ Memory → x ≡ Err fault)
-answer-refused (Ok text) x h = tt
-answer-refused (Err Memory) x h = λ other. absurd (other refl)
-answer-refused (Err BadBase) x h = λ other. h
-answer-refused (Err BadDelta) x h = λ other. h
-answer-refused (Err (NotRecent number)) x h = λ other. h
-
 pub answer-memory : (r x : Result (List ℕ) ApplyFault) → IsAnswer r x → IsErrOf r Memory → IsOk x
 answer-memory (Ok text) x h e = absurd (cc)
 answer-memory (Err Memory) x h e = h
@@ -88,10 +73,3 @@ answer-base (Ok p) Memory x e h = no_memory p.skipped p e
     no_memory : (s : Option Skip) (p : Playlist) → unless_skipping s p ≡ Err Memory → IsOk x
     no_memory None p e = absurd (cc)
     no_memory (Some skip) p e = absurd (cc)
-
-pub answer-delta : (r : Result Playlist ReadFault) (f : ApplyFault) (x : Result (List ℕ) ApplyFault) → delta_of r ≡ Err f → x ≡ Err f → IsAnswer (Err f) x
-answer-delta r BadBase x e h = h
-answer-delta r BadDelta x e h = h
-answer-delta r (NotRecent number) x e h = h
-answer-delta (Err fault) Memory x e h = absurd (cc)
-answer-delta (Ok p) Memory x e h = absurd (cc)

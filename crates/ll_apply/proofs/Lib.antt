@@ -7,3 +7,4 @@ pub mod OrderLemmas
 pub mod OutlineLemmas
 pub mod SegmentsWritten
 pub mod Staying
+pub mod WorkedExamples

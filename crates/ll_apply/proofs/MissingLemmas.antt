@@ -42,9 +42,6 @@ not-recent base delta skip number e h =
 one_more : (m n : ℕ) → m + 1 + n ≡ m + suc n
 one_more m n = omega arith
 
-pub missing-below : (base : Playlist) (m n : ℕ) → m < base.sequence → missing base m (suc n) ≡ Some m
-missing-below base m n low = let e : has base m ≡ false = grind (arith, nat_tests) in ap (λ b. missing_by b m (missing base (m + 1) n)) e
-
 pub missing-above : (base : Playlist) (m n : ℕ) → base.sequence + length base.segments ≤ m → missing base m (suc n) ≡ Some m
 missing-above base m n high = let e : has base m ≡ false = grind (arith, nat_tests) in ap (λ b. missing_by b m (missing base (m + 1) n)) e
 

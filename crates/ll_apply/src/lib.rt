@@ -11,5 +11,5 @@ mod segments;
 
 pub use applying::apply;
 pub use fault::ApplyFault;
-pub use laws::not_recent_law;
+pub use laws::{not_recent_law, worked_update};
 pub use ll_read::{Playlist, ReadFault, read};

@@ -29,33 +29,6 @@ one_part (b ∷ bs) h = rw h refl
 pub value_in-bare : (text : List ℕ) → is_bare text ≡ true → value_in text ≡ Some (Bare text)
 value_in-bare text h = ap (value_by text) (bare_uncut text h) ∙ one_part text h
 
-abbrev quoted_as : Option (List ℕ) → Option AttrValue
-quoted_as None = None
-quoted_as (Some inner) = Some (Quoted inner)
-
-bare_if : (b : Bool) (text : List ℕ) → b ≡ false → (if b then Some (Bare text) else None) ≡ None
-bare_if true text h = cc
-bare_if false text h = refl
-
-quoted_if : (b : Bool) (inner : List ℕ) → (if b then Some (Quoted inner) else None) ≡ quoted_as (if b then Some inner else None)
-quoted_if true inner = refl
-quoted_if false inner = refl
-
-value_by-parts : (text : List ℕ) (parts : List (List ℕ)) → is_bare text ≡ false → value_by text parts ≡ quoted_as (inner_of parts)
-value_by-parts text [] h = bare_if (is_bare text) text h
-value_by-parts text ((b ∷ bs) ∷ parts) h = bare_if (is_bare text) text h
-value_by-parts text ([] ∷ []) h = bare_if (is_bare text) text h
-value_by-parts text ([] ∷ inner ∷ []) h = bare_if (is_bare text) text h
-value_by-parts text ([] ∷ inner ∷ (b ∷ bs) ∷ parts) h = bare_if (is_bare text) text h
-value_by-parts text ([] ∷ inner ∷ [] ∷ part ∷ parts) h = bare_if (is_bare text) text h
-value_by-parts text ([] ∷ inner ∷ [] ∷ []) h = quoted_if (list_all is_quoted_byte inner) inner
-
-pub value_in-none : (text : List ℕ) → is_bare text ≡ false → inner_of (parts_at 34 text) ≡ None → value_in text ≡ None
-value_in-none text h e = value_by-parts text (parts_at 34 text) h ∙ ap quoted_as e
-
-pub value_in-quoted : (text inner : List ℕ) → is_bare text ≡ false → inner_of (parts_at 34 text) ≡ Some inner → value_in text ≡ Some (Quoted inner)
-value_in-quoted text inner h e = value_by-parts text (parts_at 34 text) h ∙ ap quoted_as e
-
 abbrev pub inner_if : Bool → List ℕ → Option (List ℕ)
 inner_if true inner = Some inner
 inner_if false inner = None
@@ -107,18 +80,6 @@ pub third_fails : (x y z : Bool) → false ≡ z → (x && (y && z)) ≡ false
 third_fails true true z e = sym e
 third_fails true false z e = refl
 third_fails false y z e = refl
-
--- with one mark there is nothing between two
-pub inner_one_mark : (text before after : List ℕ) → parts_at 34 text ≡ before ∷ parts_at 34 after → parts_at 34 after ≡ after ∷ [] → inner_of (parts_at 34 text) ≡ None
-inner_one_mark text [] after e d = ap inner_of (e ∙ ap (λ parts. [] ∷ parts) d)
-inner_one_mark text (b ∷ bs) after e d = ap inner_of e
-
-no_inner : (text : List ℕ) → inner_of (text ∷ []) ≡ None
-no_inner [] = refl
-no_inner (b ∷ bs) = refl
-
-pub inner_no_mark : (text : List ℕ) → parts_at 34 text ≡ text ∷ [] → inner_of (parts_at 34 text) ≡ None
-inner_no_mark text e = ap inner_of e ∙ no_inner text
 
 bare_spelled : (b : Bool) (text : List ℕ) (v : AttrValue) → (if b then Some (Bare text) else None) ≡ Some v → value_spelling v ≡ text
 bare_spelled true text v h = let e : v ≡ Bare text = cc in ap value_spelling e

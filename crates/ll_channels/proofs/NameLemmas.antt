@@ -37,15 +37,6 @@ found-at es cs name place finds is =
     let same : w.0 ≡ place = omega (arith, w.1) in
     (f.0, ap (slice_get cs) (sym same) ∙ w.2, f.1)
 
--- a name that the map lacks is no channel's
-pub found-nowhere : (es : List (String Global × ℕ)) (cs : List Configuration) (name : List ℕ) → FindsPlaces es cs → place_in es name ≡ None
-    → channel_of_name cs 0 name ≡ None
-found-nowhere es cs name finds none = by_place (channel_of_name cs 0 name) (sym none ∙ finds name)
-  where
-    by_place : (o : Option (ℕ × Configuration)) → None ≡ option_map (λ f. f.0) o → o ≡ None
-    by_place None e = refl
-    by_place (Some f) e = absurd (none-some f.0 e)
-
 chosen-or : {A : Type 0} (b : Bool) (x : A) (o p : Option A) → (if b then Some x else option_or o p) ≡ option_or (if b then Some x else o) p
 chosen-or true x o p = refl
 chosen-or false x o p = refl

@@ -1,5 +1,5 @@
 -- Answers that are sent one by one.
-use Rattle.std.proofs.Common.{◌≡◌, ℕ, List, [], ◌∷◌, ◌++◌, Option, Some, None, drop, take, length, refl, sym, ap, ◌∙◌, append_assoc, append-nil}
+use Rattle.std.proofs.Common.{◌≡◌, ℕ, List, [], ◌∷◌, ◌++◌, Option, Some, None, drop, take, length, sym, ap, ◌∙◌, append_assoc}
 use Rattle.std.proofs.KnownBytes.{Appends-trans}
 use Rattle.std.proofs.lemmas.List.{take_at}
 use Rattle.std.specs.Io.KnownBytes.{Appends}
@@ -12,9 +12,6 @@ pub record IsSent (base written : Option (List ℕ)) (answers left : List (List 
   pub gone : List ℕ
   pub whole : concat answers ≡ gone ++ concat left
   pub wrote : Appends base written gone
-
-pub IsSent-none : (base : Option (List ℕ)) (answers : List (List ℕ)) → Appends base base [] → IsSent base base answers answers
-IsSent-none base answers p = record { gone = []; whole = refl; wrote = p }
 
 -- the first answer of those that are left is written
 pub IsSent-first : (base mid after : Option (List ℕ)) (answers left : List (List ℕ)) (bytes : List ℕ) (n : ℕ) → IsSent base mid answers left
@@ -30,10 +27,6 @@ IsSent-first base mid after answers (a ∷ left) bytes n s e b w =
       whole = s.whole ∙ sym (append_assoc s.gone a (concat left));
       wrote = Appends-trans base mid after s.gone a s.wrote first;
     }
-
--- none is left
-pub IsSent-all : (base written : Option (List ℕ)) (answers : List (List ℕ)) → IsSent base written answers [] → Appends base written (concat answers)
-IsSent-all base written answers s = let all : concat answers ≡ s.gone = s.whole ∙ append-nil s.gone in rw all s.wrote
 
 -- a session that only lost answers before, and loses its first one, only lost answers
 pub lost-first : (s before after : SessionValue) → before ≡ record s { answers = before.answers } → after ≡ record before { answers = drop 1 before.answers }

@@ -29,7 +29,7 @@ use Rattle.ll_verdict.proofs.StepLemmas.{items-snoc}
 use Rattle.ll_verdict.specs.Events.{Event, Ask, Clock, asks, items}
 use Rattle.ll_verdict.specs.State.{State, answer_of, gone, new_slots, settle, stays, waiting_in, open_requests, slot_by, slot_of, state_of}
 use Rattle.ll_verdict.specs.Verdict as verdict
-use Rattle.ll_verdict.specs.Verdict.{Request, at_once, held, reply_of, wanted_of}
+use Rattle.ll_verdict.specs.Verdict.{at_once, held, reply_of, wanted_of}
 use Rattle.ll_verdict.specs.declared.entry.Entry.{Entry}
 use Rattle.ll_verdict.specs.declared.entry.Slot.{Slot}
 use Rattle.ll_verdict.specs.declared.fault.PublishFault.{PublishFault}
@@ -40,7 +40,7 @@ use Rattle.ll_verdict.specs.declared.wanted.Wanted.{Wanted}
 use Rattle.ll_locked.proofs.ParkedLemmas.{parked-last}
 use Rattle.ll_locked.specs.Channel.{IsChannel, parked_for, ticket_at}
 use Rattle.ll_locked.specs.Section.{IsMet}
-use Rattle.ll_locked.specs.Told.{IsAccepted, IsAnswered, IsDecided, IsHeld, IsRefused}
+use Rattle.ll_locked.specs.Told.{IsAccepted, IsAnswered, IsDecided, IsHeld}
 
 -- ---- what a room stands for
 
@@ -65,13 +65,6 @@ accepted r es i seen n recorded free later is = record {
   later = omega (arith, later, is);
 }
 
-pub refused : (r : Recording) (es : List Event) (i : Item) (seen : ℕ) (f : PublishFault) → IsRecorded r es → record_refusal r es i ≡ Some f → seen ≤ r.room.count
-    → IsRefused r.room.settings i seen f
-refused r es i seen f recorded why later = record {
-  events = es;
-  full = is_record_full r;
-  refused = why;
-  later = subst (λ n. seen ≤ n) (count-is r.room es recorded.stands) later;
 }
 
 -- ---- requests

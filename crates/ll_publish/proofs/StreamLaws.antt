@@ -57,10 +57,6 @@ abbrev pub and_more : Option Line → List Line → List Line
 and_more None lines = lines
 and_more (Some line) lines = line ∷ lines
 
--- the front line is the first that there is, whatever bytes are still to come
-abbrev Goes : FeedValue → (Option Line × FeedValue) → Type 0
-Goes f r = (more : List ℕ) → lines_in (with_bytes f more) ≡ and_more r.0 (lines_in (with_bytes r.1 more))
-
 some_first : (bytes : List ℕ) → (piece : List ℕ) × (later : List (List ℕ)) × (pieces bytes ≡ piece ∷ later)
 some_first bytes = by_pieces (pieces bytes) refl (some_piece bytes)
   where

@@ -17,9 +17,6 @@ open_among : (t : ℕ) (ss : List Slot) → list_any (has_ticket t) ss ≡ among
 open_among t [] = refl
 open_among t (s ∷ ss) = ap (λ b. (s.entry.ticket == t) || b) (open_among t ss)
 
-one_up : (a b : ℕ) → a ≤ b → a ≤ b + 1
-one_up a b h = omega (arith, h)
-
 -- what is left is never more
 less_by : (n : ℕ) (ns ms : List ℕ) (b : Bool) → length ms ≤ length ns → length (cond b (n ∷ ms) ms) ≤ length (n ∷ ns)
 less_by n ns ms true h = omega (arith, h)
@@ -46,13 +43,6 @@ spare-less h new t line free left is e enough short taken =
     let new_many : length new.slots ≡ length (less t (tickets h)) = sym (many new) ∙ ap length e in
     let old_many = many h in
     omega (arith, here, new_many, old_many, enough, short, taken)
-
--- its line fits
-pub line-fits : (h : Home) (t line free : ℕ) → is_open h t ≡ true → spare * length h.slots ≤ free → line ≤ spare → line ≤ free
-line-fits h t line free is enough short =
-    let here = fewer t (tickets h) (sym (open_among t h.slots) ∙ is) in
-    let old_many = many h in
-    omega (arith, here, old_many, enough, short)
 
 -- the same requests are open
 pub spare-same : (h new : Home) (left : ℕ) → tickets new ≡ tickets h → spare * length h.slots ≤ left → spare * length new.slots ≤ left

@@ -1,5 +1,5 @@
 -- What the rooms have come to and what they answered, as a driver keeps and writes it.
-use Rattle.std.proofs.Common.{◌≡◌, ℕ, ◌+◌, List, [], ◌++◌, Option, Some, None, refl, ap, ap₂, sym, ◌∙◌, append-nil, min, subst, arith}
+use Rattle.std.proofs.Common.{◌≡◌, ℕ, ◌+◌, [], ◌++◌, Option, Some, None, refl, ap, ap₂, sym, ◌∙◌, append-nil, min, subst, arith}
 use Rattle.std.specs.Prelude.{flat_map, Result, Ok, Err, IfOk}
 use Rattle.std.specs.declared.alloc.Global.{Global}
 use Rattle.std.specs.declared.vec.Vec.{Vec}
@@ -9,7 +9,7 @@ use Rattle.ll_world.specs.World as world
 use Rattle.ll_world.specs.World.{all_settings, count_end, silent}
 use Rattle.ll_world.specs.declared.answer.Answer.{Answer}
 use Rattle.ll_replay.specs.Kept.{Keeps, Kept, Says, kept_world, told}
-use Rattle.ll_replay.specs.World.{World, asked_under, heard, replied, reply_count, says, spelled}
+use Rattle.ll_replay.specs.World.{World, asked_under, heard, reply_count, spelled}
 
 abbrev pub hears : Kept → rooms.Kept → ℕ → Kept
 hears k held n = record k { rooms = held; replies = n }
@@ -49,21 +49,6 @@ asked-says k id t w v s = record {
   text = s.text;
 }
 
--- a line that changes nothing is answered
-pub line-says : (k : Kept) (t : Option (Vec ℕ Global)) (w : World) (line : List ℕ) → Keeps k w → told t ≡ line → Says k t w (says w line)
-line-says k t w line s e = record { keeps = record { stands = s.stands; silent = s.silent }; text = ap (λ more. w.text ++ more) (sym e) }
-
--- a request is answered that is no event of any channel
-pub answer-says : (k : Kept) (id n : ℕ) (t : Option (Vec ℕ Global)) (w : World) (line : List ℕ) → Keeps k w → n ≡ min (k.replies + 1) count_end → told t ≡ line
-    → Says (record k { last_id = Some id; replies = n }) t w (replied w id line)
-answer-says k id n t w line s count e = record {
-  keeps = record {
-    stands =
-        ap (λ (k : Kept). record k { last_id = Some id; replies = n }) s.stands
-        ∙ ap (λ m. record (kept_world w) { last_id = Some id; replies = m }) (up_to_end n 1 w.replies count_end (count ∙ ap (λ (k : Kept). min (k.replies + 1) count_end) s.stands));
-    silent = s.silent;
-  };
-  text = ap (λ more. w.text ++ more) (sym e);
 }
 
 -- where the rooms stay as they are, so does the world

@@ -68,6 +68,36 @@ refusals_text =
     ++ codes "ok 3\n"
     ++ codes "no 2 Ended\n"
 
+-- a channel whose first segment has the last number there is, and begins a second before the year 9999 ends. Where two rules refuse an
+-- item, the first is told: a part that is too long is of a number past the last, too; so is one that would end after the year; an id
+-- that is taken comes with attributes that a date range may not have; and an id that is unknown is taken away after the end
+abbrev pub last_lines : List ℕ
+last_lines =
+    codes "channel cam target=4 part=1000000 skip=24 window=36 renditions=hi first=1152921504606846976 start=253402300799000\n"
+    ++ codes "pub cam part hi 1000000 f\n"
+    ++ codes "pub cam part hi 999999 f\n"
+    ++ codes "pub cam part hi 1 f\n"
+    ++ codes "pub cam part hi 1000001 f\n"
+    ++ codes "pub cam range hi ID=\"x\"\n"
+    ++ codes "pub cam range hi ID=\"x\",START-DATE=\"1970-01-01T00:00:00Z\"\n"
+    ++ codes "pub cam range hi ID=\"x\"\n"
+    ++ codes "pub cam unrange hi y\n"
+    ++ codes "pub cam end hi\n"
+    ++ codes "pub cam unrange hi y\n"
+
+abbrev pub last_refusals : List ℕ
+last_refusals =
+    codes "no 7 TimeEnd\n"
+    ++ codes "ok 1\n"
+    ++ codes "no 6 CountEnd\n"
+    ++ codes "no 4 TooLong\n"
+    ++ codes "no 9 BadAttribute\n"
+    ++ codes "ok 2\n"
+    ++ codes "no 8 IdTaken\n"
+    ++ codes "no 10 IdUnknown\n"
+    ++ codes "ok 3\n"
+    ++ codes "no 2 Ended\n"
+
 -- three requests: the part that one awaits comes, one is too far ahead, and one waits for a segment until its time is over
 abbrev pub waiting_lines : List ℕ
 waiting_lines =
@@ -104,6 +134,7 @@ pub record WorkedScript : Type 0 where
   pub at_once : script asked_at_once ≡ codes "reply 1 200 279\n" ++ empty_playlist
   pub later : script asked_later ≡ codes "ok 1\n" ++ codes "reply 1 200 442\n" ++ segment_playlist
   pub refusals : script refused_lines ≡ refusals_text
+  pub last_refusals_told : script last_lines ≡ last_refusals
   pub waiting : script waiting_lines ≡ waiting_text
   pub same_text : script same_number ≡ codes "reply 1 200 279\n" ++ empty_playlist
   pub same_ending : (world_of same_number).ending ≡ Some (BadLine 3)

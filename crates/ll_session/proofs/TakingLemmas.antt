@@ -53,9 +53,6 @@ taking_at bytes f e = taking-front bytes ∙ ap (taking_by taking bytes) (sym e)
 
 -- ---- one head after another
 
-pub at_start : (bytes : List ℕ) → AddsUp (taking bytes) [] (taking bytes)
-at_start bytes = record { said = refl; rest = refl; want = refl; ends = refl }
-
 -- one that is refused was told
 adds_passing : (all : Taking) (told text : List (List ℕ)) (e : Entry) (t : Taking) → refusal e ≡ text → AddsUp all told (passing e t) → AddsUp all (told ++ text) t
 adds_passing all told text e t is a = record {

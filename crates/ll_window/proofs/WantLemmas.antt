@@ -15,7 +15,7 @@ use Rattle.ll_window.specs.Numbers.{NumberedPart, numbered_parts, last_place, pl
 use Rattle.ll_window.specs.Rows.{Row, rows, one_if, is_broken}
 use Rattle.ll_window.specs.Segments.{Split, split, closed, finished_by, unfinished_by, segments, duration}
 use Rattle.ll_window.specs.Told.{Told, start, step, told}
-use Rattle.ll_window.specs.Wants.{place_of, reaches, holds_part, holds_segment, far, far_by, WantsLaw}
+use Rattle.ll_window.specs.Wants.{place_of, reaches, holds_part, holds_segment, WantsLaw}
 use Rattle.ll_window.proofs.NumberLemmas.{laid, by_places, laid-by}
 use Rattle.ll_window.proofs.SplitLemmas.{added_by, split-snoc}
 
@@ -74,10 +74,6 @@ pub segment_told : (k : Compact) (items : List Item) (m : ℕ) → k ≡ compact
 segment_told k items m reached =
     ap (λ (x : Compact). nat_lt k.settings.first x.next_number && nat_lt m x.next_number) reached
     ∙ sym (by_count m k.settings.first 0 (k.settings.start * 1000) (segments items))
-
-pub far_told : (k : Compact) (items : List Item) (m : ℕ) (p : Option ℕ) → k ≡ compact k.settings items
-    → far_by k.settings k.last k.next_number k.open_parts m p ≡ far k.settings items m p
-far_told k items m p reached = ap (λ (x : Compact). far_by k.settings x.last x.next_number x.open_parts m p) reached
 
 -- what is held stays so
 

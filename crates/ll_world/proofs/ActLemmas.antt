@@ -29,7 +29,7 @@ use Rattle.ll_held.specs.Waits.{is_of, is_under, under, wait_of, without}
 use Rattle.ll_held.specs.declared.owner.Owner.{Owner}
 use Rattle.ll_held.specs.declared.wait.Wait.{Wait}
 use Rattle.ll_world.specs.Kept.{AreTied, Kept, Leads, home_at, homes_from, kept_world, open_in}
-use Rattle.ll_world.specs.World.{Channel, World, count_end, event_count, is_brought, with_event, happens, waits_less, told, told_to, tick, tick_at, tick_of, first_due, offer, offer_at, offered, ask, ask_at, asked, asked_if, brought, close, close_at, close_of, clock, clock_at, clocked, declare}
+use Rattle.ll_world.specs.World.{Channel, World, count_end, event_count, is_brought, with_event, happens, waits_less, told, told_to, tick, tick_at, tick_of, first_due, offer, offer_at, offered, ask, ask_at, asked, asked_if, brought, close_at, clock, clock_at, clocked, declare}
 use Rattle.ll_world.specs.declared.answer.Answer.TheVariants.{Accepted, Refused, ClockRefused, Replied, Unavailable}
 use Rattle.ll_world.proofs.DueLemmas.{first_is, reply_is, ready_open, ready_reply}
 use Rattle.ll_world.proofs.StandLemmas.{GoesOn, changed, channel_of, homes_more, leads, no_channel, no_more, number_is, stands_for, stays}
@@ -43,9 +43,6 @@ set_same (y ∷ xs) (suc i) x h = ap (λ zs. y ∷ zs) (set_same xs i x h)
 -- a room that stays as it is
 pub unset : (rooms : List Home) (i : ℕ) (h h2 : Home) → slice_get rooms i ≡ Some h → h2 ≡ h → slice_set rooms i h2 ≡ rooms
 unset rooms i h h2 at e = ap (slice_set rooms i) e ∙ set_same rooms i h at
-
-pub still_tied : (rooms : List Home) (waits : List Wait) (i : ℕ) (h h2 : Home) → AreTied rooms waits → slice_get rooms i ≡ Some h → h2 ≡ h → AreTied (slice_set rooms i h2) waits
-still_tied rooms waits i h h2 tied at e = subst (λ rs. AreTied rs waits) (sym (unset rooms i h h2 at e)) tied
 
 rooms_of : (old : Kept) (w : World) → old ≡ kept_world w → old.rooms ≡ homes_from 0 w.channels
 rooms_of old w e = ap (λ (k : Kept). k.rooms) e
@@ -294,10 +291,6 @@ handed_by p o false b m e = absurd (none_some m.value (sym (ap value_in e)))
 handed_is : (h : Home) (p : Ticket) (m : Mark Reply) → Got m ≡ room.collected h p → option_map reply_of (reply_at p.ticket h.slots) ≡ Some m.value
 handed_is h p m e = handed_by p (reply_at p.ticket h.slots) (p.channel == h.channel) (room.is_open h p.ticket) m e
 
-settled_by : (v : Reply) (o : Option Settled) → option_map reply_of o ≡ Some v → (P : Option Settled → Type 0) → ((s : Settled) → reply_of s ≡ v → P (Some s)) → P o
-settled_by v None e P f = absurd (none_some v e)
-settled_by v (Some s) e P f = f s (some_is (reply_of s) v e)
-
 due_by : (i t : ℕ) (c : Channel) (h : Home) (o : Option Request) → h ≡ home_at i c → first_ready h.slots ≡ Some t → first_due c.settings c.events ≡ o
     → (P : Option Request → Type 0) → ((r : Request) → first_due c.settings c.events ≡ Some r → r.ticket ≡ t → P (Some r)) → P o
 due_by i t c h None is ready e P f =
@@ -403,12 +396,6 @@ pub first_waits : (x : Wait) (waits : List Wait) → slice_get waits 0 ≡ Some 
 first_waits x [] h = absurd (none_some x h)
 first_waits x (y ∷ xs) h = found_too (λ z. true) (is_under x.place x.ticket) x (y ∷ xs) h (own_test x)
 
-pub closed_id : (old new : Kept) (w : World) (owner : Owner) (x : Wait) → old ≡ kept_world w → wait_of owner old.waits ≡ Some x → Leads new None w (close_at w x (slice_get w.channels x.place)) → Leads new None w (close owner w)
-closed_id old new w owner x e found l = subst (λ o. Leads new None w (close_of w o)) (sym (ap (wait_of owner) (sym (waits_of old w e)) ∙ found)) l
-
-pub closed_none : (old : Kept) (w : World) (owner : Owner) → old ≡ kept_world w → wait_of owner old.waits ≡ None → Leads old None w (close owner w)
-closed_none old w owner e found = subst (λ o. Leads old None w (close_of w o)) (sym (ap (wait_of owner) (sym (waits_of old w e)) ∙ found)) (stays old w e)
-
 -- ---- a channel is declared
 
 homes_length : (n : ℕ) (cs : List Channel) → length (homes_from n cs) ≡ length cs
@@ -439,6 +426,3 @@ tied_new rooms waits s h tied is = record {
   opened = λ j. tied.opened j ∙ sym (get_more rooms h j (ap tickets is));
   distinct = tied.distinct;
 }
-
-pub tied_none : AreTied [] []
-tied_none = record { channels = []; rooms_are = refl; opened = λ j. refl; distinct = λ j. tt }

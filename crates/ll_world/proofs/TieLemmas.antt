@@ -1,5 +1,5 @@
 -- The open requests of the rooms, and the requests that wait.
-use Rattle.std.proofs.Common.{◌≡◌, ℕ, zero, suc, ◌==◌, ◌&&◌, ◌||◌, List, [], ◌∷◌, ◌++◌, Bool, true, false, not, cond, if◌then◌else◌, Option, Some, None, is_none, is_some, refl, ap, ap₂, ◌∙◌, sym, subst, true≢false, filter, map, slice_get, slice_set, arith}
+use Rattle.std.proofs.Common.{◌≡◌, ℕ, zero, suc, ◌==◌, ◌&&◌, ◌||◌, List, [], ◌∷◌, ◌++◌, Bool, true, false, not, cond, if◌then◌else◌, Option, Some, None, is_none, is_some, refl, ap, ◌∙◌, sym, subst, true≢false, filter, map, slice_get, slice_set, arith}
 use Rattle.std.specs.List.{list_any}
 use Rattle.std.proofs.lemmas.Bool.Decides.{nat_tests}
 use Rattle.ll_book.specs.Waiting.{has_ticket, ticket_in}
@@ -73,10 +73,6 @@ drop_by t x true false xs ys place e f d ih =
     ap (λ b. map ticket_of (cond b (x ∷ filter (is_in place) ys) (filter (is_in place) ys))) e ∙ ap (λ ns. x.ticket ∷ ns) (ih d.1)
     ∙ ap (λ b. cond (not b) (x.ticket ∷ less t (tickets_at place xs)) (less t (tickets_at place xs))) (sym f)
 drop_by t x false b xs ys place e f d ih = ap (λ b. map ticket_of (cond b (x ∷ filter (is_in place) ys) (filter (is_in place) ys))) e ∙ ih d
-
-tail_by : (x : Wait) (a : Bool) (xs : List Wait) → AreDistinct (map ticket_of (cond a (x ∷ xs) xs)) → AreDistinct (map ticket_of xs)
-tail_by x true xs d = d.1
-tail_by x false xs d = d
 
 tickets_drop : (place t : ℕ) (xs : List Wait) → AreDistinct (tickets_at place xs) → tickets_at place (without place t xs) ≡ less t (tickets_at place xs)
 tickets_drop place t [] d = refl
