@@ -1,57 +1,56 @@
 -- The definition at a worked example: an earlier playlist, a delta update that takes one date range away and changes another, and what
--- comes of them, byte for byte.
-use Rattle.std.specs.Prelude.{◌≡◌, ℕ, List, ◌++◌, Ok, Err, codes}
-use Rattle.ll_apply.specs.Texts.{applied_text}
+-- comes of them.
+use Rattle.std.specs.Prelude.{◌≡◌, ℕ, List, [], ◌∷◌, false, Option, Some, None, Ok, Err, codes}
+use Rattle.ll_page.specs.Playlist.{DateRangeLine, Finished, Playlist, Skip}
+use Rattle.ll_apply.specs.Applied.{applied}
 use Rattle.ll_apply.specs.declared.fault.ApplyFault.TheVariants.{NotRecent}
 
--- the first lines of a playlist, whose first segment has number 4 or 5
-abbrev pub first_lines : List ℕ → List ℕ
-first_lines number =
-    codes "#EXTM3U\n"
-    ++ codes "#EXT-X-VERSION:9\n"
-    ++ codes "#EXT-X-TARGETDURATION:4\n"
-    ++ codes "#EXT-X-SERVER-CONTROL:CAN-BLOCK-RELOAD=YES,PART-HOLD-BACK=3.000000,CAN-SKIP-UNTIL=24.000000\n"
-    ++ codes "#EXT-X-PART-INF:PART-TARGET=1.000000\n"
-    ++ codes "#EXT-X-MEDIA-SEQUENCE:" ++ number ++ codes "\n"
-    ++ codes "#EXT-X-DISCONTINUITY-SEQUENCE:0\n"
-
 -- a segment of a second without parts
-abbrev pub segment_lines : List ℕ → List ℕ → List ℕ
-segment_lines uri time = codes "#EXT-X-PROGRAM-DATE-TIME:" ++ time ++ codes "\n#EXTINF:1.000000,\n" ++ uri ++ codes "\n"
+abbrev pub segment : Option (List ℕ) → List ℕ → Finished
+segment map uri = record { block = record { broken = false; map = map; time = codes "noon"; parts = [] }; duration = 1000000; uri = uri }
+
+-- the playlist of a rendition that has ended
+abbrev pub playlist : ℕ → List DateRangeLine → Option Skip → List Finished → Playlist
+playlist number ranges skipped segments = record {
+  header = record { version = 9; target = 4; hold_back = 3000000; skip_until = 24000000; skips_date_ranges = false; part_target = 1000000 };
+  sequence = number;
+  discontinuity = 0;
+  ranges = ranges;
+  skipped = skipped;
+  segments = segments;
+  open_block = None;
+  reports = [];
+  hint = None;
+}
+
+abbrev pub a : DateRangeLine
+a = record { id = codes "a"; attributes = [] }
+
+abbrev pub b : DateRangeLine
+b = record { id = codes "b"; attributes = codes "X-A=1" }
+
+abbrev pub other_b : DateRangeLine
+other_b = record { id = codes "b"; attributes = codes "X-A=2" }
+
+abbrev pub c : DateRangeLine
+c = record { id = codes "c"; attributes = [] }
 
 -- three date ranges, a segment that leaves, and one that stays
-abbrev pub earlier : List ℕ
-earlier =
-    first_lines (codes "4")
-    ++ codes "#EXT-X-DATERANGE:ID=\"a\"\n"
-    ++ codes "#EXT-X-DATERANGE:ID=\"b\",X-A=1\n"
-    ++ codes "#EXT-X-DATERANGE:ID=\"c\"\n"
-    ++ codes "#EXT-X-MAP:URI=\"i\"\n"
-    ++ segment_lines (codes "s4") (codes "at 4")
-    ++ segment_lines (codes "s5") (codes "at 5")
-    ++ codes "#EXT-X-ENDLIST\n"
+abbrev pub earlier : Playlist
+earlier = playlist 4 (a ∷ b ∷ c ∷ []) None (segment (Some (codes "init")) (codes "s4") ∷ segment None (codes "s5") ∷ [])
 
 -- the first segment is skipped, `a` is gone, and `b` has another attribute
-abbrev pub update : List ℕ
-update =
-    first_lines (codes "5")
-    ++ codes "#EXT-X-DATERANGE:ID=\"b\",X-A=2\n"
-    ++ codes "#EXT-X-SKIP:SKIPPED-SEGMENTS=1,RECENTLY-REMOVED-DATERANGES=\"a\"\n"
-    ++ segment_lines (codes "s6") (codes "at 6")
-    ++ codes "#EXT-X-ENDLIST\n"
+abbrev pub update : Playlist
+update = playlist 5 (other_b ∷ []) (Some (record { count = 1; removed = Some (codes "a" ∷ []) })) (segment None (codes "s6") ∷ [])
 
--- the map in force at the segment that stays is listed there
-abbrev pub later : List ℕ
-later =
-    first_lines (codes "5")
-    ++ codes "#EXT-X-DATERANGE:ID=\"c\"\n"
-    ++ codes "#EXT-X-DATERANGE:ID=\"b\",X-A=2\n"
-    ++ codes "#EXT-X-MAP:URI=\"i\"\n"
-    ++ segment_lines (codes "s5") (codes "at 5")
-    ++ segment_lines (codes "s6") (codes "at 6")
-    ++ codes "#EXT-X-ENDLIST\n"
+-- `c` stays, and `b` is the update's; the first segment has the map that is in force there
+abbrev pub later : Playlist
+later = playlist 5 (c ∷ other_b ∷ []) None (segment (Some (codes "init")) (codes "s5") ∷ segment None (codes "s6") ∷ [])
+
+-- a playlist that lacks the segment which the update skips
+abbrev pub too_old : Playlist
+too_old = playlist 4 (a ∷ b ∷ c ∷ []) None (segment (Some (codes "init")) (codes "s4") ∷ [])
 
 pub record WorkedUpdate : Type 0 where
-  pub applied : applied_text earlier update ≡ Ok later
-  -- `later` is a segment on, so that the update skips a number which a playlist of its first segment alone lacks
-  pub too_late : applied_text (first_lines (codes "4") ++ segment_lines (codes "s4") (codes "at 4") ++ codes "#EXT-X-ENDLIST\n") update ≡ Err (NotRecent 5)
+  pub recent : applied earlier update ≡ Ok later
+  pub not_recent : applied too_old update ≡ Err (NotRecent 5)

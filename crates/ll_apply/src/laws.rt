@@ -7,7 +7,7 @@ pub fn not_recent_law()
     ensures { NotRecentLaw }
 {}
 
-/// What the definition says of a small playlist and a delta update: what comes of them, byte for byte.
+/// What the definition says of a small playlist and a delta update that takes a date range away, and of a playlist that is too old for it.
 pub fn worked_update()
     ensures { WorkedUpdate }
 {}
