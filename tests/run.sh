@@ -7,15 +7,15 @@ output=$(mktemp) || exit 2
 trap 'rm -f "$output"' EXIT
 passed=0
 
-cd "$root/crates/llhls" || exit 2
-rt run -- replay <"$root/examples/first.script" >"$output"
+program=$(LLHLS='' "$root/tests/program.sh") || exit 1
+"$program" replay <"$root/examples/first.script" >"$output"
 status=$?
 cat "$output"
 if [ "$status" = 0 ] && cmp "$output" "$root/examples/first.expected"; then
     passed=$((passed + 1))
 fi
 # Its last line is its own count.
-"$root/tests/run_serve.sh" out/llhls | sed -u '$d'
+"$root/tests/run_serve.sh" "$program" | sed -u '$d'
 if [ "${PIPESTATUS[0]}" = 0 ]; then
     passed=$((passed + 1))
 fi
