@@ -1,22 +1,22 @@
 #!/usr/bin/env bash
 # Proves every crate from nothing, runs the crates' tests, and then each row of tests/rows: as `rt try --cases` builds the
-# program, with checks, and on the proved program, as each compiler of the toolchain builds it; then, on the proved program once,
-# devices that give and take a few bytes at a time, large inputs, mutated playlists, mutated records, the bytes of connections cut in every way, mutated heads,
-# the server with real sockets, and its records. The last line is the sum.
+# program, with checks, and on the proved program, as each compiler of the toolchain builds it. Beside these run, on the proved program, devices that give
+# and take a few bytes at a time, large inputs, mutated playlists, mutated records, the bytes of connections cut in every way, and mutated heads; and then,
+# by themselves, the server with real sockets, and its records. The last line is the sum.
 set -u
 cd "$(dirname "${BASH_SOURCE[0]}")/.." || exit 2
-log=$(mktemp) || exit 2
-trap 'rm -f "$log"' EXIT
+room=$(mktemp -d) || exit 2
+trap 'rm -rf "$room"' EXIT
 passed=0
 failed=0
+program=crates/llhls/out/llhls
+# The build of the second compiler, where it makes one.
+by_rattle=$program.by-rattle
 
-# Runs a command, and adds the numbers of its last line, `N passed, M failed`.
+# add STATUS LOG WORDS..: adds the numbers of the last line of a command's output, `N passed, M failed`.
 add() {
-    local status line
-    echo "== $*"
-    "$@" 2>&1 | tee "$log"
-    status=${PIPESTATUS[0]}
-    line=$(tail -n 1 "$log")
+    local status=$1 line
+    line=$(tail -n 1 "$2")
     if [[ $line =~ ^([0-9]+)\ passed,\ ([0-9]+)\ failed$ ]]; then
         passed=$((passed + BASH_REMATCH[1]))
         failed=$((failed + BASH_REMATCH[2]))
@@ -24,25 +24,51 @@ add() {
             failed=$((failed + 1))
         fi
     else
-        echo "it ended without its count"
+        echo "${*:3} ended without its count"
         failed=$((failed + 1))
     fi
 }
 
-add rt ci
-add tests/try_rows.sh
-add tests/rows.sh crates/llhls/out/llhls
-# The build of the second compiler, where it made one.
-if [ -e crates/llhls/out/llhls.by-rattle ]; then
-    add tests/rows.sh crates/llhls/out/llhls.by-rattle
+# alone WORDS..: runs a command with nothing beside it.
+alone() {
+    echo "== $*"
+    "$@" 2>&1 | tee "$room/log"
+    add "${PIPESTATUS[0]}" "$room/log" "$@"
+}
+
+# start WORDS..: runs a command beside others, once a processor is free; `finish` shows what each has said, and adds its numbers.
+commands=()
+start() {
+    local number=${#commands[@]}
+    while [ "$(jobs -rp | wc -l)" -ge "$(nproc)" ]; do
+        wait -n
+    done
+    commands+=("$*")
+    { "$@" >"$room/$number" 2>&1; echo $? >"$room/$number.status"; } &
+}
+
+finish() {
+    local number
+    wait
+    for number in "${!commands[@]}"; do
+        echo "== ${commands[number]}"
+        cat "$room/$number"
+        add "$(<"$room/$number.status")" "$room/$number" "${commands[number]}"
+    done
+    commands=()
+}
+
+alone rt ci
+start tests/try_rows.sh
+for name in mutated_playlists mutated_records connections mutated_heads short_devices large rows; do
+    start "tests/$name.sh" "$program"
+done
+if [ -e "$by_rattle" ]; then
+    start tests/rows.sh "$by_rattle"
 fi
-add tests/short_devices.sh crates/llhls/out/llhls
-add tests/large.sh crates/llhls/out/llhls
-add tests/mutated_playlists.sh crates/llhls/out/llhls
-add tests/mutated_records.sh crates/llhls/out/llhls
-add tests/connections.sh crates/llhls/out/llhls
-add tests/mutated_heads.sh crates/llhls/out/llhls
-add tests/serve.sh crates/llhls/out/llhls
-add tests/record.sh crates/llhls/out/llhls
+finish
+for name in serve record; do
+    alone "tests/$name.sh" "$program"
+done
 echo "$passed passed, $failed failed"
 [ "$failed" = 0 ]
