@@ -7,9 +7,9 @@ use Rattle.std.proofs.lemmas.List.Quantifiers.{all_pairs_push, all_pairs_remove}
 use Rattle.std.proofs.lemmas.Option.{none-some, slice_get_past, slice_get-get_or, cond_some}
 use Rattle.std.specs.List.{AllPairs, position_or_len, remove, slice_get}
 use Rattle.std.specs.Set.{remove_key}
-use Rattle.ll_room.specs.Shelf.{found, taken_off}
 use Rattle.ll_room.specs.Ticket.{Ticket}
 use Rattle.ll_held.specs.Book.{at_wait, Differ, IsBook, slot_of, wait_in}
+use Rattle.ll_held.specs.Shelf.{found, taken_off}
 use Rattle.ll_held.specs.Waits.{parked_of}
 use Rattle.ll_held.specs.declared.held.Row.{Row}
 use Rattle.ll_held.specs.declared.wait.Wait.{Wait}

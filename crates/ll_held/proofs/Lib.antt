@@ -1,1 +1,2 @@
 pub mod BookLemmas
+pub mod ShelfLemmas

@@ -1,2 +1,3 @@
 pub mod Book
+pub mod Shelf
 pub mod Waits

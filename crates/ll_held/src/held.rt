@@ -3,8 +3,9 @@ ghost use Rattle.ll_held.specs.Book.{at_wait, wait_in};
 ghost use Rattle.ll_held.specs.Waits.{is_of, is_under, parked_of, under, wait_of, without};
 
 use crate::owner::Owner;
+use crate::shelf::Shelf;
 use crate::wait::Wait;
-use ll_room::{Parked, Shelf};
+use ll_room::Parked;
 use std::alloc::Global;
 use std::marker::Model;
 

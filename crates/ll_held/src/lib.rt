@@ -3,8 +3,10 @@
 
 mod held;
 mod owner;
+mod shelf;
 mod wait;
 
 pub use held::Held;
 pub use owner::Owner;
+pub use shelf::Shelf;
 pub use wait::Wait;

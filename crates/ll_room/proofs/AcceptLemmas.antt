@@ -5,16 +5,14 @@ use Rattle.std.proofs.lemmas.Bool.Decides.{nat_tests}
 use Rattle.ll_item.specs.Items.{rendition_of}
 use Rattle.ll_item.specs.Settings.{Configuration}
 use Rattle.ll_item.specs.declared.item.Item.{Item}
-use Rattle.ll_page.specs.View.{kept, renditions}
+use Rattle.ll_page.specs.View.{renditions}
 use Rattle.ll_page.specs.declared.rendition.Rendition.{Rendition}
 use Rattle.ll_page.proofs.RenditionLemmas.{length-renditions, rendition-got}
-use Rattle.ll_range.specs.Announced as range
 use Rattle.ll_window.specs.Compact.{compact}
 use Rattle.ll_window.specs.Refusal as window
 use Rattle.ll_window.specs.Segments.{ended, own}
 use Rattle.ll_window.specs.declared.window.PushFault.{PushFault}
-use Rattle.ll_window.proofs.StepLemmas.{refusal_told}
-use Rattle.ll_verdict.specs.Accepted.{first_refusal, of_push, of_range, refusal, rendition_refusal}
+use Rattle.ll_verdict.specs.Accepted.{first_refusal, of_push, refusal, rendition_refusal}
 use Rattle.ll_verdict.specs.Events.{Event, Publish, items, time, taken}
 use Rattle.ll_verdict.specs.State.{State, state_of, settle, stays, next}
 use Rattle.ll_verdict.specs.Verdict.{page_of}
@@ -23,8 +21,11 @@ use Rattle.ll_verdict.specs.declared.fault.PublishFault.{PublishFault}
 use Rattle.ll_verdict.specs.declared.fault.PublishFault.TheVariants.{NoRendition}
 use Rattle.ll_verdict.specs.declared.wanted.Wanted.{Wanted}
 use Rattle.ll_book.specs.Pages.{PagesOf, page_in}
-use Rattle.ll_room.specs.Freed.{GoOn, first_release, freed_slots, releases_at, second_release, with_item}
-use Rattle.ll_room.specs.Full.{full_by, is_full, refusal_after, refusal_at, refusal_by, refusal_of}
+use Rattle.ll_rendition.specs.Refusal.{refusal_of}
+use Rattle.ll_rendition.specs.Releases.{first_release, second_release}
+use Rattle.ll_rendition.proofs.ItemLemmas.{its_refusal}
+use Rattle.ll_room.specs.Freed.{GoOn, freed_slots, releases_at, with_item}
+use Rattle.ll_room.specs.Full.{full_by, is_full, refusal_after, refusal_at, refusal_by}
 use Rattle.ll_room.specs.Home.{Home, Stands, home}
 use Rattle.ll_room.proofs.FreedLemmas.{each_freed}
 use Rattle.ll_room.proofs.IdleLemmas.{idle}
@@ -36,12 +37,6 @@ past-got : (rs : List Rendition) (r : ℕ) → slice_get rs r ≡ None → nat_l
 past-got [] r e = grind (arith, nat_tests)
 past-got (x ∷ rs) zero e = absurd (true≢false (sym (ap is_none e)))
 past-got (x ∷ rs) (suc r) e = let h = past-got rs r e in grind (arith, nat_tests, h)
-
-its_refusal : (c : Configuration) (own_items : List Item) (i : Item) → refusal_of (kept c own_items) i ≡ rendition_refusal c own_items i
-unfolding rendition_refusal
-its_refusal c own_items i =
-    ap (λ f. first_refusal (option_map of_push f) (option_map of_range (range.refusal c own_items i)))
-    (sym (refusal_told (compact c own_items) own_items i (window.refusal_after (compact c own_items) i) refl refl))
 
 refusal_as : (c : Configuration) (xs : List Item) (i : Item) (o : Option Rendition) → slice_get (renditions c xs) (rendition_of i) ≡ o
     → refusal_at o i ≡ refusal c xs i

@@ -15,7 +15,7 @@ use Rattle.std.proofs.lemmas.List.{map-append}
 use Rattle.ll_book.specs.Waiting.{AreBelow, ticket_in}
 use Rattle.ll_verdict.specs.Events.{Event, Ask, items, time}
 use Rattle.ll_verdict.specs.State.{State, state_of, settle, stays, slot_by, answer_of, next, waiting_in}
-use Rattle.ll_verdict.specs.Verdict.{at_once, held, is_there, page_of, reply_now, wanted_of, waiting_limit}
+use Rattle.ll_verdict.specs.Verdict.{at_once, held, is_there, page_of, wanted_of, waiting_limit}
 use Rattle.ll_verdict.specs.Verdict as verdict
 use Rattle.ll_verdict.specs.declared.entry.Slot.{Slot}
 use Rattle.ll_verdict.specs.declared.reply.Reply.{Reply}

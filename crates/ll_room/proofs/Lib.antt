@@ -5,6 +5,5 @@ pub mod IdleLemmas
 pub mod KeptLemmas
 pub mod PublishLemmas
 pub mod SettleLemmas
-pub mod ShelfLemmas
 pub mod StandLemmas
 pub mod TicketLemmas

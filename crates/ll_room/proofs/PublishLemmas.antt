@@ -3,7 +3,7 @@ use Rattle.std.proofs.Common.{◌≡◌, ℕ, zero, suc, ◌+◌, ◌<◌, ◌==
 use Rattle.std.specs.Prelude.{Result, Ok, Err, OnOk, slice_get, slice_set}
 use Rattle.std.specs.List.{list_any}
 use Rattle.std.proofs.lemmas.Bool.Decides.{nat_tests}
-use Rattle.ll_item.specs.Items.{is_about_ranges, rendition_of}
+use Rattle.ll_item.specs.Items.{rendition_of}
 use Rattle.ll_item.specs.Settings.{Configuration}
 use Rattle.ll_item.specs.declared.item.Item.{Item}
 use Rattle.ll_item.specs.declared.item.Item.TheVariants as item
@@ -13,10 +13,8 @@ use Rattle.ll_page.specs.Page.{Moment}
 use Rattle.ll_page.specs.View.{kept, renditions}
 use Rattle.ll_page.specs.declared.rendition.Rendition.{Rendition}
 use Rattle.ll_page.proofs.RenditionLemmas.{rendition-got, renditions-snoc}
-use Rattle.ll_range.specs.Announced.{Announced, announced}
 use Rattle.ll_window.specs.Compact.{Compact}
-use Rattle.ll_window.specs.Segments.{end_time, own}
-use Rattle.ll_window.proofs.StepLemmas.{silent}
+use Rattle.ll_window.specs.Segments.{own}
 use Rattle.ll_verdict.specs.State.{is_waiting}
 use Rattle.ll_verdict.specs.declared.entry.Slot.{Slot}
 use Rattle.ll_book.specs.Pages.{PagesOf}
@@ -25,23 +23,13 @@ use Rattle.ll_book.specs.Waiting.{AreBelow, ticket_in}
 use Rattle.ll_book.specs.declared.release.Release.{Release}
 use Rattle.ll_book.specs.declared.release.Release.TheVariants as release
 use Rattle.ll_book.proofs.Holding.{release-law}
+use Rattle.ll_rendition.specs.Releases.{HasHolders, HasThose, released_with, takes_any}
 use Rattle.ll_room.specs.Coming.{IsComing, changed, pages}
-use Rattle.ll_room.specs.Freed.{AreApart, GoOn, HasHolders, HasThose, freed, freed_slots, new_pages, released_with, releases, releases_at, takes_any, with_item}
+use Rattle.ll_room.specs.Freed.{AreApart, GoOn, freed, freed_slots, new_pages, releases, releases_at, with_item}
 use Rattle.ll_room.specs.Full.{event_end, refusal_at}
 use Rattle.ll_room.specs.Home.{Home}
 use Rattle.ll_room.specs.Kept.{IsCurrent, IsKept}
 use Rattle.ll_room.specs.declared.publish.Coming.{Coming}
-
--- date ranges that take an item, which leaves the window
-pub ranged : {E : Type 0} (c : Configuration) (before : List Item) (i j : Item) (k : Rendition) (a : Announced) (end : ℕ) (r : Result Unit E)
-    → k ≡ kept c before → is_about_ranges i ≡ true → i ≡ j → end ≡ k.window.end_time
-    → (k.ranges ≡ announced c before → end ≡ end_time before → OnOk r (a ≡ announced c (before ++ j ∷ [])))
-    → OnOk r (record { window = k.window; ranges = a } ≡ kept c (before ++ i ∷ []))
-ranged c before i j k a end (Err f) e is_range is now taken = tt
-ranged c before i j k a end (Ok u) e is_range is now taken =
-    let window = ap (λ (q : Rendition). q.window) e in
-    let went = taken (ap (λ (q : Rendition). q.ranges) e) (now ∙ ap (λ (q : Compact). q.end_time) window) in
-    ap₂ (λ x y. record { window = x; ranges = y }) (window ∙ sym (silent c before i is_range)) (went ∙ ap (λ x. announced c (before ++ x ∷ [])) (sym is))
 
 -- one more item for its rendition
 pub goes-on : {E : Type 0} (c : Configuration) (before : List Item) (i : Item) (rs : List Rendition) (at : ℕ) (old new : Rendition) (r : Result Unit E)

@@ -2,7 +2,8 @@
 use Rattle.std.specs.Prelude.{◌≡◌, ◌+◌, Option, length}
 use Rattle.ll_book.specs.Pages.{PagesOf}
 use Rattle.ll_book.specs.declared.release.Release.{Release}
-use Rattle.ll_room.specs.Freed.{HasHolders, freed_slots}
+use Rattle.ll_rendition.specs.Releases.{HasHolders}
+use Rattle.ll_room.specs.Freed.{freed_slots}
 use Rattle.ll_room.specs.Home.{Home}
 use Rattle.ll_room.specs.declared.publish.Coming.{Coming}
 

@@ -1,15 +1,14 @@
 -- How many events a channel takes, and the first rule that refuses an item.
-use Rattle.std.specs.Prelude.{ℕ, ◌^◌, List, Bool, Option, Some, None, length, nat_le, slice_get, option_map, if◌then◌else◌}
+use Rattle.std.specs.Prelude.{ℕ, ◌^◌, List, Bool, Option, Some, None, length, nat_le, slice_get, if◌then◌else◌}
 use Rattle.ll_item.specs.Items.{rendition_of}
 use Rattle.ll_item.specs.Settings.{Configuration}
 use Rattle.ll_item.specs.declared.item.Item.{Item}
 use Rattle.ll_page.specs.declared.rendition.Rendition.{Rendition}
-use Rattle.ll_range.specs.Announced as range
-use Rattle.ll_window.specs.Refusal as window
-use Rattle.ll_verdict.specs.Accepted.{first_refusal, of_push, of_range, refusal}
+use Rattle.ll_verdict.specs.Accepted.{first_refusal, refusal}
 use Rattle.ll_verdict.specs.Events.{Event, items}
 use Rattle.ll_verdict.specs.declared.fault.PublishFault.{PublishFault}
 use Rattle.ll_verdict.specs.declared.fault.PublishFault.TheVariants.{NoRendition, RecordFull}
+use Rattle.ll_rendition.specs.Refusal.{refusal_of}
 use Rattle.ll_room.specs.Home.{Home}
 
 -- a channel takes so many events; after that requests are still collected and closed, and nothing else happens
@@ -28,10 +27,6 @@ abbrev pub refusal_after : Configuration → List Event → Item → Option Publ
 refusal_after c events item = first_refusal (refusal c (items c events) item) (full_by (is_full (length events)))
 
 -- the same, told by what is kept
-
-abbrev pub refusal_of : Rendition → Item → Option PublishFault
-refusal_of kept item =
-    first_refusal (option_map of_push (window.refusal_after kept.window item)) (option_map of_range (range.refusal_after kept.window.end_time kept.ranges item))
 
 abbrev pub refusal_at : Option Rendition → Item → Option PublishFault
 refusal_at None item = Some NoRendition

@@ -5,5 +5,4 @@ pub mod Full
 pub mod Home
 pub mod Kept
 pub mod Mark
-pub mod Shelf
 pub mod Ticket

@@ -1,10 +1,6 @@
 //! Requests: a reply at once, or a request that is held (Blocking Playlist Reload, section 6.2.5.2).
-ghost use Rattle.std.specs.Prelude.{◌≡◌, ◌+◌, ◌<◌, ◌≤◌, ◌++◌, ◌∷◌, [], List, IfOk, IsErrOf, OnOk, OnErr, Some, length, option_map, ◌||◌};
-ghost use Rattle.ll_item.specs.Settings.{Configuration};
-ghost use Rattle.ll_item.specs.declared.item.Item.{Item};
-ghost use Rattle.ll_page.specs.View as view;
-ghost use Rattle.ll_window.specs.Compact.{compact};
-ghost use Rattle.ll_window.specs.Segments.{ended, own};
+ghost use Rattle.std.specs.Prelude.{◌≡◌, ◌+◌, ◌<◌, ◌≤◌, ◌++◌, ◌∷◌, [], List, IfOk, IsErrOf, OnOk, OnErr, Some, length, option_map};
+ghost use Rattle.ll_window.specs.Segments.{own};
 ghost use Rattle.ll_verdict.specs.Events.{Event, Ask, items};
 ghost use Rattle.ll_verdict.specs.Outcome.{outcome_of};
 ghost use Rattle.ll_verdict.specs.State.{waiting_in};
@@ -21,10 +17,10 @@ use crate::parked::Parked;
 use crate::room::{EVENT_END, Room};
 use crate::stamped::{Stamp, Stamped};
 use ll_book::ParkFault;
-use ll_directive::{Awaited, Skip, Want};
+use ll_directive::{Skip, Want};
 use ll_page::{Form, Page, SkipKind};
+use ll_rendition::{is_far, is_there};
 use ll_verdict::{Entry, Outcome, Reply, Wanted};
-use ll_window::Window;
 use std::alloc::AllocError;
 
 /// How long a request waits, for each second of the target duration: three target durations, in milliseconds.
@@ -172,37 +168,5 @@ fn form_of(skip: Skip) -> Form
         Skip::No => Form::Full,
         Skip::Yes => Form::Delta(SkipKind::Yes),
         Skip::V2 => Form::Delta(SkipKind::V2),
-    }
-}
-
-/// Whether what is awaited of a rendition is there, or it has ended.
-fn is_there(window: &Window, awaited: Awaited) -> bool
-    ensures { (items : List Item) → window.now ≡ compact window.now.settings items
-        → result ≡ (verdict.holds window.now.settings items awaited || ended items) }
-{
-    holds(window, awaited) || window.ended()
-}
-
-/// Whether what is awaited of a rendition is there.
-fn holds(window: &Window, awaited: Awaited) -> bool
-    ensures { (items : List Item) → window.now ≡ compact window.now.settings items
-        → result ≡ verdict.holds window.now.settings items awaited }
-{
-    match awaited {
-        Awaited::Nothing => true,
-        Awaited::Segment(msn) => window.holds_segment(msn),
-        Awaited::Part(msn, part) => window.holds_part(msn, part),
-    }
-}
-
-/// Whether what is awaited of a rendition is too far ahead to be waited for.
-fn is_far(window: &Window, awaited: Awaited) -> bool
-    ensures { (items : List Item) → window.now ≡ compact window.now.settings items
-        → result ≡ verdict.far window.now.settings items awaited }
-{
-    match awaited {
-        Awaited::Nothing => false,
-        Awaited::Segment(msn) => window.far(msn, None),
-        Awaited::Part(msn, part) => window.far(msn, Some(part)),
     }
 }

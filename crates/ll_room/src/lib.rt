@@ -8,11 +8,8 @@ mod fault;
 mod keeper;
 mod parked;
 mod publish;
-mod release;
-mod rendition;
 mod room;
 mod settle;
-mod shelf;
 mod stamped;
 
 pub use asked::{Asked, Closed, Collected};
@@ -21,5 +18,4 @@ pub use keeper::Keeper;
 pub use parked::{Parked, Stored};
 pub use room::Room;
 pub use settle::LAST_TIME;
-pub use shelf::Shelf;
 pub use stamped::{Stamp, Stamped};

@@ -2,6 +2,7 @@
 ghost use Rattle.std.specs.Prelude.{◌≡◌, ◌≢◌, ◌+◌, ◌<◌, ◌++◌, ◌∷◌, [], List, IfOk, IfErr, IsErrOf, OnOk, OnErr, MatchResult, None, Some, length, slice_get, false};
 ghost use Rattle.ll_item.specs.Items.{rendition_of};
 ghost use Rattle.ll_item.specs.declared.item.Item.{Item};
+ghost use Rattle.ll_rendition.specs.Releases.{takes_any};
 ghost use Rattle.ll_verdict.specs.Events.{Event, Publish};
 ghost use Rattle.ll_room.specs.Freed.{AreApart, GoOn, with_item};
 ghost use Rattle.ll_room.specs.Coming.{IsComing, changed};
@@ -10,13 +11,12 @@ ghost use Rattle.ll_room.specs.Full.{event_end, refusal_after, refusal_at, refus
 ghost use Rattle.ll_room.specs.Home.{IsSame, Stands, tickets};
 ghost use Rattle.ll_room.specs.declared.stamped.Stamp.TheVariants as stamp;
 
-use crate::release::{first_release, holders, release, second_release, takes_any};
-use crate::rendition::{accept, test};
 use crate::room::{EVENT_END, Room};
 use crate::stamped::{Stamp, Stamped};
 use ll_book::{Holders, Pages, Release};
 use ll_item::Item;
 use ll_page::{Rendition, Shown};
+use ll_rendition::{accept, first_release, holders, release, second_release, takes_any, test};
 use ll_verdict::PublishFault;
 use std::alloc::AllocError;
 
@@ -109,8 +109,8 @@ impl Room {
     /// Accepts an item that releases no request: nothing is copied.
     fn accept_silently(&mut self, item: Item) -> Result<(), AllocError>
         requires allowed { refusal_by self.old item ≡ None }
-        requires first { spec.takes_any (spec.releases self.old item).0 self.old.slots ≡ false }
-        requires second { spec.takes_any (spec.releases self.old item).1 self.old.slots ≡ false }
+        requires first { takes_any (spec.releases self.old item).0 self.old.slots ≡ false }
+        requires second { takes_any (spec.releases self.old item).1 self.old.slots ≡ false }
         ensures goes_on { OnOk result (GoOn self.old.renditions self.new.renditions item) }
         ensures accepted { OnOk result (self.new ≡ with_item self.old self.new.renditions item) }
         ensures unchanged { OnErr result (self.new ≡ self.old) }

@@ -2,7 +2,6 @@
 use Rattle.std.proofs.Common.{ap, sym, ◌∙◌}
 use Rattle.std.specs.Prelude.{option_map}
 use Rattle.ll_verdict.proofs.StateLemmas.{at_once-is}
-use Rattle.ll_verdict.specs.Events.{items}
 use Rattle.ll_verdict.specs.Outcome.{outcome_of}
 use Rattle.ll_verdict.specs.State.{state_of}
 use Rattle.ll_room.specs.contracts.room.Room.{the_view}

@@ -4,8 +4,8 @@ use Rattle.std.specs.List.{All}
 use Rattle.std.specs.Map.{keys_of}
 use Rattle.std.proofs.lemmas.Map.Views.{All-keys-insert_entry}
 use Rattle.std.proofs.lemmas.Option.{none-some}
-use Rattle.ll_room.proofs.ShelfLemmas.{none_above, put_last}
-use Rattle.ll_room.proofs.shelf.Shelf.put.Goals as goal
+use Rattle.ll_held.proofs.ShelfLemmas.{none_above, put_last}
+use Rattle.ll_held.proofs.shelf.Shelf.put.Goals as goal
 
 pub unreachable-requires : goal.unreachable-requires
 unreachable-requires c =

@@ -6,7 +6,7 @@ ghost use Rattle.ll_item.specs.declared.item.Item.{Item};
 ghost use Rattle.ll_page.specs.View as view;
 ghost use Rattle.ll_range.specs.Announced as range;
 ghost use Rattle.ll_verdict.specs.Accepted.{of_push, of_range};
-ghost use Rattle.ll_room.specs.Full.{refusal_of};
+ghost use Rattle.ll_rendition.specs.Refusal.{refusal_of};
 
 use ll_item::Item;
 use ll_page::Rendition;
@@ -15,8 +15,8 @@ use ll_verdict::PublishFault;
 use ll_window::PushFault;
 use std::alloc::AllocError;
 
-/// The first rule of a rendition that refuses an item, if one does.
-pub(crate) fn test(kept: &Rendition, item: &Item) -> Result<(), PublishFault>
+/// Whether one more item may follow in its rendition, of which this is kept, or the first rule that refuses it. It takes no memory.
+pub fn test(kept: &Rendition, item: &Item) -> Result<(), PublishFault>
     ensures { MatchResult result (λ u. refusal_of kept.now item.now ≡ None) (λ f. refusal_of kept.now item.now ≡ Some f) }
 {
     if let Err(fault) = kept.window.test(item) {
@@ -68,8 +68,9 @@ fn range_fault(fault: RangeFault) -> PublishFault
     }
 }
 
-/// Adds an item that nothing refuses.
-pub(crate) fn accept(kept: &mut Rendition, item: Item) -> Result<(), AllocError>
+/// Takes one more item into what is kept of its rendition, where nothing refuses it, as [`test`] tells: what was kept of the items before
+/// it is then what is kept of these and this one. It fails only where no memory is found, and then changes nothing.
+pub fn accept(kept: &mut Rendition, item: Item) -> Result<(), AllocError>
     requires { refusal_of kept.old item ≡ None }
     ensures accepted { (c : Configuration) (before : List Item) → kept.old ≡ view.kept c before → OnOk result (kept.new ≡ view.kept c (before ++ item ∷ [])) }
     ensures unchanged { OnErr result (kept.new ≡ kept.old) }

@@ -1,7 +1,7 @@
 ghost use Rattle.std.specs.Prelude.{◌≡◌, ◌↔◌, ◌++◌, ◌∷◌, [], None, IfErr, IfOk, IsOk};
-ghost use Rattle.ll_room.specs.Shelf.{found, taken_off};
+ghost use Rattle.ll_held.specs.Shelf.{found, taken_off};
 
-use crate::parked::Parked;
+use ll_room::Parked;
 use std::alloc::{AllocFailed, Global};
 use std::collections::BTreeMap;
 use std::marker::Model;

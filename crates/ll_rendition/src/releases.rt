@@ -1,8 +1,6 @@
 //! Which requests an item releases, and their release.
-ghost use Rattle.std.specs.Prelude.{◌≡◌, IfOk, OnOk, map, option_map};
-ghost use Rattle.std.specs.List.{list_any};
-ghost use Rattle.ll_book.specs.Release.{AreThose, holders_of, released, takes};
-ghost use Rattle.ll_room.specs.Freed as spec;
+ghost use Rattle.std.specs.Prelude.{◌≡◌, IfOk};
+ghost use Rattle.ll_rendition.specs.Releases as spec;
 
 use ll_book::{Book, Holders, Pages, Release};
 use ll_item::Item;
@@ -10,7 +8,7 @@ use ll_window::Window;
 use std::alloc::{AllocError, Global};
 
 /// A part releases those that await it or an earlier one, the end all of its rendition.
-pub(crate) fn first_release(window: &Window, item: &Item) -> Option<Release>
+pub fn first_release(window: &Window, item: &Item) -> Option<Release>
     ensures { result ≡ spec.first_release window.now item.now }
 {
     match *item {
@@ -25,7 +23,7 @@ pub(crate) fn first_release(window: &Window, item: &Item) -> Option<Release>
 }
 
 /// A finishing part also releases those that await its segment or an earlier one.
-pub(crate) fn second_release(window: &Window, item: &Item) -> Option<Release>
+pub fn second_release(window: &Window, item: &Item) -> Option<Release>
     ensures { result ≡ spec.second_release window.now item.now }
 {
     match *item {
@@ -39,7 +37,7 @@ pub(crate) fn second_release(window: &Window, item: &Item) -> Option<Release>
 }
 
 /// The holders of a release, where there is one. It fails only where no memory is found.
-pub(crate) fn holders(
+pub fn holders(
     book: &Book,
     alloc: Global,
     which: Option<Release>,
@@ -55,7 +53,7 @@ pub(crate) fn holders(
 }
 
 /// Releases the requests that a release takes, where there is one; the holders were made for just these.
-pub(crate) fn release(book: &mut Book, which: Option<Release>, holders: Option<Holders>)
+pub fn release(book: &mut Book, which: Option<Release>, holders: Option<Holders>)
     requires those { spec.HasThose which holders book.old }
     ensures { book.new ≡ spec.released_with which holders book.old }
 {
@@ -70,7 +68,7 @@ pub(crate) fn release(book: &mut Book, which: Option<Release>, holders: Option<H
 }
 
 /// Whether a release, where there is one, takes any request.
-pub(crate) fn takes_any(book: &Book, which: Option<Release>) -> bool
+pub fn takes_any(book: &Book, which: Option<Release>) -> bool
     ensures { result ≡ spec.takes_any which book.now }
 {
     match which {

@@ -1,8 +1,8 @@
 -- The date ranges take the item, and it leaves the window.
 use Rattle.std.proofs.Common.{◌∙◌, ap, sym}
 use Rattle.ll_item.specs.declared.item.Item.TheVariants as item
-use Rattle.ll_room.proofs.PublishLemmas.{ranged}
-use Rattle.ll_room.proofs.rendition.accept_range.Goals as goal
+use Rattle.ll_rendition.proofs.ItemLemmas.{ranged}
+use Rattle.ll_rendition.proofs.next_item.accept_range.Goals as goal
 
 pub returns-in-Range-clause-accepted : goal.returns-in-Range-clause-accepted
 returns-in-Range-clause-accepted c cf before e is_range =

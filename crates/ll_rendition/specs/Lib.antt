@@ -1,0 +1,2 @@
+pub mod Refusal
+pub mod Releases

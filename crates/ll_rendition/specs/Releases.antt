@@ -1,0 +1,54 @@
+-- Which releases an item brings, where this was kept of its rendition before it; and a release, where there is one.
+use Rattle.std.specs.Prelude.{◌≡◌, ℕ, List, Bool, true, false, Option, Some, None, length}
+use Rattle.std.specs.List.{list_any}
+use Rattle.ll_item.specs.declared.item.Item.{Item}
+use Rattle.ll_item.specs.declared.item.Item.TheVariants as item
+use Rattle.ll_window.specs.Compact.{Compact}
+use Rattle.ll_verdict.specs.declared.entry.Slot.{Slot}
+use Rattle.ll_book.specs.Pages.{PagesOf}
+use Rattle.ll_book.specs.Release.{AreThose, Held, holders_of, released, takes}
+use Rattle.ll_book.specs.declared.release.Release.{Release}
+use Rattle.ll_book.specs.declared.release.Release.TheVariants.{Part, Segment, All}
+
+-- a part releases those that await it or an earlier one, the end all of its rendition
+abbrev pub first_release : Compact → Item → Option Release
+first_release k (item.Part rendition duration independent finish) = Some (Part rendition k.next_number (length k.open_parts))
+first_release k (item.Break rendition) = None
+first_release k (item.End rendition) = Some (All rendition)
+first_release k (item.Range rendition id attributes) = None
+first_release k (item.Unrange rendition id) = None
+
+abbrev pub segment_if : Bool → ℕ → ℕ → Option Release
+segment_if true rendition number = Some (Segment rendition number)
+segment_if false rendition number = None
+
+-- a finishing part also releases those that await its segment or an earlier one
+abbrev pub second_release : Compact → Item → Option Release
+second_release k (item.Part rendition duration independent finish) = segment_if finish rendition k.next_number
+second_release k (item.Break rendition) = None
+second_release k (item.End rendition) = None
+second_release k (item.Range rendition id attributes) = None
+second_release k (item.Unrange rendition id) = None
+
+-- whether a release, where there is one, takes any of these
+abbrev pub takes_any : Option Release → List Slot → Bool
+takes_any None slots = false
+takes_any (Some which) slots = list_any (takes which) slots
+
+-- the holders of a release, where there is one
+abbrev pub HasHolders : PagesOf → Option Release → List Slot → Option Held → Type 0
+HasHolders pages None slots found = found ≡ None
+HasHolders pages (Some which) slots None = ⊥
+HasHolders pages (Some which) slots (Some held) = held.holders ≡ holders_of pages which slots
+
+-- the holders are those of just the requests that a release takes
+abbrev pub HasThose : Option Release → Option Held → List Slot → Type 0
+HasThose None found slots = Unit
+HasThose (Some which) None slots = ⊥
+HasThose (Some which) (Some held) slots = AreThose which held.holders slots
+
+-- the open requests after a release with these holders
+abbrev pub released_with : Option Release → Option Held → List Slot → List Slot
+released_with None found slots = slots
+released_with (Some which) None slots = slots
+released_with (Some which) (Some held) slots = released which held.holders slots

@@ -1,0 +1,41 @@
+//! What a request awaits of a rendition (Blocking Playlist Reload, section 6.2.5.2).
+ghost use Rattle.std.specs.Prelude.{◌≡◌, ◌||◌, List};
+ghost use Rattle.ll_item.specs.declared.item.Item.{Item};
+ghost use Rattle.ll_verdict.specs.Verdict as verdict;
+ghost use Rattle.ll_window.specs.Compact.{compact};
+ghost use Rattle.ll_window.specs.Segments.{ended};
+
+use ll_directive::Awaited;
+use ll_window::Window;
+
+/// Whether what is awaited of a rendition is there, or it has ended.
+pub fn is_there(window: &Window, awaited: Awaited) -> bool
+    ensures { (items : List Item) → window.now ≡ compact window.now.settings items
+        → result ≡ (verdict.holds window.now.settings items awaited || ended items) }
+{
+    holds(window, awaited) || window.ended()
+}
+
+/// Whether what is awaited of a rendition is there.
+fn holds(window: &Window, awaited: Awaited) -> bool
+    ensures { (items : List Item) → window.now ≡ compact window.now.settings items
+        → result ≡ verdict.holds window.now.settings items awaited }
+{
+    match awaited {
+        Awaited::Nothing => true,
+        Awaited::Segment(msn) => window.holds_segment(msn),
+        Awaited::Part(msn, part) => window.holds_part(msn, part),
+    }
+}
+
+/// Whether what is awaited of a rendition is too far ahead to be waited for.
+pub fn is_far(window: &Window, awaited: Awaited) -> bool
+    ensures { (items : List Item) → window.now ≡ compact window.now.settings items
+        → result ≡ verdict.far window.now.settings items awaited }
+{
+    match awaited {
+        Awaited::Nothing => false,
+        Awaited::Segment(msn) => window.far(msn, None),
+        Awaited::Part(msn, part) => window.far(msn, Some(part)),
+    }
+}
