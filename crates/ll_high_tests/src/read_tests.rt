@@ -1,6 +1,6 @@
-use ll_read::{Outline, ReadFault, read, read_outline};
+use crate::rows::{check, column};
+use ll_read::{Outline, read, read_outline};
 use std::alloc::Global;
-use std::process::Abort;
 use std::test::Fail;
 
 /// A playlist with every kind of line but two: it skips nothing and has not ended.
@@ -44,49 +44,63 @@ const DELTA: &str = "#EXTM3U\n\
     s8.m4s\n\
     #EXT-X-ENDLIST\n";
 
-/// A text whose lines end in CR LF in place of LF.
-fn with_returns(alloc: Global, text: &str) -> Result<String, Fail> {
+/// A text and the end of its lines: the sequence, the segments and what is skipped, as the playlist and as its text alone tell them, and as
+/// what the playlist is written.
+const PLAYLISTS: &str = "
+FULL | LF => 7 2 None, 7 2 None, FULL
+FULL | CR LF => 7 2 None, 7 2 None, FULL
+DELTA | LF => 5 1 Some(3), 5 1 Some(3), DELTA
+DELTA | CR LF => 5 1 Some(3), 5 1 Some(3), DELTA";
+
+/// A text whose lines have another end.
+fn with_end(alloc: Global, text: &str, end: &str) -> Result<String, Fail> {
     let mut other = String::new(alloc);
     for line in text.lines() {
-        other.push_str(line)?;
-        other.push_str("\r\n")?;
+        write!(other, "{line}{end}")?;
     }
     Ok(other)
 }
 
-/// A text is read as a playlist that comes to this and is written as another text.
-fn expect_written(
-    rt: &impl Abort,
-    alloc: Global,
-    text: &str,
-    outline: Outline,
-    again: &str,
-) -> Result<(), Fail> {
-    let playlist = read(alloc, text.as_bytes())?;
+/// The text of a name.
+fn text_of(name: &str) -> &str {
+    match name {
+        "FULL" => FULL,
+        "DELTA" => DELTA,
+        _ => name,
+    }
+}
+
+/// The name of a text, or a text that has none.
+fn name_of(text: &str) -> &str {
+    match text {
+        FULL => "FULL",
+        DELTA => "DELTA",
+        _ => text,
+    }
+}
+
+fn outline_told(alloc: Global, outline: Outline) -> Result<String, Fail> {
+    let (sequence, segments) = (outline.sequence, outline.segments);
+    Ok(format!(in alloc; "{sequence} {segments} {:?}", outline.skipped)?)
+}
+
+fn again(alloc: Global, input: &str) -> Result<String, Fail> {
+    let end = if column(input, 1) == "LF" {
+        "\n"
+    } else {
+        "\r\n"
+    };
+    let text = with_end(alloc, text_of(column(input, 0)), end)?;
+    let playlist = read(alloc, text.as_str().as_bytes())?;
     let written = playlist.write(alloc)?;
-    let outlines = (playlist.outline(), read_outline(alloc, text.as_bytes()));
-    assert_eq!(rt; (written.as_str(), outlines), (again, (outline, outline)));
-    Ok(())
+    let one = outline_told(alloc, playlist.outline())?;
+    let other = outline_told(alloc, read_outline(alloc, text.as_str().as_bytes()))?;
+    Ok(format!(in alloc; "{one}, {other}, {}", name_of(written.as_str()))?)
 }
 
 #[test]
 fn what_was_read_is_written_again(rt: HostRuntime) -> Result<(), Fail> {
-    let full = Outline {
-        sequence: 7,
-        segments: 2,
-        skipped: None,
-    };
-    let delta = Outline {
-        sequence: 5,
-        segments: 1,
-        skipped: Some(3),
-    };
-    for (text, outline) in [(FULL, full), (DELTA, delta)] {
-        expect_written(&rt, rt.alloc(), text, outline, text)?;
-        let returns = with_returns(rt.alloc(), text)?;
-        expect_written(&rt, rt.alloc(), returns.as_str(), outline, text)?;
-    }
-    Ok(())
+    check(&rt, rt.alloc(), PLAYLISTS, again)
 }
 
 /// What a text comes to: how many date ranges, segments and reports it has, or its fault.
@@ -98,99 +112,86 @@ pub(crate) fn told(alloc: Global, text: &[u8]) -> Result<String, Fail> {
     Ok(told)
 }
 
-/// Each row changes the full playlist in one place, and tells what it comes to then. Its lines are 24.
-fn expect(rt: &impl Abort, alloc: Global, table: &[(&str, &str, &str)]) -> Result<(), Fail> {
-    for (old, new, answer) in table {
-        let (before, after) = FULL.split_once(*old).ok_or("it stands in the playlist")?;
-        let text = format!(in alloc; "{before}{new}{after}")?;
-        let found = told(alloc, text.as_bytes())?;
-        assert_eq!(rt; found.as_str(), *answer, "with {new} for {old}");
-    }
-    Ok(())
+/// What the full playlist comes to with another text in one place. Its lines are 24.
+fn changed(alloc: Global, input: &str) -> Result<String, Fail> {
+    let (before, after) = FULL.split_once(column(input, 0)).ok_or("it stands in it")?;
+    let text = format!(in alloc; "{before}{}{after}", column(input, 1))?;
+    told(alloc, text.as_str().as_bytes())
 }
+
+const NUMBERS: &str = "
+VERSION:10 | VERSION:9 => 2 2 1
+VERSION:10 | VERSION:8 => BadLine 2
+VERSION:10 | VERSION:11 => BadLine 2
+TION:4 | TION:2305843009213693952 => 2 2 1
+TION:4 | TION:2305843009213693953 => BadLine 3
+TION:4 | TION:04 => BadLine 3
+TION:4 | TION:+4 => BadLine 3
+TION:4 | TION: => BadLine 3
+SEQUENCE:7 | SEQUENCE:2305843009213693952 => 2 2 1
+SEQUENCE:7 | SEQUENCE:2305843009213693953 => BadLine 6
+SEQUENCE:7 | SEQUENCE:18446744073709551616 => BadLine 6
+SEQUENCE:2 | SEQUENCE:2305843009213693952 => 2 2 1
+SEQUENCE:2 | SEQUENCE:2305843009213693953 => BadLine 7
+MSN=9 | MSN=2305843009213693952 => 2 2 1
+MSN=9 | MSN=2305843009213693953 => BadLine 23
+PART=3 | PART=2305843009213693952 => 2 2 1
+PART=3 | PART=2305843009213693953 => BadLine 23";
 
 #[test]
 fn numbers_at_their_limits(rt: HostRuntime) -> Result<(), Fail> {
-    expect(
-        &rt,
-        rt.alloc(),
-        &[
-            ("VERSION:10", "VERSION:9", "2 2 1"),
-            ("VERSION:10", "VERSION:8", "BadLine 2"),
-            ("VERSION:10", "VERSION:11", "BadLine 2"),
-            ("TION:4", "TION:2305843009213693952", "2 2 1"),
-            ("TION:4", "TION:2305843009213693953", "BadLine 3"),
-            ("TION:4", "TION:04", "BadLine 3"),
-            ("TION:4", "TION:+4", "BadLine 3"),
-            ("TION:4", "TION:", "BadLine 3"),
-            ("SEQUENCE:7", "SEQUENCE:2305843009213693952", "2 2 1"),
-            ("SEQUENCE:7", "SEQUENCE:2305843009213693953", "BadLine 6"),
-            ("SEQUENCE:7", "SEQUENCE:18446744073709551616", "BadLine 6"),
-            ("SEQUENCE:2", "SEQUENCE:2305843009213693952", "2 2 1"),
-            ("SEQUENCE:2", "SEQUENCE:2305843009213693953", "BadLine 7"),
-            ("MSN=9", "MSN=2305843009213693952", "2 2 1"),
-            ("MSN=9", "MSN=2305843009213693953", "BadLine 23"),
-            ("PART=3", "PART=2305843009213693952", "2 2 1"),
-            ("PART=3", "PART=2305843009213693953", "BadLine 23"),
-        ],
-    )
+    check(&rt, rt.alloc(), NUMBERS, changed)
 }
+
+const DURATIONS: &str = "
+BACK=3.000000 | BACK=999999999999.999999 => 2 2 1
+BACK=3.000000 | BACK=1000000000000.000000 => BadLine 4
+UNTIL=24.000000 | UNTIL=999999999999.999999 => 2 2 1
+UNTIL=24.000000 | UNTIL=1000000000000.000000 => BadLine 4
+GET=1.000000 | GET=999999999999.999999 => 2 2 1
+GET=1.000000 | GET=9999999999999.999999 => BadLine 5
+INF:1.500000 | INF:999999999999.999999 => 2 2 1
+INF:1.500000 | INF:9999999999999.999999 => BadLine 12
+INF:1.500000 | INF:0.000000 => 2 2 1
+INF:1.500000 | INF:01.500000 => BadLine 12
+INF:1.500000 | INF:1.5000000 => BadLine 12
+INF:1.500000 | INF:1.50000 => BadLine 12
+INF:1.500000 | INF:1 => BadLine 12
+ION=0.500000 | ION=999999999999.999999 => 2 2 1
+ION=0.500000 | ION=1000000000000.000000 => BadLine 15";
 
 #[test]
 fn durations_at_their_limits(rt: HostRuntime) -> Result<(), Fail> {
-    expect(
-        &rt,
-        rt.alloc(),
-        &[
-            ("BACK=3.000000", "BACK=999999999999.999999", "2 2 1"),
-            ("BACK=3.000000", "BACK=1000000000000.000000", "BadLine 4"),
-            ("UNTIL=24.000000", "UNTIL=999999999999.999999", "2 2 1"),
-            ("UNTIL=24.000000", "UNTIL=1000000000000.000000", "BadLine 4"),
-            ("GET=1.000000", "GET=999999999999.999999", "2 2 1"),
-            ("GET=1.000000", "GET=9999999999999.999999", "BadLine 5"),
-            ("INF:1.500000", "INF:999999999999.999999", "2 2 1"),
-            ("INF:1.500000", "INF:9999999999999.999999", "BadLine 12"),
-            ("INF:1.500000", "INF:0.000000", "2 2 1"),
-            ("INF:1.500000", "INF:01.500000", "BadLine 12"),
-            ("INF:1.500000", "INF:1.5000000", "BadLine 12"),
-            ("INF:1.500000", "INF:1.50000", "BadLine 12"),
-            ("INF:1.500000", "INF:1", "BadLine 12"),
-            ("ION=0.500000", "ION=999999999999.999999", "2 2 1"),
-            ("ION=0.500000", "ION=1000000000000.000000", "BadLine 15"),
-        ],
-    )
+    check(&rt, rt.alloc(), DURATIONS, changed)
 }
+
+const TEXTS: &str = "
+#EXTM3U | \u{feff}#EXTM3U => NotPlaylist
+#EXTM3U␊ | #EXTM3U\r␊ => 2 2 1
+#EXTM3U␊ | #EXTM3U ␊ => NotPlaylist
+RELOAD=YES | RELOAD=NO => BadLine 4
+,CAN-SKIP-DATERANGES=YES |  => 2 2 1
+RANGES=YES | RANGES=NO => BadLine 4
+\"ad 2\" | \"ad 1\" => BadLine 9
+ID=\"ad 2\" | X-A=1 => BadLine 9
+\"ad 2\" | \"ad 2\",X-A=1\r => 2 2 1
+init0.mp4\"␊ | init0.mp4\"\r␊ => 2 2 1
+init0.mp4 |  => BadLine 10
+init0.mp4\" | init0.mp4\",BYTERANGE=\"1@0\" => BadLine 10
+1970-01-01T00:00:07.000Z |  => BadLine 11
+s7.m4s | sé7.m4s => 2 2 1
+s7.m4s | s7.m4s\r => 2 2 1
+s7.m4s | s7.m4s\r\r => BadLine 13
+s7.m4s |  => BadLine 13
+s7.m4s | s7\".m4s => BadLine 13
+s7.m4s | #s7.m4s => BadLine 13
+DENT=YES | DENT=NO => BadLine 15
+TYPE=PART | TYPE=MAP => BadLine 24
+s9.1.m4s\"␊ | s9.1.m4s\" => BadLine 24
+s9.1.m4s\"␊ | s9.1.m4s\"␊  => BadLine 25
+s9.1.m4s\"␊ | s9.1.m4s\"␊␊ => BadLine 25";
 
 #[test]
 fn texts_of_lines(rt: HostRuntime) -> Result<(), Fail> {
-    expect(
-        &rt,
-        rt.alloc(),
-        &[
-            ("#EXTM3U", "\u{feff}#EXTM3U", "NotPlaylist"),
-            ("#EXTM3U\n", "#EXTM3U\r\n", "2 2 1"),
-            ("#EXTM3U\n", "#EXTM3U \n", "NotPlaylist"),
-            ("RELOAD=YES", "RELOAD=NO", "BadLine 4"),
-            (",CAN-SKIP-DATERANGES=YES", "", "2 2 1"),
-            ("RANGES=YES", "RANGES=NO", "BadLine 4"),
-            ("\"ad 2\"", "\"ad 1\"", "BadLine 9"),
-            ("ID=\"ad 2\"", "X-A=1", "BadLine 9"),
-            ("\"ad 2\"", "\"ad 2\",X-A=1\r", "2 2 1"),
-            ("init0.mp4\"\n", "init0.mp4\"\r\n", "2 2 1"),
-            ("init0.mp4", "", "BadLine 10"),
-            ("init0.mp4\"", "init0.mp4\",BYTERANGE=\"1@0\"", "BadLine 10"),
-            ("1970-01-01T00:00:07.000Z", "", "BadLine 11"),
-            ("s7.m4s", "s\u{e9}7.m4s", "2 2 1"),
-            ("s7.m4s", "s7.m4s\r", "2 2 1"),
-            ("s7.m4s", "s7.m4s\r\r", "BadLine 13"),
-            ("s7.m4s", "", "BadLine 13"),
-            ("s7.m4s", "s7\".m4s", "BadLine 13"),
-            ("s7.m4s", "#s7.m4s", "BadLine 13"),
-            ("DENT=YES", "DENT=NO", "BadLine 15"),
-            ("TYPE=PART", "TYPE=MAP", "BadLine 24"),
-            ("s9.1.m4s\"\n", "s9.1.m4s\"", "BadLine 24"),
-            ("s9.1.m4s\"\n", "s9.1.m4s\"\n ", "BadLine 25"),
-            ("s9.1.m4s\"\n", "s9.1.m4s\"\n\n", "BadLine 25"),
-        ],
-    )
+    check(&rt, rt.alloc(), TEXTS, changed)
 }
