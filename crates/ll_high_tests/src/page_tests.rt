@@ -164,15 +164,20 @@ ONE | 0 | YES => SKIPPED
 ONE | 0 | v2 => SKIPPED";
 
 fn written(alloc: Global, input: &str) -> Result<String, Fail> {
-    let (settings, renditions) = channel(alloc, text_of(column(input, 0)))?;
     let rendition = number(input, 1)? as usize;
+    let (settings, renditions) = channel(alloc, text_of(column(input, 0)))?;
     let view = View::new(&settings, &renditions, rendition, 9).ok_or("the rendition")?;
-    let text = match column(input, 2) {
-        "nothing" => full(alloc, &view)?,
-        "YES" => delta(alloc, &view, SkipKind::Yes)?,
-        _ => delta(alloc, &view, SkipKind::V2)?,
+    view_written(alloc, &view, column(input, 2))
+}
+
+/// The name of the playlist of a view, where this may be skipped.
+fn view_written(alloc: Global, view: &View<'_>, skip: &str) -> Result<String, Fail> {
+    let text = match skip {
+        "nothing" => full(alloc, view),
+        "YES" => delta(alloc, view, SkipKind::Yes),
+        _ => delta(alloc, view, SkipKind::V2),
     };
-    Ok(String::from_str(alloc, name_of(text.as_str()))?)
+    Ok(String::from_str(alloc, name_of(text?.as_str()))?)
 }
 
 #[test]
@@ -262,8 +267,9 @@ const OF_ONE: &str = r#"
 2 => None"#;
 
 fn view_of(alloc: Global, input: &str) -> Result<String, Fail> {
+    let rendition = number(input, 0)? as usize;
     let (settings, renditions) = channel(alloc, TWO)?;
-    let view = View::new(&settings, &renditions, number(input, 0)? as usize, 9);
+    let view = View::new(&settings, &renditions, rendition, 9);
     Ok(format!(in alloc; "{:?}", view.as_ref().map(told))?)
 }
 

@@ -1,5 +1,5 @@
 use crate::rows::{check, column};
-use ll_read::{Outline, read, read_outline};
+use ll_read::{read, read_outline};
 use std::alloc::Global;
 use std::test::Fail;
 
@@ -44,13 +44,15 @@ const DELTA: &str = "#EXTM3U\n\
     s8.m4s\n\
     #EXT-X-ENDLIST\n";
 
-/// A text and the end of its lines: the sequence, the segments and what is skipped, as the playlist and as its text alone tell them, and as
-/// what the playlist is written.
-const PLAYLISTS: &str = "
-FULL | LF => 7 2 None, 7 2 None, FULL
-FULL | CR LF => 7 2 None, 7 2 None, FULL
-DELTA | LF => 5 1 Some(3), 5 1 Some(3), DELTA
-DELTA | CR LF => 5 1 Some(3), 5 1 Some(3), DELTA";
+/// The end of the full playlist's lines: what it comes to, told without memory and as it is read, and what it is written as then.
+const OF_FULL: &str = "
+LF => Outline { sequence: 7, segments: 2, skipped: None }, Outline { sequence: 7, segments: 2, skipped: None }, the same text
+CR LF => Outline { sequence: 7, segments: 2, skipped: None }, Outline { sequence: 7, segments: 2, skipped: None }, the same text";
+
+/// The same of the delta update.
+const OF_DELTA: &str = "
+LF => Outline { sequence: 5, segments: 1, skipped: Some(3) }, Outline { sequence: 5, segments: 1, skipped: Some(3) }, the same text
+CR LF => Outline { sequence: 5, segments: 1, skipped: Some(3) }, Outline { sequence: 5, segments: 1, skipped: Some(3) }, the same text";
 
 /// A text whose lines have another end.
 fn with_end(alloc: Global, text: &str, end: &str) -> Result<String, Fail> {
@@ -61,46 +63,36 @@ fn with_end(alloc: Global, text: &str, end: &str) -> Result<String, Fail> {
     Ok(other)
 }
 
-/// The text of a name.
-fn text_of(name: &str) -> &str {
-    match name {
-        "FULL" => FULL,
-        "DELTA" => DELTA,
-        _ => name,
-    }
-}
-
-/// The name of a text, or a text that has none.
-fn name_of(text: &str) -> &str {
-    match text {
-        FULL => "FULL",
-        DELTA => "DELTA",
-        _ => text,
-    }
-}
-
-fn outline_told(alloc: Global, outline: Outline) -> Result<String, Fail> {
-    let (sequence, segments) = (outline.sequence, outline.segments);
-    Ok(format!(in alloc; "{sequence} {segments} {:?}", outline.skipped)?)
-}
-
-fn again(alloc: Global, input: &str) -> Result<String, Fail> {
-    let end = if column(input, 1) == "LF" {
-        "\n"
-    } else {
-        "\r\n"
-    };
-    let text = with_end(alloc, text_of(column(input, 0)), end)?;
-    let playlist = read(alloc, text.as_str().as_bytes())?;
+/// Adds what these bytes come to as a playlist, and what that is written as: a text, or another.
+fn add_written(alloc: Global, told: &mut String, bytes: &[u8], text: &str) -> Result<(), Fail> {
+    let playlist = read(alloc, bytes)?;
     let written = playlist.write(alloc)?;
-    let one = outline_told(alloc, playlist.outline())?;
-    let other = outline_told(alloc, read_outline(alloc, text.as_str().as_bytes()))?;
-    Ok(format!(in alloc; "{one}, {other}, {}", name_of(written.as_str()))?)
+    let written = if written.as_str() == text {
+        "the same text"
+    } else {
+        written.as_str()
+    };
+    Ok(write!(told, "{:?}, {written}", playlist.outline())?)
+}
+
+/// What a text comes to whose lines end in LF, or in CR LF in its place.
+fn again(alloc: Global, text: &str, end: &str) -> Result<String, Fail> {
+    let end = if end == "LF" { "\n" } else { "\r\n" };
+    let other = with_end(alloc, text, end)?;
+    let bytes = other.as_str().as_bytes();
+    let mut told = format!(in alloc; "{:?}, ", read_outline(alloc, bytes))?;
+    add_written(alloc, &mut told, bytes, text)?;
+    Ok(told)
 }
 
 #[test]
 fn what_was_read_is_written_again(rt: HostRuntime) -> Result<(), Fail> {
-    check(&rt, rt.alloc(), PLAYLISTS, again)
+    check(&rt, rt.alloc(), OF_FULL, |alloc, end| {
+        again(alloc, FULL, end)
+    })?;
+    check(&rt, rt.alloc(), OF_DELTA, |alloc, end| {
+        again(alloc, DELTA, end)
+    })
 }
 
 /// What a text comes to: how many date ranges, segments and reports it has, or its fault.
@@ -112,11 +104,16 @@ pub(crate) fn told(alloc: Global, text: &[u8]) -> Result<String, Fail> {
     Ok(told)
 }
 
-/// What the full playlist comes to with another text in one place. Its lines are 24.
-fn changed(alloc: Global, input: &str) -> Result<String, Fail> {
-    let (before, after) = FULL.split_once(column(input, 0)).ok_or("it stands in it")?;
+/// What a text comes to with another in place of a part of it. The lines of the full playlist are 24.
+fn changed(alloc: Global, text: &str, input: &str) -> Result<String, Fail> {
+    let (before, after) = text.split_once(column(input, 0)).ok_or("it stands in it")?;
     let text = format!(in alloc; "{before}{}{after}", column(input, 1))?;
     told(alloc, text.as_str().as_bytes())
+}
+
+/// What the full playlist comes to then.
+fn full_changed(alloc: Global, input: &str) -> Result<String, Fail> {
+    changed(alloc, FULL, input)
 }
 
 const NUMBERS: &str = "
@@ -140,7 +137,7 @@ PART=3 | PART=2305843009213693953 => BadLine 23";
 
 #[test]
 fn numbers_at_their_limits(rt: HostRuntime) -> Result<(), Fail> {
-    check(&rt, rt.alloc(), NUMBERS, changed)
+    check(&rt, rt.alloc(), NUMBERS, full_changed)
 }
 
 const DURATIONS: &str = "
@@ -162,7 +159,7 @@ ION=0.500000 | ION=1000000000000.000000 => BadLine 15";
 
 #[test]
 fn durations_at_their_limits(rt: HostRuntime) -> Result<(), Fail> {
-    check(&rt, rt.alloc(), DURATIONS, changed)
+    check(&rt, rt.alloc(), DURATIONS, full_changed)
 }
 
 const TEXTS: &str = "
@@ -193,5 +190,5 @@ s9.1.m4s\"␊ | s9.1.m4s\"␊␊ => BadLine 25";
 
 #[test]
 fn texts_of_lines(rt: HostRuntime) -> Result<(), Fail> {
-    check(&rt, rt.alloc(), TEXTS, changed)
+    check(&rt, rt.alloc(), TEXTS, full_changed)
 }
