@@ -108,8 +108,18 @@ fn step_of_copy(alloc: Global, ranges: &mut Ranges, input: &str) -> Result<Strin
     let (end, read) = (number(input, 2)?, number(input, 3)?);
     let answer = change(alloc, ranges, column(input, 0), end, column(input, 1))?;
     let mut text = format!(in alloc; "{answer:?} ")?;
-    add_state(alloc, &mut text, &ranges.copy()?, read)?;
+    add_state_of_copy(alloc, &mut text, ranges, read)?;
     Ok(text)
+}
+
+/// Adds the state of a copy.
+fn add_state_of_copy(
+    alloc: Global,
+    text: &mut String,
+    ranges: &Ranges,
+    end: u64,
+) -> Result<(), Fail> {
+    add_state(alloc, text, &ranges.copy()?, end)
 }
 
 #[test]

@@ -215,12 +215,17 @@ fn copied(alloc: Global, input: &str) -> Result<String, Fail> {
     let mut text = String::new(alloc);
     let mut window = window(alloc, 7, 0)?;
     push(&mut window, column(input, 0))?;
-    let copy = window.copy()?;
-    add_both(&mut text, &copy, &window)?;
-    text.push_str(" - ")?;
-    push(&mut window, column(input, 1))?;
-    add_both(&mut text, &copy, &window)?;
+    add_copied(&mut text, &mut window, column(input, 1))?;
     Ok(text)
+}
+
+/// Adds what a copy and its window tell before a later item, and after it.
+fn add_copied(text: &mut String, window: &mut Window, later: &str) -> Result<(), Fail> {
+    let copy = window.copy()?;
+    add_both(text, &copy, window)?;
+    text.push_str(" - ")?;
+    push(window, later)?;
+    add_both(text, &copy, window)
 }
 
 #[test]
