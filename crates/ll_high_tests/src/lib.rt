@@ -11,3 +11,5 @@ mod page_tests;
 mod read_table_tests;
 #[cfg(test)]
 mod read_tests;
+#[cfg(test)]
+mod rows;

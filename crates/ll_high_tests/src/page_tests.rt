@@ -1,3 +1,4 @@
+use crate::rows::{check, column, number};
 use ll_item::{Item, Settings};
 use ll_page::{Form, Page, Rendition, Shown, SkipKind, View, delta, full};
 use ll_range::Ranges;
@@ -73,36 +74,51 @@ const SKIPPED: &str = "#EXTM3U\n\
 
 /// Two renditions, of which the first has ended.
 const TWO: &str =
-    "channel cam target=4 part=1000000 skip=24 window=36 renditions=hi,lo first=0 start=0";
-
-const TWO_ITEMS: &[&str] = &[
-    "part lo 999999 if",
-    "break lo",
-    "part lo 1000000 -",
-    "range hi ID=\"ad 1\",START-DATE=\"1970-01-01T00:00:00Z\",DURATION=1.5",
-    "end hi",
-];
+    "channel cam target=4 part=1000000 skip=24 window=36 renditions=hi,lo first=0 start=0
+part lo 999999 if
+break lo
+part lo 1000000 -
+range hi ID=\"ad 1\",START-DATE=\"1970-01-01T00:00:00Z\",DURATION=1.5
+end hi";
 
 /// What comes later: it changes the playlist of either rendition.
-const LATER: &[&str] = &["part lo 1000000 f"];
+const LATER: &str = "part lo 1000000 f";
 
 /// Segments of a second, of which delta updates skip those that have more than 6 s after them.
-const ONE: &str = "channel cam target=1 part=1000000 skip=6 window=9 renditions=hi first=0 start=0";
+const ONE: &str = "channel cam target=1 part=1000000 skip=6 window=9 renditions=hi first=0 start=0
+part hi 1000000 f
+part hi 1000000 f
+part hi 1000000 f
+part hi 1000000 f
+part hi 1000000 f
+part hi 1000000 f
+part hi 1000000 f
+part hi 1000000 f
+end hi";
 
-const ONE_ITEMS: &[&str] = &[
-    "part hi 1000000 f",
-    "part hi 1000000 f",
-    "part hi 1000000 f",
-    "part hi 1000000 f",
-    "part hi 1000000 f",
-    "part hi 1000000 f",
-    "part hi 1000000 f",
-    "part hi 1000000 f",
-    "end hi",
-];
+/// The text of a name.
+fn text_of(name: &str) -> &str {
+    match name {
+        "TWO" => TWO,
+        "ONE" => ONE,
+        "LATER" => LATER,
+        _ => name,
+    }
+}
 
-/// The settings that a line spells, and what is kept of their renditions after these items.
-fn channel(alloc: Global, line: &str, items: &[&str]) -> Result<(Settings, Vec<Rendition>), Fail> {
+/// The name of a playlist, or a playlist that has none.
+fn name_of(text: &str) -> &str {
+    match text {
+        ENDED => "ENDED",
+        BROKEN => "BROKEN",
+        SKIPPED => "SKIPPED",
+        _ => text,
+    }
+}
+
+/// The settings that the first line of a text spells, and what is kept of their renditions after the items of the others.
+fn channel(alloc: Global, text: &str) -> Result<(Settings, Vec<Rendition>), Fail> {
+    let (line, items) = text.split_once('\n').ok_or("it has items")?;
     let settings = Settings::read(alloc, line)?;
     let mut renditions = Vec::new(alloc);
     for _ in settings.renditions() {
@@ -114,14 +130,14 @@ fn channel(alloc: Global, line: &str, items: &[&str]) -> Result<(Settings, Vec<R
     Ok((settings, renditions))
 }
 
-/// Adds these items to what is kept of their renditions.
+/// Adds the items of these lines to what is kept of their renditions.
 fn publish(
     alloc: Global,
     settings: &Settings,
     renditions: &mut Vec<Rendition>,
-    items: &[&str],
+    items: &str,
 ) -> Result<(), Fail> {
-    for item in items {
+    for item in items.lines() {
         let item = Item::read(alloc, settings, item)?;
         let kept = renditions.get_mut(item.rendition()).ok_or("the rendition")?;
         push(kept, item)?;
@@ -138,65 +154,97 @@ fn push(kept: &mut Rendition, item: Item) -> Result<(), Fail> {
     }
 }
 
-#[test]
-fn playlists_of_views_are_written(rt: HostRuntime) -> Result<(), Fail> {
-    for (line, items, rendition, skip, text) in [
-        (TWO, TWO_ITEMS, 0, None, ENDED),
-        (TWO, TWO_ITEMS, 1, None, BROKEN),
-        (TWO, TWO_ITEMS, 0, Some(SkipKind::Yes), ENDED),
-        (TWO, TWO_ITEMS, 1, Some(SkipKind::V2), BROKEN),
-        (ONE, ONE_ITEMS, 0, Some(SkipKind::Yes), SKIPPED),
-        (ONE, ONE_ITEMS, 0, Some(SkipKind::V2), SKIPPED),
-    ] {
-        let (settings, renditions) = channel(rt.alloc(), line, items)?;
-        let view = View::new(&settings, &renditions, rendition, 9).ok_or("the rendition")?;
-        let written = match skip {
-            None => full(rt.alloc(), &view)?,
-            Some(kind) => delta(rt.alloc(), &view, kind)?,
-        };
-        assert_eq!(rt; written.as_str(), text);
-    }
-    Ok(())
+/// A channel, the index of a rendition, what may be skipped, and the playlist.
+const VIEWS: &str = "
+TWO | 0 | nothing => ENDED
+TWO | 1 | nothing => BROKEN
+TWO | 0 | YES => ENDED
+TWO | 1 | v2 => BROKEN
+ONE | 0 | YES => SKIPPED
+ONE | 0 | v2 => SKIPPED";
+
+fn written(alloc: Global, input: &str) -> Result<String, Fail> {
+    let rendition = number(input, 1)? as usize;
+    let (settings, renditions) = channel(alloc, text_of(column(input, 0)))?;
+    let view = View::new(&settings, &renditions, rendition, 9).ok_or("the rendition")?;
+    view_written(alloc, &view, column(input, 2))
 }
 
+/// The name of the playlist of a view, where this may be skipped.
+fn view_written(alloc: Global, view: &View<'_>, skip: &str) -> Result<String, Fail> {
+    let text = match skip {
+        "nothing" => full(alloc, view),
+        "YES" => delta(alloc, view, SkipKind::Yes),
+        _ => delta(alloc, view, SkipKind::V2),
+    };
+    Ok(String::from_str(alloc, name_of(text?.as_str()))?)
+}
+
+#[test]
+fn playlists_of_views_are_written(rt: HostRuntime) -> Result<(), Fail> {
+    check(&rt, rt.alloc(), VIEWS, written)
+}
+
+/// A channel, the index of a rendition, the form of a page, and what comes after the page is made: what the page tells then, what its copy
+/// tells, and the rendition and the count of its view.
+const PAGES: &str = "
+TWO | 0 | full | LATER => ENDED 9 0 Full, ENDED 9 0 Full, 0 9
+TWO | 1 | full | LATER => BROKEN 9 1 Full, BROKEN 9 1 Full, 1 9
+TWO | 1 | update | LATER => BROKEN 9 1 Delta(Yes), BROKEN 9 1 Delta(Yes), 1 9
+ONE | 0 | update |  => SKIPPED 9 0 Delta(Yes), SKIPPED 9 0 Delta(Yes), 0 9";
+
 /// What a page tells: its text, its number, its rendition and its form.
-fn page_told(page: &Page) -> (&str, u64, usize, Form) {
-    (page.text(), page.number(), page.rendition(), page.form())
+fn page_told(alloc: Global, page: &Page) -> Result<String, Fail> {
+    let (number, rendition, form) = (page.number(), page.rendition(), page.form());
+    Ok(format!(in alloc; "{} {number} {rendition} {form:?}", name_of(page.text()))?)
+}
+
+/// The same of a page and of its copy, and the rendition and the count of its view.
+fn both_told(alloc: Global, page: &Page) -> Result<String, Fail> {
+    let one = page_told(alloc, page)?;
+    let other = page_told(alloc, &page.again()?)?;
+    let view = told(&page.view());
+    Ok(format!(in alloc; "{one}, {other}, {} {}", view.0, view.1)?)
+}
+
+fn page(alloc: Global, input: &str) -> Result<String, Fail> {
+    let (settings, mut renditions) = channel(alloc, text_of(column(input, 0)))?;
+    let form = match column(input, 2) {
+        "full" => Form::Full,
+        _ => Form::Delta(SkipKind::Yes),
+    };
+    let shown = Shown::of(alloc, &settings, &renditions, 9)?;
+    let rendition = number(input, 1)? as usize;
+    let page = Page::make(alloc, &shown, rendition, form)?.ok_or("the rendition")?;
+    publish(alloc, &settings, &mut renditions, text_of(column(input, 3)))?;
+    both_told(alloc, &page)
 }
 
 #[test]
 fn pages_stay_as_they_were_made(rt: HostRuntime) -> Result<(), Fail> {
-    let (full, update) = (Form::Full, Form::Delta(SkipKind::Yes));
-    for (line, items, later, rendition, form, text) in [
-        (TWO, TWO_ITEMS, LATER, 0, full, ENDED),
-        (TWO, TWO_ITEMS, LATER, 1, full, BROKEN),
-        (TWO, TWO_ITEMS, LATER, 1, update, BROKEN),
-        (ONE, ONE_ITEMS, [].as_slice(), 0, update, SKIPPED),
-    ] {
-        let (settings, mut renditions) = channel(rt.alloc(), line, items)?;
-        let shown = Shown::of(rt.alloc(), &settings, &renditions, 9)?;
-        let page = Page::make(rt.alloc(), &shown, rendition, form)?.ok_or("the rendition")?;
-        publish(rt.alloc(), &settings, &mut renditions, later)?;
-        let again = page.again()?;
-        let (one, other) = (page_told(&page), page_told(&again));
-        let view = told(&page.view());
-        assert_eq!(rt;
-            (one, other, view.0, view.1),
-            ((text, 9, rendition, form), one, rendition, 9)
-        );
-    }
-    Ok(())
+    check(&rt, rt.alloc(), PAGES, page)
+}
+
+/// The index of a rendition of the two, and its page.
+const SHARED: &str = "
+0 => ENDED
+1 => BROKEN
+2 => None";
+
+fn page_of(alloc: Global, shown: &Shown, input: &str) -> Result<String, Fail> {
+    let rendition = number(input, 0)? as usize;
+    let page = Page::make(alloc, &shown.again()?, rendition, Form::Full)?;
+    let text = page.as_ref().map_or("None", Page::text);
+    Ok(String::from_str(alloc, name_of(text))?)
 }
 
 #[test]
 fn pages_share_what_is_shown(rt: HostRuntime) -> Result<(), Fail> {
-    let (settings, renditions) = channel(rt.alloc(), TWO, TWO_ITEMS)?;
+    let (settings, renditions) = channel(rt.alloc(), TWO)?;
     let shown = Shown::of(rt.alloc(), &settings, &renditions, 9)?;
-    for (rendition, wanted) in [(0, Some(ENDED)), (1, Some(BROKEN)), (2, None)] {
-        let page = Page::make(rt.alloc(), &shown.again()?, rendition, Form::Full)?;
-        assert_eq!(rt; page.as_ref().map(Page::text), wanted);
-    }
-    Ok(())
+    check(&rt, rt.alloc(), SHARED, |alloc, input| {
+        page_of(alloc, &shown, input)
+    })
 }
 
 /// What a view tells: its rendition, its count, the channel, segments and date ranges of its rendition, and how many
@@ -212,16 +260,20 @@ fn told<'a>(view: &View<'a>) -> (usize, u64, &'a str, usize, usize, usize) {
     )
 }
 
+/// The index of a rendition of the two, and what its view tells.
+const OF_ONE: &str = r#"
+0 => Some((0, 9, "cam", 0, 1, 2))
+1 => Some((1, 9, "cam", 1, 0, 2))
+2 => None"#;
+
+fn view_of(alloc: Global, input: &str) -> Result<String, Fail> {
+    let rendition = number(input, 0)? as usize;
+    let (settings, renditions) = channel(alloc, TWO)?;
+    let view = View::new(&settings, &renditions, rendition, 9);
+    Ok(format!(in alloc; "{:?}", view.as_ref().map(told))?)
+}
+
 #[test]
 fn views_are_of_one_rendition(rt: HostRuntime) -> Result<(), Fail> {
-    let (settings, renditions) = channel(rt.alloc(), TWO, TWO_ITEMS)?;
-    for (rendition, wanted) in [
-        (0, Some((0, 9, "cam", 0, 1, 2))),
-        (1, Some((1, 9, "cam", 1, 0, 2))),
-        (2, None),
-    ] {
-        let view = View::new(&settings, &renditions, rendition, 9);
-        assert_eq!(rt; view.as_ref().map(told), wanted);
-    }
-    Ok(())
+    check(&rt, rt.alloc(), OF_ONE, view_of)
 }

@@ -1,10 +1,10 @@
-//! Which lines may stand where: each row is a text, by words for its lines.
+//! Which lines may stand where: each row is a text, by words for its lines, and what it comes to.
 use crate::read_tests::told;
-use ll_read::{ReadFault, read};
+use crate::rows::check;
 use std::alloc::Global;
-use std::process::Abort;
 use std::test::Fail;
 
+/// The words that `header` stands for.
 const HEADER: &str = "first version target control inf sequence breaks";
 
 /// A line of each kind, by a word for it. What is no such word is a line itself.
@@ -34,253 +34,168 @@ fn line(word: &str) -> &str {
     }
 }
 
-/// The text of these lines, each with this end.
-fn text(alloc: Global, words: &str, end: &str) -> Result<String, Fail> {
+/// What a text comes to whose lines these words stand for, each with this end.
+fn told_with(alloc: Global, words: &str, end: &str) -> Result<String, Fail> {
+    let words = words.replace(alloc, "header", HEADER)?;
     let mut text = String::new(alloc);
     for word in words.split(' ') {
-        text.push_str(line(word))?;
-        text.push_str(end)?;
+        write!(text, "{}{end}", line(word))?;
     }
-    Ok(text)
+    told(alloc, text.as_bytes())
 }
 
-/// Each row has the words of a text and what it comes to, with either end of lines.
-fn expect(
-    rt: &impl Abort,
-    alloc: Global,
-    header: &str,
-    table: &[(&str, &str)],
-) -> Result<(), Fail> {
-    for (words, answer) in table {
-        let all = format!(in alloc; "{header}{words}")?;
-        for end in ["\n", "\r\n"] {
-            let text = text(alloc, all.as_str(), end)?;
-            let found = told(alloc, text.as_bytes())?;
-            assert_eq!(rt; found.as_str(), *answer, "of the lines {all}");
-        }
-    }
-    Ok(())
+/// What a text of these words comes to.
+fn lines(alloc: Global, words: &str) -> Result<String, Fail> {
+    told_with(alloc, words, "\n")
+}
+
+/// The same where each line ends in CR LF.
+fn lines_with_returns(alloc: Global, words: &str) -> Result<String, Fail> {
+    told_with(alloc, words, "\r\n")
 }
 
 /// A line of the header is missing, stands twice, or stands before the one that it belongs after.
+const HEADERS: &str = "
+first version target control inf sequence breaks end => 0 0 0
+version target control inf sequence breaks end => NotPlaylist
+first target control inf sequence breaks end => BadLine 2
+first version control inf sequence breaks end => BadLine 3
+first version target inf sequence breaks end => BadLine 4
+first version target control sequence breaks end => BadLine 5
+first version target control inf breaks end => BadLine 6
+first version target control inf sequence end => BadLine 7
+first first version target control inf sequence breaks end => BadLine 2
+first version version target control inf sequence breaks end => BadLine 3
+first version target target control inf sequence breaks end => BadLine 4
+first version target control control inf sequence breaks end => BadLine 5
+first version target control inf inf sequence breaks end => BadLine 6
+first version target control inf sequence sequence breaks end => BadLine 7
+first version target control inf sequence breaks breaks end => BadLine 8
+version first target control inf sequence breaks end => NotPlaylist
+first target version control inf sequence breaks end => BadLine 2
+first version control target inf sequence breaks end => BadLine 3
+first version target inf control sequence breaks end => BadLine 4
+first version target control sequence inf breaks end => BadLine 5
+first version target control inf breaks sequence end => BadLine 6
+first version target control inf sequence end breaks => BadLine 7";
+
 #[test]
 fn lines_of_the_header(rt: HostRuntime) -> Result<(), Fail> {
-    expect(
-        &rt,
-        rt.alloc(),
-        "",
-        &[
-            (
-                "first version target control inf sequence breaks end",
-                "0 0 0",
-            ),
-            (
-                "version target control inf sequence breaks end",
-                "NotPlaylist",
-            ),
-            ("first target control inf sequence breaks end", "BadLine 2"),
-            ("first version control inf sequence breaks end", "BadLine 3"),
-            ("first version target inf sequence breaks end", "BadLine 4"),
-            (
-                "first version target control sequence breaks end",
-                "BadLine 5",
-            ),
-            ("first version target control inf breaks end", "BadLine 6"),
-            ("first version target control inf sequence end", "BadLine 7"),
-            (
-                "first first version target control inf sequence breaks end",
-                "BadLine 2",
-            ),
-            (
-                "first version version target control inf sequence breaks end",
-                "BadLine 3",
-            ),
-            (
-                "first version target target control inf sequence breaks end",
-                "BadLine 4",
-            ),
-            (
-                "first version target control control inf sequence breaks end",
-                "BadLine 5",
-            ),
-            (
-                "first version target control inf inf sequence breaks end",
-                "BadLine 6",
-            ),
-            (
-                "first version target control inf sequence sequence breaks end",
-                "BadLine 7",
-            ),
-            (
-                "first version target control inf sequence breaks breaks end",
-                "BadLine 8",
-            ),
-            (
-                "version first target control inf sequence breaks end",
-                "NotPlaylist",
-            ),
-            (
-                "first target version control inf sequence breaks end",
-                "BadLine 2",
-            ),
-            (
-                "first version control target inf sequence breaks end",
-                "BadLine 3",
-            ),
-            (
-                "first version target inf control sequence breaks end",
-                "BadLine 4",
-            ),
-            (
-                "first version target control sequence inf breaks end",
-                "BadLine 5",
-            ),
-            (
-                "first version target control inf breaks sequence end",
-                "BadLine 6",
-            ),
-            (
-                "first version target control inf sequence end breaks",
-                "BadLine 7",
-            ),
-        ],
-    )
+    check(&rt, rt.alloc(), HEADERS, lines)?;
+    check(&rt, rt.alloc(), HEADERS, lines_with_returns)
 }
 
 /// The text ends after a line of each kind.
+const EARLY: &str = "
+first => BadLine 2
+first version => BadLine 3
+first version target => BadLine 4
+first version target control => BadLine 5
+first version target control inf => BadLine 6
+first version target control inf sequence => BadLine 7
+first version target control inf sequence breaks => BadLine 8
+header range => BadLine 9
+header skip => BadLine 9
+header break => BadLine 9
+header map => BadLine 9
+header break map => BadLine 10
+header map time => BadLine 10
+header map time part => BadLine 11
+header map time duration => BadLine 11
+header map time duration uri => BadLine 12
+header report => BadLine 9";
+
 #[test]
 fn texts_that_end_early(rt: HostRuntime) -> Result<(), Fail> {
-    expect(
-        &rt,
-        rt.alloc(),
-        "",
-        &[
-            ("first", "BadLine 2"),
-            ("first version", "BadLine 3"),
-            ("first version target", "BadLine 4"),
-            ("first version target control", "BadLine 5"),
-            ("first version target control inf", "BadLine 6"),
-            ("first version target control inf sequence", "BadLine 7"),
-            (
-                "first version target control inf sequence breaks",
-                "BadLine 8",
-            ),
-        ],
-    )?;
-    expect(
-        &rt,
-        rt.alloc(),
-        HEADER,
-        &[
-            (" range", "BadLine 9"),
-            (" skip", "BadLine 9"),
-            (" break", "BadLine 9"),
-            (" map", "BadLine 9"),
-            (" break map", "BadLine 10"),
-            (" map time", "BadLine 10"),
-            (" map time part", "BadLine 11"),
-            (" map time duration", "BadLine 11"),
-            (" map time duration uri", "BadLine 12"),
-            (" report", "BadLine 9"),
-        ],
-    )?;
-    let none = told(rt.alloc(), b"")?;
-    assert_eq!(rt; none.as_str(), "NotPlaylist");
-    let unended = told(rt.alloc(), b"#EXTM3U")?;
-    assert_eq!(rt; unended.as_str(), "BadLine 1");
-    Ok(())
+    check(&rt, rt.alloc(), EARLY, lines)?;
+    check(&rt, rt.alloc(), EARLY, lines_with_returns)
 }
+
+const UNENDED: &str = "
+ => NotPlaylist
+#EXTM3U => BadLine 1";
+
+fn text(alloc: Global, text: &str) -> Result<String, Fail> {
+    told(alloc, text.as_bytes())
+}
+
+#[test]
+fn texts_without_an_end_of_line(rt: HostRuntime) -> Result<(), Fail> {
+    check(&rt, rt.alloc(), UNENDED, text)
+}
+
+const SEGMENTS: &str = "
+header map time duration uri time duration uri end => 0 2 0
+header map time duration uri break map time duration uri end => 0 2 0
+header break map time part part duration uri hint => 0 1 0
+header map time part hint => 0 0 0
+header map time part end => 0 0 0
+header uri => BadLine 8
+header time => BadLine 8
+header part => BadLine 8
+header duration => BadLine 8
+header map map => BadLine 9
+header map break => BadLine 9
+header break time => BadLine 9
+header break break => BadLine 9
+header map time uri => BadLine 10
+header map time end => BadLine 10
+header map time report => BadLine 10
+header map time time => BadLine 10
+header map time part uri => BadLine 11
+header map time part map => BadLine 11
+header map time duration part => BadLine 11
+header map time duration end => BadLine 11
+header map time duration duration => BadLine 11
+header map time duration uri map => BadLine 12
+header map time duration uri uri => BadLine 12
+header map time duration uri range => BadLine 12
+header map time duration uri break time => BadLine 13";
 
 #[test]
 fn lines_of_segments(rt: HostRuntime) -> Result<(), Fail> {
-    expect(
-        &rt,
-        rt.alloc(),
-        HEADER,
-        &[
-            (" map time duration uri time duration uri end", "0 2 0"),
-            (
-                " map time duration uri break map time duration uri end",
-                "0 2 0",
-            ),
-            (" break map time part part duration uri hint", "0 1 0"),
-            (" map time part hint", "0 0 0"),
-            (" map time part end", "0 0 0"),
-            (" uri", "BadLine 8"),
-            (" time", "BadLine 8"),
-            (" part", "BadLine 8"),
-            (" duration", "BadLine 8"),
-            (" map map", "BadLine 9"),
-            (" map break", "BadLine 9"),
-            (" break time", "BadLine 9"),
-            (" break break", "BadLine 9"),
-            (" map time uri", "BadLine 10"),
-            (" map time end", "BadLine 10"),
-            (" map time report", "BadLine 10"),
-            (" map time time", "BadLine 10"),
-            (" map time part uri", "BadLine 11"),
-            (" map time part map", "BadLine 11"),
-            (" map time duration part", "BadLine 11"),
-            (" map time duration end", "BadLine 11"),
-            (" map time duration duration", "BadLine 11"),
-            (" map time duration uri map", "BadLine 12"),
-            (" map time duration uri uri", "BadLine 12"),
-            (" map time duration uri range", "BadLine 12"),
-            (" map time duration uri break time", "BadLine 13"),
-        ],
-    )
+    check(&rt, rt.alloc(), SEGMENTS, lines)?;
+    check(&rt, rt.alloc(), SEGMENTS, lines_with_returns)
 }
+
+const AROUND: &str = r#"
+header range #EXT-X-DATERANGE:ID="b" end => 2 0 0
+header range range => BadLine 9
+header range version => BadLine 9
+header skip time duration uri end => 0 1 0
+header range skip break map time duration uri end => 1 1 0
+header #EXT-X-SKIP:SKIPPED-SEGMENTS=0 => BadLine 8
+header #EXT-X-SKIP:SKIPPED-SEGMENTS=02 => BadLine 8
+header #EXT-X-SKIP:SKIPPED-SEGMENTS=2305843009213693952 time duration uri end => 0 1 0
+header #EXT-X-SKIP:SKIPPED-SEGMENTS=2305843009213693953 => BadLine 8
+header #EXT-X-SKIP:SKIPPED-SEGMENTS=1,RECENTLY-REMOVED-DATERANGES="" time duration uri end => 0 1 0
+header skip map => BadLine 9
+header skip end => BadLine 9
+header skip report => BadLine 9
+header skip skip => BadLine 9
+header skip range => BadLine 9
+header skip time part end => BadLine 11
+header map time duration uri skip => BadLine 12
+header report report end => 0 0 2
+header map time duration uri time part report hint => 0 1 1
+header report time => BadLine 9
+header report range => BadLine 9
+header end end => BadLine 9
+header hint end => BadLine 9
+header end report => BadLine 9
+header end uri => BadLine 9"#;
 
 #[test]
 fn lines_around_segments(rt: HostRuntime) -> Result<(), Fail> {
-    expect(
-        &rt,
-        rt.alloc(),
-        HEADER,
-        &[
-            (" range #EXT-X-DATERANGE:ID=\"b\" end", "2 0 0"),
-            (" range range", "BadLine 9"),
-            (" range version", "BadLine 9"),
-            (" skip time duration uri end", "0 1 0"),
-            (" range skip break map time duration uri end", "1 1 0"),
-            (" #EXT-X-SKIP:SKIPPED-SEGMENTS=0", "BadLine 8"),
-            (" #EXT-X-SKIP:SKIPPED-SEGMENTS=02", "BadLine 8"),
-            (
-                " #EXT-X-SKIP:SKIPPED-SEGMENTS=2305843009213693952 time duration uri end",
-                "0 1 0",
-            ),
-            (
-                " #EXT-X-SKIP:SKIPPED-SEGMENTS=2305843009213693953",
-                "BadLine 8",
-            ),
-            (
-                " #EXT-X-SKIP:SKIPPED-SEGMENTS=1,RECENTLY-REMOVED-DATERANGES=\"\" time duration uri end",
-                "0 1 0",
-            ),
-            (" skip map", "BadLine 9"),
-            (" skip end", "BadLine 9"),
-            (" skip report", "BadLine 9"),
-            (" skip skip", "BadLine 9"),
-            (" skip range", "BadLine 9"),
-            (" skip time part end", "BadLine 11"),
-            (" map time duration uri skip", "BadLine 12"),
-            (" report report end", "0 0 2"),
-            (" map time duration uri time part report hint", "0 1 1"),
-            (" report time", "BadLine 9"),
-            (" report range", "BadLine 9"),
-            (" end end", "BadLine 9"),
-            (" hint end", "BadLine 9"),
-            (" end report", "BadLine 9"),
-            (" end uri", "BadLine 9"),
-        ],
-    )
+    check(&rt, rt.alloc(), AROUND, lines)?;
+    check(&rt, rt.alloc(), AROUND, lines_with_returns)
 }
 
 #[test]
 fn bytes_that_are_no_text(rt: HostRuntime) -> Result<(), Fail> {
-    let alone = told(rt.alloc(), b"\xff")?;
-    assert_eq!(rt; alone.as_str(), "NotPlaylist");
-    let after = told(rt.alloc(), b"#EXTM3U\n\xc3\n")?;
-    assert_eq!(rt; after.as_str(), "NotPlaylist");
+    for bytes in [b"\xff".as_slice(), b"#EXTM3U\n\xc3\n".as_slice()] {
+        let found = told(rt.alloc(), bytes)?;
+        assert_eq!(rt; found.as_str(), "NotPlaylist");
+    }
     Ok(())
 }

@@ -1,6 +1,6 @@
-use ll_read::{Outline, ReadFault, read, read_outline};
+use crate::rows::{check, column};
+use ll_read::{read, read_outline};
 use std::alloc::Global;
-use std::process::Abort;
 use std::test::Fail;
 
 /// A playlist with every kind of line but two: it skips nothing and has not ended.
@@ -44,49 +44,55 @@ const DELTA: &str = "#EXTM3U\n\
     s8.m4s\n\
     #EXT-X-ENDLIST\n";
 
-/// A text whose lines end in CR LF in place of LF.
-fn with_returns(alloc: Global, text: &str) -> Result<String, Fail> {
+/// The end of the full playlist's lines: what it comes to, told without memory and as it is read, and what it is written as then.
+const OF_FULL: &str = "
+LF => Outline { sequence: 7, segments: 2, skipped: None }, Outline { sequence: 7, segments: 2, skipped: None }, the same text
+CR LF => Outline { sequence: 7, segments: 2, skipped: None }, Outline { sequence: 7, segments: 2, skipped: None }, the same text";
+
+/// The same of the delta update.
+const OF_DELTA: &str = "
+LF => Outline { sequence: 5, segments: 1, skipped: Some(3) }, Outline { sequence: 5, segments: 1, skipped: Some(3) }, the same text
+CR LF => Outline { sequence: 5, segments: 1, skipped: Some(3) }, Outline { sequence: 5, segments: 1, skipped: Some(3) }, the same text";
+
+/// A text whose lines have another end.
+fn with_end(alloc: Global, text: &str, end: &str) -> Result<String, Fail> {
     let mut other = String::new(alloc);
     for line in text.lines() {
-        other.push_str(line)?;
-        other.push_str("\r\n")?;
+        write!(other, "{line}{end}")?;
     }
     Ok(other)
 }
 
-/// A text is read as a playlist that comes to this and is written as another text.
-fn expect_written(
-    rt: &impl Abort,
-    alloc: Global,
-    text: &str,
-    outline: Outline,
-    again: &str,
-) -> Result<(), Fail> {
-    let playlist = read(alloc, text.as_bytes())?;
+/// Adds what these bytes come to as a playlist, and what that is written as: a text, or another.
+fn add_written(alloc: Global, told: &mut String, bytes: &[u8], text: &str) -> Result<(), Fail> {
+    let playlist = read(alloc, bytes)?;
     let written = playlist.write(alloc)?;
-    let outlines = (playlist.outline(), read_outline(alloc, text.as_bytes()));
-    assert_eq!(rt; (written.as_str(), outlines), (again, (outline, outline)));
-    Ok(())
+    let written = if written.as_str() == text {
+        "the same text"
+    } else {
+        written.as_str()
+    };
+    Ok(write!(told, "{:?}, {written}", playlist.outline())?)
+}
+
+/// What a text comes to whose lines end in LF, or in CR LF in its place.
+fn again(alloc: Global, text: &str, end: &str) -> Result<String, Fail> {
+    let end = if end == "LF" { "\n" } else { "\r\n" };
+    let other = with_end(alloc, text, end)?;
+    let bytes = other.as_str().as_bytes();
+    let mut told = format!(in alloc; "{:?}, ", read_outline(alloc, bytes))?;
+    add_written(alloc, &mut told, bytes, text)?;
+    Ok(told)
 }
 
 #[test]
 fn what_was_read_is_written_again(rt: HostRuntime) -> Result<(), Fail> {
-    let full = Outline {
-        sequence: 7,
-        segments: 2,
-        skipped: None,
-    };
-    let delta = Outline {
-        sequence: 5,
-        segments: 1,
-        skipped: Some(3),
-    };
-    for (text, outline) in [(FULL, full), (DELTA, delta)] {
-        expect_written(&rt, rt.alloc(), text, outline, text)?;
-        let returns = with_returns(rt.alloc(), text)?;
-        expect_written(&rt, rt.alloc(), returns.as_str(), outline, text)?;
-    }
-    Ok(())
+    check(&rt, rt.alloc(), OF_FULL, |alloc, end| {
+        again(alloc, FULL, end)
+    })?;
+    check(&rt, rt.alloc(), OF_DELTA, |alloc, end| {
+        again(alloc, DELTA, end)
+    })
 }
 
 /// What a text comes to: how many date ranges, segments and reports it has, or its fault.
@@ -98,99 +104,91 @@ pub(crate) fn told(alloc: Global, text: &[u8]) -> Result<String, Fail> {
     Ok(told)
 }
 
-/// Each row changes the full playlist in one place, and tells what it comes to then. Its lines are 24.
-fn expect(rt: &impl Abort, alloc: Global, table: &[(&str, &str, &str)]) -> Result<(), Fail> {
-    for (old, new, answer) in table {
-        let (before, after) = FULL.split_once(*old).ok_or("it stands in the playlist")?;
-        let text = format!(in alloc; "{before}{new}{after}")?;
-        let found = told(alloc, text.as_bytes())?;
-        assert_eq!(rt; found.as_str(), *answer, "with {new} for {old}");
-    }
-    Ok(())
+/// What a text comes to with another in place of a part of it. The lines of the full playlist are 24.
+fn changed(alloc: Global, text: &str, input: &str) -> Result<String, Fail> {
+    let (before, after) = text.split_once(column(input, 0)).ok_or("it stands in it")?;
+    let text = format!(in alloc; "{before}{}{after}", column(input, 1))?;
+    told(alloc, text.as_str().as_bytes())
 }
+
+/// What the full playlist comes to then.
+fn full_changed(alloc: Global, input: &str) -> Result<String, Fail> {
+    changed(alloc, FULL, input)
+}
+
+const NUMBERS: &str = "
+VERSION:10 | VERSION:9 => 2 2 1
+VERSION:10 | VERSION:8 => BadLine 2
+VERSION:10 | VERSION:11 => BadLine 2
+TION:4 | TION:2305843009213693952 => 2 2 1
+TION:4 | TION:2305843009213693953 => BadLine 3
+TION:4 | TION:04 => BadLine 3
+TION:4 | TION:+4 => BadLine 3
+TION:4 | TION: => BadLine 3
+SEQUENCE:7 | SEQUENCE:2305843009213693952 => 2 2 1
+SEQUENCE:7 | SEQUENCE:2305843009213693953 => BadLine 6
+SEQUENCE:7 | SEQUENCE:18446744073709551616 => BadLine 6
+SEQUENCE:2 | SEQUENCE:2305843009213693952 => 2 2 1
+SEQUENCE:2 | SEQUENCE:2305843009213693953 => BadLine 7
+MSN=9 | MSN=2305843009213693952 => 2 2 1
+MSN=9 | MSN=2305843009213693953 => BadLine 23
+PART=3 | PART=2305843009213693952 => 2 2 1
+PART=3 | PART=2305843009213693953 => BadLine 23";
 
 #[test]
 fn numbers_at_their_limits(rt: HostRuntime) -> Result<(), Fail> {
-    expect(
-        &rt,
-        rt.alloc(),
-        &[
-            ("VERSION:10", "VERSION:9", "2 2 1"),
-            ("VERSION:10", "VERSION:8", "BadLine 2"),
-            ("VERSION:10", "VERSION:11", "BadLine 2"),
-            ("TION:4", "TION:2305843009213693952", "2 2 1"),
-            ("TION:4", "TION:2305843009213693953", "BadLine 3"),
-            ("TION:4", "TION:04", "BadLine 3"),
-            ("TION:4", "TION:+4", "BadLine 3"),
-            ("TION:4", "TION:", "BadLine 3"),
-            ("SEQUENCE:7", "SEQUENCE:2305843009213693952", "2 2 1"),
-            ("SEQUENCE:7", "SEQUENCE:2305843009213693953", "BadLine 6"),
-            ("SEQUENCE:7", "SEQUENCE:18446744073709551616", "BadLine 6"),
-            ("SEQUENCE:2", "SEQUENCE:2305843009213693952", "2 2 1"),
-            ("SEQUENCE:2", "SEQUENCE:2305843009213693953", "BadLine 7"),
-            ("MSN=9", "MSN=2305843009213693952", "2 2 1"),
-            ("MSN=9", "MSN=2305843009213693953", "BadLine 23"),
-            ("PART=3", "PART=2305843009213693952", "2 2 1"),
-            ("PART=3", "PART=2305843009213693953", "BadLine 23"),
-        ],
-    )
+    check(&rt, rt.alloc(), NUMBERS, full_changed)
 }
+
+const DURATIONS: &str = "
+BACK=3.000000 | BACK=999999999999.999999 => 2 2 1
+BACK=3.000000 | BACK=1000000000000.000000 => BadLine 4
+UNTIL=24.000000 | UNTIL=999999999999.999999 => 2 2 1
+UNTIL=24.000000 | UNTIL=1000000000000.000000 => BadLine 4
+GET=1.000000 | GET=999999999999.999999 => 2 2 1
+GET=1.000000 | GET=9999999999999.999999 => BadLine 5
+INF:1.500000 | INF:999999999999.999999 => 2 2 1
+INF:1.500000 | INF:9999999999999.999999 => BadLine 12
+INF:1.500000 | INF:0.000000 => 2 2 1
+INF:1.500000 | INF:01.500000 => BadLine 12
+INF:1.500000 | INF:1.5000000 => BadLine 12
+INF:1.500000 | INF:1.50000 => BadLine 12
+INF:1.500000 | INF:1 => BadLine 12
+ION=0.500000 | ION=999999999999.999999 => 2 2 1
+ION=0.500000 | ION=1000000000000.000000 => BadLine 15";
 
 #[test]
 fn durations_at_their_limits(rt: HostRuntime) -> Result<(), Fail> {
-    expect(
-        &rt,
-        rt.alloc(),
-        &[
-            ("BACK=3.000000", "BACK=999999999999.999999", "2 2 1"),
-            ("BACK=3.000000", "BACK=1000000000000.000000", "BadLine 4"),
-            ("UNTIL=24.000000", "UNTIL=999999999999.999999", "2 2 1"),
-            ("UNTIL=24.000000", "UNTIL=1000000000000.000000", "BadLine 4"),
-            ("GET=1.000000", "GET=999999999999.999999", "2 2 1"),
-            ("GET=1.000000", "GET=9999999999999.999999", "BadLine 5"),
-            ("INF:1.500000", "INF:999999999999.999999", "2 2 1"),
-            ("INF:1.500000", "INF:9999999999999.999999", "BadLine 12"),
-            ("INF:1.500000", "INF:0.000000", "2 2 1"),
-            ("INF:1.500000", "INF:01.500000", "BadLine 12"),
-            ("INF:1.500000", "INF:1.5000000", "BadLine 12"),
-            ("INF:1.500000", "INF:1.50000", "BadLine 12"),
-            ("INF:1.500000", "INF:1", "BadLine 12"),
-            ("ION=0.500000", "ION=999999999999.999999", "2 2 1"),
-            ("ION=0.500000", "ION=1000000000000.000000", "BadLine 15"),
-        ],
-    )
+    check(&rt, rt.alloc(), DURATIONS, full_changed)
 }
+
+const TEXTS: &str = "
+#EXTM3U | \u{feff}#EXTM3U => NotPlaylist
+#EXTM3U␊ | #EXTM3U\r␊ => 2 2 1
+#EXTM3U␊ | #EXTM3U ␊ => NotPlaylist
+RELOAD=YES | RELOAD=NO => BadLine 4
+,CAN-SKIP-DATERANGES=YES |  => 2 2 1
+RANGES=YES | RANGES=NO => BadLine 4
+\"ad 2\" | \"ad 1\" => BadLine 9
+ID=\"ad 2\" | X-A=1 => BadLine 9
+\"ad 2\" | \"ad 2\",X-A=1\r => 2 2 1
+init0.mp4\"␊ | init0.mp4\"\r␊ => 2 2 1
+init0.mp4 |  => BadLine 10
+init0.mp4\" | init0.mp4\",BYTERANGE=\"1@0\" => BadLine 10
+1970-01-01T00:00:07.000Z |  => BadLine 11
+s7.m4s | sé7.m4s => 2 2 1
+s7.m4s | s7.m4s\r => 2 2 1
+s7.m4s | s7.m4s\r\r => BadLine 13
+s7.m4s |  => BadLine 13
+s7.m4s | s7\".m4s => BadLine 13
+s7.m4s | #s7.m4s => BadLine 13
+DENT=YES | DENT=NO => BadLine 15
+TYPE=PART | TYPE=MAP => BadLine 24
+s9.1.m4s\"␊ | s9.1.m4s\" => BadLine 24
+s9.1.m4s\"␊ | s9.1.m4s\"␊  => BadLine 25
+s9.1.m4s\"␊ | s9.1.m4s\"␊␊ => BadLine 25";
 
 #[test]
 fn texts_of_lines(rt: HostRuntime) -> Result<(), Fail> {
-    expect(
-        &rt,
-        rt.alloc(),
-        &[
-            ("#EXTM3U", "\u{feff}#EXTM3U", "NotPlaylist"),
-            ("#EXTM3U\n", "#EXTM3U\r\n", "2 2 1"),
-            ("#EXTM3U\n", "#EXTM3U \n", "NotPlaylist"),
-            ("RELOAD=YES", "RELOAD=NO", "BadLine 4"),
-            (",CAN-SKIP-DATERANGES=YES", "", "2 2 1"),
-            ("RANGES=YES", "RANGES=NO", "BadLine 4"),
-            ("\"ad 2\"", "\"ad 1\"", "BadLine 9"),
-            ("ID=\"ad 2\"", "X-A=1", "BadLine 9"),
-            ("\"ad 2\"", "\"ad 2\",X-A=1\r", "2 2 1"),
-            ("init0.mp4\"\n", "init0.mp4\"\r\n", "2 2 1"),
-            ("init0.mp4", "", "BadLine 10"),
-            ("init0.mp4\"", "init0.mp4\",BYTERANGE=\"1@0\"", "BadLine 10"),
-            ("1970-01-01T00:00:07.000Z", "", "BadLine 11"),
-            ("s7.m4s", "s\u{e9}7.m4s", "2 2 1"),
-            ("s7.m4s", "s7.m4s\r", "2 2 1"),
-            ("s7.m4s", "s7.m4s\r\r", "BadLine 13"),
-            ("s7.m4s", "", "BadLine 13"),
-            ("s7.m4s", "s7\".m4s", "BadLine 13"),
-            ("s7.m4s", "#s7.m4s", "BadLine 13"),
-            ("DENT=YES", "DENT=NO", "BadLine 15"),
-            ("TYPE=PART", "TYPE=MAP", "BadLine 24"),
-            ("s9.1.m4s\"\n", "s9.1.m4s\"", "BadLine 24"),
-            ("s9.1.m4s\"\n", "s9.1.m4s\"\n ", "BadLine 25"),
-            ("s9.1.m4s\"\n", "s9.1.m4s\"\n\n", "BadLine 25"),
-        ],
-    )
+    check(&rt, rt.alloc(), TEXTS, full_changed)
 }

@@ -14,6 +14,8 @@ mod item_tests;
 #[cfg(test)]
 mod range_tests;
 #[cfg(test)]
+mod rows;
+#[cfg(test)]
 mod time_tests;
 #[cfg(test)]
 mod want_tests;

@@ -1,25 +1,11 @@
+//! Items are words: `b` for a break, `e` for the end, `1000000` for a part of so many microseconds, `1000000f` for one that finishes its
+//! segment, and `7x1000000f` for seven of them. The largest media sequence number is 1152921504606846976, and the last
+//! millisecond of the year 9999 is 253402300799999.
+use crate::rows::{check, column, number};
 use ll_item::{Item, Settings};
-use ll_window::{PushFault, Window};
+use ll_window::Window;
 use std::alloc::Global;
 use std::test::Fail;
-
-/// The largest media sequence number.
-const LAST_NUMBER: u64 = 1_152_921_504_606_846_976;
-
-/// The last second of the year 9999, in milliseconds.
-const LAST_SECOND: u64 = 253_402_300_799_000;
-
-/// The last millisecond of the year 9999.
-const LAST_MILLI: u64 = 253_402_300_799_999;
-
-/// A part of one second that goes on with its segment, and one that finishes it.
-const GOES_ON: (u64, bool) = (1_000_000, false);
-
-const ENDS: (u64, bool) = (1_000_000, true);
-
-const BREAK: Item = Item::Break { rendition: 0 };
-
-const END: Item = Item::End { rendition: 0 };
 
 /// The window of no items. It lasts 9 s, parts are listed within 3 s, a segment lasts less than 1.5 s.
 fn window(alloc: Global, first: u64, start: u64) -> Result<Window, Fail> {
@@ -30,30 +16,35 @@ fn window(alloc: Global, first: u64, start: u64) -> Result<Window, Fail> {
     Ok(Window::new(alloc, &settings)?)
 }
 
-/// A part of so many microseconds, which finishes its segment or doesn't.
-fn item((duration, finish): (u64, bool)) -> Item {
-    Item::Part {
-        rendition: 0,
-        duration,
-        independent: false,
-        finish,
-    }
+/// The item of a word.
+fn item(word: &str) -> Result<Item, Fail> {
+    Ok(match word {
+        "b" => Item::Break { rendition: 0 },
+        "e" => Item::End { rendition: 0 },
+        _ => Item::Part {
+            rendition: 0,
+            duration: word.trim_end_matches('f').parse::<u64>()?,
+            independent: false,
+            finish: word.ends_with('f'),
+        },
+    })
 }
 
-/// A window with these parts, each after a break where that is told of it.
-fn window_of(
-    alloc: Global,
-    first: u64,
-    start: u64,
-    parts: &[(bool, u64, bool)],
-) -> Result<Window, Fail> {
-    let mut window = window(alloc, first, start)?;
-    for &(broken, duration, finish) in parts {
-        if broken {
-            window.push(BREAK)?;
+/// Adds the items of these words.
+fn push(window: &mut Window, words: &str) -> Result<(), Fail> {
+    for word in words.split_whitespace() {
+        let (times, word) = word.split_once('x').unwrap_or(("1", word));
+        for _ in 0..times.parse::<u64>()? {
+            window.push(item(word)?)?;
         }
-        window.push(item((duration, finish)))?;
     }
+    Ok(())
+}
+
+/// The window of these items, which begins with the segment 7, one millisecond after 1970 began.
+fn window_of(alloc: Global, words: &str) -> Result<Window, Fail> {
+    let mut window = window(alloc, 7, 1)?;
+    push(&mut window, words)?;
     Ok(window)
 }
 
@@ -63,14 +54,13 @@ fn state(alloc: Global, window: &Window) -> Result<String, Fail> {
     let (count, open) = (window.segment_count(), window.open_parts().len());
     let (next, end) = (window.next_number(), window.end_time());
     let (breaks, ended) = (window.discontinuity(), window.ended());
-    let last = window.last().map(|place| (place.number, place.index));
+    let last = window.last();
     Ok(format!(in alloc; "{count} {open} {next} {end} {breaks} {last:?} {ended}")?)
 }
 
-/// What a window tells of its segments, the open one last: the number, whether it is broken, the map's number, the time, the
+/// Adds what a window tells of its segments, the open one last: the number, whether it is broken, the map's number, the time, the
 /// duration, and how many parts are listed.
-fn segments(alloc: Global, window: &Window) -> Result<String, Fail> {
-    let mut text = String::new(alloc);
+fn add_segments(text: &mut String, window: &Window) -> Result<(), Fail> {
     for place in 0..=window.segment_count() {
         let listed = window.shown_parts(place).len();
         if let Some(s) = window.segment(place).or(window.open_segment()) {
@@ -82,262 +72,163 @@ fn segments(alloc: Global, window: &Window) -> Result<String, Fail> {
             )?;
         }
     }
-    Ok(text)
+    Ok(())
+}
+
+/// The first number, the start, what came before, and a part: what a test of it and its publication answer.
+const RULES: &str = "
+0 | 0 |  | 0f => (Err(BadDuration), Err(BadDuration))
+0 | 0 |  | 1f => (Ok(()), Ok(()))
+0 | 0 |  | 1000000f => (Ok(()), Ok(()))
+0 | 0 |  | 1000001f => (Err(TooLong), Err(TooLong))
+0 | 0 | 1000000 | 499999f => (Ok(()), Ok(()))
+0 | 0 | 1000000 | 500000f => (Err(TooLong), Err(TooLong))
+1152921504606846976 | 0 |  | 1f => (Ok(()), Ok(()))
+1152921504606846976 | 0 | 1000000 | 1f => (Ok(()), Ok(()))
+1152921504606846976 | 0 | 1000000f | 1f => (Err(CountEnd), Err(CountEnd))
+1152921504606846975 | 0 | 1000000f | 1f => (Ok(()), Ok(()))
+1152921504606846975 | 0 | 1000000f 1000000f | 1f => (Err(CountEnd), Err(CountEnd))
+0 | 253402300799000 |  | 999999f => (Ok(()), Ok(()))
+0 | 253402300799000 |  | 1000000f => (Err(TimeEnd), Err(TimeEnd))
+0 | 253402300799000 | 999999 | 1f => (Err(TimeEnd), Err(TimeEnd))
+0 | 253402300799999 |  | 999f => (Ok(()), Ok(()))
+0 | 253402300799999 |  | 1000f => (Err(TimeEnd), Err(TimeEnd))
+1152921504606846976 | 253402300799000 | 999999f | 0f => (Err(BadDuration), Err(BadDuration))
+1152921504606846976 | 253402300799000 | 999999f | 1000001f => (Err(TooLong), Err(TooLong))
+1152921504606846976 | 253402300799000 | 999999f | 1f => (Err(CountEnd), Err(CountEnd))";
+
+fn rule(alloc: Global, input: &str) -> Result<String, Fail> {
+    let next = item(column(input, 3))?;
+    let mut window = window(alloc, number(input, 0)?, number(input, 1)?)?;
+    push(&mut window, column(input, 2))?;
+    let answers = (window.test(&next), window.push(next));
+    Ok(format!(in alloc; "{answers:?}")?)
 }
 
 #[test]
 fn the_first_rule_that_refuses_a_part_is_answered(rt: HostRuntime) -> Result<(), Fail> {
-    let none = [].as_slice();
-    let one_open = [GOES_ON].as_slice();
-    let finished = [ENDS].as_slice();
-    let two_finished = [ENDS; 2].as_slice();
-    let to_the_end = [(999_999, false)].as_slice();
-    let to_both_ends = [(999_999, true)].as_slice();
-    for (first, start, before, micros, answer) in [
-        (0, 0, none, 0, Err(PushFault::BadDuration)),
-        (0, 0, none, 1, Ok(())),
-        (0, 0, none, 1_000_000, Ok(())),
-        (0, 0, none, 1_000_001, Err(PushFault::TooLong)),
-        (0, 0, one_open, 499_999, Ok(())),
-        (0, 0, one_open, 500_000, Err(PushFault::TooLong)),
-        (LAST_NUMBER, 0, none, 1, Ok(())),
-        (LAST_NUMBER, 0, one_open, 1, Ok(())),
-        (LAST_NUMBER, 0, finished, 1, Err(PushFault::CountEnd)),
-        (LAST_NUMBER - 1, 0, finished, 1, Ok(())),
-        (
-            LAST_NUMBER - 1,
-            0,
-            two_finished,
-            1,
-            Err(PushFault::CountEnd),
-        ),
-        (0, LAST_SECOND, none, 999_999, Ok(())),
-        (0, LAST_SECOND, none, 1_000_000, Err(PushFault::TimeEnd)),
-        (0, LAST_SECOND, to_the_end, 1, Err(PushFault::TimeEnd)),
-        (0, LAST_MILLI, none, 999, Ok(())),
-        (0, LAST_MILLI, none, 1_000, Err(PushFault::TimeEnd)),
-        (
-            LAST_NUMBER,
-            LAST_SECOND,
-            to_both_ends,
-            0,
-            Err(PushFault::BadDuration),
-        ),
-        (
-            LAST_NUMBER,
-            LAST_SECOND,
-            to_both_ends,
-            1_000_001,
-            Err(PushFault::TooLong),
-        ),
-        (
-            LAST_NUMBER,
-            LAST_SECOND,
-            to_both_ends,
-            1,
-            Err(PushFault::CountEnd),
-        ),
-    ] {
-        let mut window = window(rt.alloc(), first, start)?;
-        for &part in before {
-            window.push(item(part))?;
-        }
-        let next = item((micros, true));
-        let answers = (window.test(&next), window.push(next));
-        assert_eq!(rt; answers, (answer, answer), "{micros} at {first}, {start}");
-    }
-    Ok(())
+    check(&rt, rt.alloc(), RULES, rule)
+}
+
+/// An item that comes after a segment of a second and a part of a second, and after those of the rows above: what a test of it and its
+/// publication answer, and what the window tells then.
+const REFUSALS: &str = "
+0 => (Err(BadDuration), Err(BadDuration)) 1 1 8 2000000 0 Some(Place { number: 8, index: 0 }) false
+500000f => (Err(TooLong), Err(TooLong)) 1 1 8 2000000 0 Some(Place { number: 8, index: 0 }) false
+b => (Err(OpenSegment), Err(OpenSegment)) 1 1 8 2000000 0 Some(Place { number: 8, index: 0 }) false
+1f => (Ok(()), Ok(())) 2 0 9 2000001 0 Some(Place { number: 8, index: 1 }) false
+b => (Ok(()), Ok(())) 2 0 9 2000001 0 Some(Place { number: 8, index: 1 }) false
+1 => (Ok(()), Ok(())) 2 1 9 2000002 0 Some(Place { number: 9, index: 0 }) false
+e => (Ok(()), Ok(())) 3 0 10 2000002 0 Some(Place { number: 9, index: 0 }) true
+1000000f => (Err(Ended), Err(Ended)) 3 0 10 2000002 0 Some(Place { number: 9, index: 0 }) true
+b => (Err(Ended), Err(Ended)) 3 0 10 2000002 0 Some(Place { number: 9, index: 0 }) true
+e => (Err(Ended), Err(Ended)) 3 0 10 2000002 0 Some(Place { number: 9, index: 0 }) true";
+
+fn step(alloc: Global, window: &mut Window, word: &str) -> Result<String, Fail> {
+    let next = item(word)?;
+    let answers = (window.test(&next), window.push(next));
+    let state = state(alloc, window)?;
+    Ok(format!(in alloc; "{answers:?} {state}")?)
 }
 
 #[test]
 fn a_refused_item_changes_nothing(rt: HostRuntime) -> Result<(), Fail> {
-    let parts = [(false, 1_000_000, true), (false, 1_000_000, false)];
-    let mut window = window_of(rt.alloc(), 7, 0, &parts)?;
-    for (next, answer, text) in [
-        (
-            item((0, false)),
-            Err(PushFault::BadDuration),
-            "1 1 8 2000000 0 Some((8, 0)) false",
-        ),
-        (
-            item((500_000, true)),
-            Err(PushFault::TooLong),
-            "1 1 8 2000000 0 Some((8, 0)) false",
-        ),
-        (
-            BREAK,
-            Err(PushFault::OpenSegment),
-            "1 1 8 2000000 0 Some((8, 0)) false",
-        ),
-        (
-            item((1, true)),
-            Ok(()),
-            "2 0 9 2000001 0 Some((8, 1)) false",
-        ),
-        (BREAK, Ok(()), "2 0 9 2000001 0 Some((8, 1)) false"),
-        (
-            item((1, false)),
-            Ok(()),
-            "2 1 9 2000002 0 Some((9, 0)) false",
-        ),
-        (END, Ok(()), "3 0 10 2000002 0 Some((9, 0)) true"),
-        (
-            item(ENDS),
-            Err(PushFault::Ended),
-            "3 0 10 2000002 0 Some((9, 0)) true",
-        ),
-        (
-            BREAK,
-            Err(PushFault::Ended),
-            "3 0 10 2000002 0 Some((9, 0)) true",
-        ),
-        (
-            END,
-            Err(PushFault::Ended),
-            "3 0 10 2000002 0 Some((9, 0)) true",
-        ),
-    ] {
-        let answers = (window.test(&next), window.push(next));
-        let told = (answers, state(rt.alloc(), &window)?);
-        assert_eq!(rt; (told.0, told.1.as_str()), ((answer, answer), text));
-    }
-    Ok(())
+    let mut window = window(rt.alloc(), 7, 0)?;
+    push(&mut window, "1000000f 1000000")?;
+    check(&rt, rt.alloc(), REFUSALS, |alloc, word| {
+        step(alloc, &mut window, word)
+    })
 }
 
-/// Segments of one part each, as many as told of each duration, and what the window begins with then.
+/// Segments of one part each, as many as told of each duration: how many segments the window has then, and the number and time of
+/// the first.
+const LEAVING: &str = "
+2x1000000f 7x1000000f 1x999999f => 10 7 1000
+1x1000000f 8x1000000f 1x1000000f => 9 8 1001000
+9x1000000f 1x999999f 1x1f => 10 8 1001000
+3x1f 8x1000000f 1x999999f => 10 9 1002
+3x1f 8x1000000f 1x1000000f => 9 10 1003";
+
+fn first(alloc: Global, words: &str) -> Result<String, Fail> {
+    let mut window = window_of(alloc, words)?;
+    push(&mut window, "1000000")?;
+    let first = window.segment(0).ok_or("there is one")?;
+    let count = window.segment_count();
+    Ok(format!(in alloc; "{count} {} {}", first.number, first.time)?)
+}
+
 #[test]
 fn segments_leave_the_window(rt: HostRuntime) -> Result<(), Fail> {
-    for (durations, count, number, time) in [
-        ([(2, 1_000_000), (7, 1_000_000), (1, 999_999)], 10, 7, 1_000),
-        (
-            [(1, 1_000_000), (8, 1_000_000), (1, 1_000_000)],
-            9,
-            8,
-            1_001_000,
-        ),
-        ([(9, 1_000_000), (1, 999_999), (1, 1)], 10, 8, 1_001_000),
-        ([(3, 1), (8, 1_000_000), (1, 999_999)], 10, 9, 1_002),
-        ([(3, 1), (8, 1_000_000), (1, 1_000_000)], 9, 10, 1_003),
-    ] {
-        let mut window = window(rt.alloc(), 7, 1)?;
-        for (times, duration) in durations {
-            for _ in 0..times {
-                window.push(item((duration, true)))?;
-            }
-        }
-        window.push(item(GOES_ON))?;
-        let first = window.segment(0).map(|first| (first.number, first.time));
-        assert_eq!(rt;
-            (window.segment_count(), first),
-            (count, Some((number, time)))
-        );
-    }
-    Ok(())
+    check(&rt, rt.alloc(), LEAVING, first)
 }
 
 /// So many segments of a second each, an open part, and how many segments are skipped where the limit is 6 s.
-#[test]
-fn segments_past_the_limit_are_skipped(rt: HostRuntime) -> Result<(), Fail> {
-    for (seconds, open, skipped) in [
-        (6, 1_000_000, 0),
-        (7, 1, 1),
-        (8, 999_999, 2),
-        (9, 1_000_000, 3),
-        (12, 1_000_000, 3),
-    ] {
-        let mut window = window(rt.alloc(), 0, 0)?;
-        for _ in 0..seconds {
-            window.push(item(ENDS))?;
-        }
-        window.push(item((open, false)))?;
-        assert_eq!(rt; window.skip_count(), skipped);
-    }
-    Ok(())
+const SKIPPED: &str = "
+6x1000000f 1000000 => 0
+7x1000000f 1 => 1
+8x1000000f 999999 => 2
+9x1000000f 1000000 => 3
+12x1000000f 1000000 => 3";
+
+fn skipped(alloc: Global, words: &str) -> Result<String, Fail> {
+    let mut window = window(alloc, 0, 0)?;
+    push(&mut window, words)?;
+    Ok(format!(in alloc; "{}", window.skip_count())?)
 }
 
-/// Parts, each after a break where that is told of it, and what the window tells of segments then.
+#[test]
+fn segments_past_the_limit_are_skipped(rt: HostRuntime) -> Result<(), Fail> {
+    check(&rt, rt.alloc(), SKIPPED, skipped)
+}
+
+/// Items, and then how many broken segments have left and what the window tells of its segments.
+const SEGMENTS: &str = "
+b 1000000f b 500000 250000f 1000000f b 750000 => 0: 7 true 1 1000 1000000 1;8 true 2 1001000 750000 2;9 false 2 1751000 1000000 1;10 true 3 2751000 750000 0;
+600000 400000f 1000000f 1000000f 999999f => 0: 7 false 0 1000 1000000 2;8 false 0 1001000 1000000 1;9 false 0 2001000 1000000 1;10 false 0 3001000 999999 1;
+600000 400000f 1000000f 1000000f 1000000 => 0: 7 false 0 1000 1000000 0;8 false 0 1001000 1000000 1;9 false 0 2001000 1000000 1;10 false 0 3001000 1000000 0;
+b 1000000f b 750000f 1000000f b 1000000f b 1000000f 1000000f 1000000f 1000000f 1000000f 1000000f 1000000f => 2: 9 false 2 1751000 1000000 0;10 true 3 2751000 1000000 0;11 true 4 3751000 1000000 0;12 false 4 4751000 1000000 0;13 false 4 5751000 1000000 0;14 false 4 6751000 1000000 0;15 false 4 7751000 1000000 1;16 false 4 8751000 1000000 1;17 false 4 9751000 1000000 1;";
+
+fn broken(alloc: Global, words: &str) -> Result<String, Fail> {
+    let window = window_of(alloc, words)?;
+    let mut text = format!(in alloc; "{}: ", window.discontinuity())?;
+    add_segments(&mut text, &window)?;
+    Ok(text)
+}
+
 #[test]
 fn segments_are_told_with_their_breaks_and_parts(rt: HostRuntime) -> Result<(), Fail> {
-    let whole = (false, 1_000_000, true);
-    let broken = (true, 1_000_000, true);
-    for (parts, breaks, text) in [
-        (
-            [
-                broken,
-                (true, 500_000, false),
-                (false, 250_000, true),
-                whole,
-                (true, 750_000, false),
-            ]
-            .as_slice(),
-            0,
-            "7 true 1 1000 1000000 1;8 true 2 1001000 750000 2;9 false 2 1751000 1000000 1;10 true 3 2751000 750000 0;",
-        ),
-        (
-            [
-                (false, 600_000, false),
-                (false, 400_000, true),
-                whole,
-                whole,
-                (false, 999_999, true),
-            ]
-            .as_slice(),
-            0,
-            "7 false 0 1000 1000000 2;8 false 0 1001000 1000000 1;9 false 0 2001000 1000000 1;10 false 0 3001000 999999 1;",
-        ),
-        (
-            [
-                (false, 600_000, false),
-                (false, 400_000, true),
-                whole,
-                whole,
-                (false, 1_000_000, false),
-            ]
-            .as_slice(),
-            0,
-            "7 false 0 1000 1000000 0;8 false 0 1001000 1000000 1;9 false 0 2001000 1000000 1;10 false 0 3001000 1000000 0;",
-        ),
-        (
-            [
-                broken,
-                (true, 750_000, true),
-                whole,
-                broken,
-                broken,
-                whole,
-                whole,
-                whole,
-                whole,
-                whole,
-                whole,
-            ]
-            .as_slice(),
-            2,
-            "9 false 2 1751000 1000000 0;10 true 3 2751000 1000000 0;11 true 4 3751000 1000000 0;12 false 4 4751000 1000000 0;\
-            13 false 4 5751000 1000000 0;14 false 4 6751000 1000000 0;15 false 4 7751000 1000000 1;16 false 4 8751000 1000000 1;\
-            17 false 4 9751000 1000000 1;",
-        ),
-    ] {
-        let window = window_of(rt.alloc(), 7, 1, parts)?;
-        let told = (window.discontinuity(), segments(rt.alloc(), &window)?);
-        assert_eq!(rt; (told.0, told.1.as_str()), (breaks, text));
-    }
-    Ok(())
+    check(&rt, rt.alloc(), SEGMENTS, broken)
+}
+
+/// Adds what two windows tell of their segments.
+fn add_both(text: &mut String, one: &Window, other: &Window) -> Result<(), Fail> {
+    add_segments(text, one)?;
+    text.push(' ')?;
+    add_segments(text, other)
+}
+
+/// Items, and a later one: what the copy and the window tell of their segments before it, and what they tell after it.
+const COPY: &str = "
+1000000f b 1000000 | 1 => 7 false 0 0 1000000 1;8 true 1 1000000 1000000 0; 7 false 0 0 1000000 1;8 true 1 1000000 1000000 0; - 7 false 0 0 1000000 1;8 true 1 1000000 1000000 0; 7 false 0 0 1000000 1;8 true 1 1000000 1000001 0;";
+
+fn copied(alloc: Global, input: &str) -> Result<String, Fail> {
+    let mut text = String::new(alloc);
+    let mut window = window(alloc, 7, 0)?;
+    push(&mut window, column(input, 0))?;
+    add_copied(&mut text, &mut window, column(input, 1))?;
+    Ok(text)
+}
+
+/// Adds what a copy and its window tell before a later item, and after it.
+fn add_copied(text: &mut String, window: &mut Window, later: &str) -> Result<(), Fail> {
+    let copy = window.copy()?;
+    add_both(text, &copy, window)?;
+    text.push_str(" - ")?;
+    push(window, later)?;
+    add_both(text, &copy, window)
 }
 
 #[test]
 fn a_copy_is_equal_and_stays(rt: HostRuntime) -> Result<(), Fail> {
-    let parts = [(false, 1_000_000, true), (true, 1_000_000, false)];
-    let mut window = window_of(rt.alloc(), 7, 0, &parts)?;
-    let copy = window.copy()?;
-    let told = "7 false 0 0 1000000 1;8 true 1 1000000 1000000 0;";
-    for (before, after) in [
-        (told, told),
-        (told, "7 false 0 0 1000000 1;8 true 1 1000000 1000001 0;"),
-    ] {
-        let (now, copied) = (segments(rt.alloc(), &window)?, segments(rt.alloc(), &copy)?);
-        assert_eq!(rt; (copied.as_str(), now.as_str()), (before, after));
-        window.push(item((1, false)))?;
-    }
-    Ok(())
+    check(&rt, rt.alloc(), COPY, copied)
 }
