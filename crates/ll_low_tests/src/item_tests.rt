@@ -242,3 +242,34 @@ unrange Hi a => BadLine
 fn lines_that_are_no_item_are_refused(rt: HostRuntime) -> Result<(), Fail> {
     check(&rt, rt.alloc(), NO_ITEMS, read)
 }
+
+/// Two lines, and whether their items are equal.
+const EQUAL: &str = r#"
+part hi 1000000 if | part hi 1000000 if => true
+part hi 1000000 if | part lo 1000000 if => false
+part hi 1000000 if | part hi 999999 if => false
+part hi 1000000 if | part hi 1000000 i => false
+part hi 1000000 if | part hi 1000000 f => false
+break hi | break hi => true
+break hi | break lo => false
+break hi | end hi => false
+end hi | end hi => true
+range hi ID="x",A=1 | range hi ID="x",A=1 => true
+range hi ID="x",A=1 | range lo ID="x",A=1 => false
+range hi ID="x",A=1 | range hi ID="y",A=1 => false
+range hi ID="x",A=1 | range hi ID="x",A=2 => false
+range hi ID="x",A=1 | unrange hi x => false
+unrange hi x | unrange hi x => true
+unrange hi x | unrange hi y => false"#;
+
+fn equal(alloc: Global, input: &str) -> Result<String, Fail> {
+    let settings = Settings::read(alloc, LINE)?;
+    let one = Item::read(alloc, &settings, column(input, 0))?;
+    let other = Item::read(alloc, &settings, column(input, 1))?;
+    Ok(format!(in alloc; "{}", one == other)?)
+}
+
+#[test]
+fn items_are_compared(rt: HostRuntime) -> Result<(), Fail> {
+    check(&rt, rt.alloc(), EQUAL, equal)
+}
