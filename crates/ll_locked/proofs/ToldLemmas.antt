@@ -65,8 +65,6 @@ accepted r es i seen n recorded free later is = record {
   later = omega (arith, later, is);
 }
 
-}
-
 -- ---- requests
 
 abbrev reply_in : Asked → Option Reply

@@ -49,8 +49,6 @@ asked-says k id t w v s = record {
   text = s.text;
 }
 
-}
-
 -- where the rooms stay as they are, so does the world
 pub heard-still : (w : World) (v : world.World) → w.rooms.answers ≡ [] → v ≡ w.rooms → heard w v ≡ w
 heard-still w v quiet same =
