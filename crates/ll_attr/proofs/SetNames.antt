@@ -1,15 +1,11 @@
 -- Names that are kept in a set, in the order in which they came, find the same faults as those of the definition.
-use Rattle.std.proofs.Common.{◌≡◌, ℕ, ◌||◌, Bool, true, false, not, List, [], ◌∷◌, ◌++◌, map, refl, ap, sym, ◌∙◌, Option, Some, None, Bor, bytes_eq, if◌then◌else◌}
+use Rattle.std.proofs.Common.{◌≡◌, ℕ, ◌||◌, Bool, true, false, not, List, [], ◌∷◌, ◌++◌, refl, ap, sym, ◌∙◌, Option, Some, None, Bor, bytes_eq, if◌then◌else◌}
 use Rattle.std.specs.List.{list_any, after_first}
 use Rattle.ll_attr.specs.Attributes.{is_equals, value_in}
-use Rattle.ll_attr.specs.Reading.{name_of, is_named, fault_of, fault_after, fault_of_value, fault_in, first_of}
+use Rattle.ll_attr.specs.Reading.{name_of, is_named, fault_of, fault_after, fault_of_value, fault_in, first_of, texts}
 use Rattle.ll_attr.specs.declared.attributes.AttrValue.{AttrValue}
 use Rattle.ll_attr.specs.declared.attributes.AttrFault.{AttrFault}
 use Rattle.ll_attr.specs.declared.attributes.AttrFault.TheVariants.{BadName, Twice}
-
--- the names of a set, as bytes
-abbrev pub texts : List (Bor (List ℕ)) → List (List ℕ)
-texts keys = map (λ key. key.now) keys
 
 texts_push : (keys : List (Bor (List ℕ))) (name : Bor (List ℕ)) → texts (keys ++ name ∷ []) ≡ texts keys ++ name.now ∷ []
 texts_push [] name = refl
@@ -42,15 +38,8 @@ pub stands : (name : Bor (List ℕ)) (keys : List (Bor (List ℕ))) (part : List
 stands name keys part b is h = ap (λ n. list_any (bytes_eq n) (texts keys)) (sym is) ∙ sym (any_texts name keys) ∙ h
 
 -- one name more
-pub put : (name : Bor (List ℕ)) (keys new : List (Bor (List ℕ))) (part : List ℕ) (parts : List (List ℕ)) (r : Option AttrFault) → name.now ≡ name_of part
-    → new ≡ keys ++ name ∷ [] → fault_in (name_of part ∷ texts keys) parts ≡ r → fault_in (texts new) parts ≡ r
-put name keys new part parts r is e so_far =
-    ap (λ ks. fault_in (texts ks) parts) e ∙ ap (λ ns. fault_in ns parts) (texts_push keys name) ∙ ap (λ n. fault_in (texts keys ++ n ∷ []) parts) is
-    ∙ fault_same parts (texts keys ++ name_of part ∷ []) (name_of part ∷ texts keys) (λ x. any_last x (name_of part) (texts keys)) ∙ so_far
-
-pub as_new : {A : Type 0} (x : Bool) (keys more new : List A) → not x ≡ true → new ≡ (if x then keys else more) → new ≡ more
-as_new true keys more new h e = cc
-as_new false keys more new h e = e
+pub put : (names new parts : List (List ℕ)) (name : List ℕ) (r : Option AttrFault) → new ≡ names ++ name ∷ [] → fault_in (name ∷ names) parts ≡ r → fault_in new parts ≡ r
+put names new parts name r e so_far = ap (λ ns. fault_in ns parts) e ∙ fault_same parts (names ++ name ∷ []) (name ∷ names) (λ x. any_last x name names) ∙ so_far
 
 pub is_new : (x : Bool) → not x ≡ true → x ≡ false
 is_new true h = cc

@@ -1,5 +1,6 @@
 -- For private contracts: what the steps that read an attribute list go by.
-use Rattle.std.specs.Prelude.{ℕ, suc, List, [], ◌∷◌, Bool, true, false, not, ◌&&◌, ◌==◌, Option, Some, None, bytes_eq, if◌then◌else◌}
+use Rattle.std.specs.Prelude.{ℕ, suc, map, List, [], ◌∷◌, Bool, true, false, not, ◌&&◌, ◌==◌, Option, Some, None, bytes_eq, if◌then◌else◌}
+use Rattle.std.specs.Borrow.{Bor}
 use Rattle.std.specs.List.{list_any, list_all, before_first, after_first}
 use Rattle.ll_attr.specs.Attributes.{quoted_after, is_equals, is_attribute_name, is_quoted_byte, value_in}
 use Rattle.ll_attr.specs.declared.attributes.Attribute.{Attribute}
@@ -43,6 +44,10 @@ names_so_far names (a ∷ more) = names_so_far (a.name ∷ names) more
 abbrev pub names_of_parts : List (List ℕ) → List (List ℕ) → List (List ℕ)
 names_of_parts names [] = names
 names_of_parts names (part ∷ parts) = names_of_parts (name_of part ∷ names) parts
+
+-- the names of a set, as bytes
+abbrev pub texts : List (Bor (List ℕ)) → List (List ℕ)
+texts keys = map (λ key. key.now) keys
 
 abbrev pub fault_of_value : Option AttrValue → Option AttrFault
 fault_of_value None = Some BadValue

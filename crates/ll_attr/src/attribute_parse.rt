@@ -1,8 +1,8 @@
 //! Attribute lists, read.
-ghost use Rattle.std.specs.Prelude.{◌≡◌, ◌≢◌, ℕ, List, [], false, IfOk, IfErr, IfSome, IsOk, IsErrOf, Ok, Err, None, Some, MatchOption, if◌then◌else◌, bytes_eq, take};
+ghost use Rattle.std.specs.Prelude.{◌≡◌, ◌≢◌, ◌++◌, ◌∷◌, ℕ, List, [], false, IfOk, IfErr, IfSome, IsOk, IsErrOf, Ok, Err, None, Some, MatchOption, if◌then◌else◌, bytes_eq, take};
 ghost use Rattle.std.specs.List.{list_any, after_first};
 ghost use Rattle.ll_attr.specs.Attributes.{attributes_in, attribute_in, parts_outside, spelling, value_in, is_equals};
-ghost use Rattle.ll_attr.specs.Reading.{fault_of, fault_of_value, is_named, names_of_parts};
+ghost use Rattle.ll_attr.specs.Reading.{fault_of, fault_of_value, is_named, names_of_parts, texts};
 ghost use Rattle.ll_attr.specs.Reading as reading;
 ghost use Rattle.ll_attr.specs.declared.attributes.Attribute.{Attribute};
 
@@ -85,13 +85,7 @@ fn fault_by_set(alloc: Global, text: &str) -> Result<Option<AttrFault>, AllocErr
     let mut rest = text;
     loop {
         let (part, after) = first_part(rest);
-        if let Some(fault) = name_fault(part) {
-            return Ok(Some(fault));
-        }
-        if !names.insert(name_of(part))? {
-            return Ok(Some(AttrFault::Twice));
-        }
-        if let Some(fault) = value_fault(part) {
+        if let Some(fault) = new_part_fault(&mut names, part)? {
             return Ok(Some(fault));
         }
         match after {
@@ -99,6 +93,23 @@ fn fault_by_set(alloc: Global, text: &str) -> Result<Option<AttrFault>, AllocErr
             None => return Ok(None),
         }
     }
+}
+
+/// The fault of a part after those whose names a set holds; where it has none, the set holds its name too.
+fn new_part_fault<'a>(
+    names: &mut IndexSet<&'a str>,
+    part: &'a str,
+) -> Result<Option<AttrFault>, AllocError>
+    ensures fault { IfOk result (λ r. r ≡ fault_of (texts names.old.keys) part.now) }
+    ensures put { IfOk result (λ r. r ≡ None → texts names.new.keys ≡ texts names.old.keys ++ reading.name_of part.now ∷ []) }
+{
+    if let Some(fault) = name_fault(part) {
+        return Ok(Some(fault));
+    }
+    if !names.insert(name_of(part))? {
+        return Ok(Some(AttrFault::Twice));
+    }
+    Ok(value_fault(part))
 }
 
 /// The first fault of a text, whose names are looked for in the text again.
