@@ -3,7 +3,7 @@ use Rattle.std.proofs.Common.{◌≡◌, ◌==◌, ℕ, List, [], ◌∷◌, ◌
 use Rattle.ll_line.specs.Text.{text_of}
 use Rattle.ll_page.proofs.Texts.{texts}
 use Rattle.ll_page.specs.Playlist.{Finished}
-use Rattle.ll_apply.specs.Applied.{in_force, kept, without_parts}
+use Rattle.ll_apply.specs.Applied.{in_force, without_parts}
 use Rattle.ll_apply.specs.Order.{both, both_lines, force_after, lines_from, shown}
 use Rattle.ll_apply.proofs.OrderLemmas.{mapped-lines, lines-more, in-force-first, drop-in-force, take-in-force, force-without}
 

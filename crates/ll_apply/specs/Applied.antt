@@ -31,8 +31,8 @@ mapped [] = []
 mapped (s ∷ more) = s ∷ map (λ t. unless_broken t.block.broken t) more
 
 -- so many segments of a playlist from this number on, with the maps in force, and without parts
-abbrev pub kept : Playlist → ℕ → ℕ → List Finished
-kept base number count = map without_parts (take count (drop (number - base.sequence) (in_force None base.segments)))
+abbrev pub kept_segments : Playlist → ℕ → ℕ → List Finished
+kept_segments base number count = map without_parts (take count (drop (number - base.sequence) (in_force None base.segments)))
 
 -- whether a playlist has a finished segment of this number
 abbrev pub has : Playlist → ℕ → Bool
@@ -64,7 +64,7 @@ abbrev pub updated : Playlist → Playlist → Skip → Playlist
 updated base delta skip = record delta {
   ranges = ranges_by skip.removed base.ranges delta.ranges;
   skipped = None;
-  segments = mapped (in_force None (kept base delta.sequence skip.count ++ delta.segments));
+  segments = mapped (in_force None (kept_segments base delta.sequence skip.count ++ delta.segments));
 }
 
 abbrev pub unless_missing : Option ℕ → Playlist → Result Playlist ApplyFault

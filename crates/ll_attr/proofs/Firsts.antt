@@ -4,7 +4,7 @@ use Rattle.std.proofs.lemmas.List.{append-nil}
 use Rattle.std.specs.List.{list_all, list_any, after_first}
 use Rattle.ll_attr.specs.Attributes.{attributes_in, attributes_of, attribute_in, spelling, value_spelling, value_by, value_in, is_attribute_name, is_bare, is_quoted_byte, is_equals}
 use Rattle.ll_attr.specs.Reading.{name_of, is_named, part_len}
-use Rattle.ll_attr.specs.Words.{parts_at}
+use Rattle.ll_attr.specs.Words.{pieces_at}
 use Rattle.ll_attr.specs.declared.attributes.Attribute.{Attribute}
 use Rattle.ll_attr.specs.declared.attributes.AttrValue.{AttrValue}
 use Rattle.ll_attr.specs.declared.attributes.AttrValue.TheVariants.{Quoted, Bare}
@@ -40,7 +40,7 @@ both_right false y h = cc
 read_formed : (names : List (List ℕ)) (part : List ℕ) (a : Attribute) → attribute_in names part ≡ Ok a → (is_attribute_name a.name ≡ true) × (is_formed a.value ≡ true)
 read_formed names part a h =
     let p = read_ok (is_named part) _ (name_of part) (value_in (after_first is_equals part)) a h in
-    (ap is_attribute_name p.1 ∙ both_right (list_any is_equals part) _ p.0, formed_by (after_first is_equals part) (parts_at 34 (after_first is_equals part)) a.value p.2)
+    (ap is_attribute_name p.1 ∙ both_right (list_any is_equals part) _ p.0, formed_by (after_first is_equals part) (pieces_at 34 (after_first is_equals part)) a.value p.2)
 
 -- a list's first attribute has a name and a value
 pub first_formed : (text : List ℕ) (a : Attribute) (more : List Attribute) → attributes_in text ≡ Ok (a ∷ more) → (is_attribute_name a.name ≡ true) × (is_formed a.value ≡ true)

@@ -7,7 +7,7 @@ use Rattle.std.specs.Option.{option_map, option_and_then}
 use Rattle.std.specs.Str.Parse.{digits_value}
 use Rattle.ll_attr.specs.Durations.{micros_in, micros_of_parts}
 use Rattle.ll_attr.specs.Numbers.{is_digits, number_in}
-use Rattle.ll_attr.specs.Words.{parts_at}
+use Rattle.ll_attr.specs.Words.{pieces_at}
 use Rattle.ll_attr.proofs.Digits.{is_digits-parts, number_in-short, no_point}
 use Rattle.ll_attr.proofs.Fractions.{fraction_in}
 
@@ -18,7 +18,7 @@ uncut_cases : (text : List ℕ) (r : Option ℕ) → r ≡ number_in 12 text →
 uncut_cases text None e = grind (arith, nat_tests, number_in-short)
 uncut_cases text (Some w) e = grind (arith, nat_tests, number_in-short)
 
-pub micros_in-uncut : (text : List ℕ) (r : Option ℕ) → parts_at 46 text ≡ text ∷ [] → r ≡ number_in 12 text → option_map (λ w. w * 1000000) r ≡ micros_in text
+pub micros_in-uncut : (text : List ℕ) (r : Option ℕ) → pieces_at 46 text ≡ text ∷ [] → r ≡ number_in 12 text → option_map (λ w. w * 1000000) r ≡ micros_in text
 micros_in-uncut text r alone e = uncut_cases text r e ∙ ap micros_of_parts (sym alone)
 
 no_fraction : (whole fraction : List ℕ) (ps : List (List ℕ)) → join_with_byte 46 ps ≡ fraction → 0 < length ps → is_digits 6 fraction ≡ false → micros_of_parts (whole ∷ ps) ≡ None
@@ -27,7 +27,7 @@ no_fraction whole fraction (x ∷ []) e some bad = grind (arith, nat_tests)
 no_fraction whole fraction (x ∷ y ∷ more) e some bad = refl
 
 -- a further point leaves the text no meaning, as it leaves no digits after the first point
-pub one_cut : (whole fraction : List ℕ) (b : Bool) → is_digits 6 fraction ≡ b → micros_of_parts (whole ∷ parts_at 46 fraction) ≡ micros_of_parts (whole ∷ fraction ∷ [])
+pub one_cut : (whole fraction : List ℕ) (b : Bool) → is_digits 6 fraction ≡ b → micros_of_parts (whole ∷ pieces_at 46 fraction) ≡ micros_of_parts (whole ∷ fraction ∷ [])
 one_cut whole fraction true h =
     ap (λ ps. micros_of_parts (whole ∷ ps)) (slice_split_none is_point fraction (no_point fraction (is_digits-parts 6 fraction h).2))
 one_cut whole fraction false h =
@@ -39,7 +39,7 @@ cut_cases whole fraction None f d e = grind (arith, nat_tests, number_in-short)
 cut_cases whole fraction (Some x) None d e = grind (arith, nat_tests, number_in-short)
 cut_cases whole fraction (Some x) (Some y) d e = grind (arith, nat_tests, number_in-short)
 
-pub micros_in-cut : (text whole fraction : List ℕ) (w f : Option ℕ) → parts_at 46 text ≡ whole ∷ parts_at 46 fraction → w ≡ number_in 12 whole → f ≡ fraction_in fraction → option_and_then (λ x. option_map (λ y. x * 1000000 + y) f) w ≡ micros_in text
+pub micros_in-cut : (text whole fraction : List ℕ) (w f : Option ℕ) → pieces_at 46 text ≡ whole ∷ pieces_at 46 fraction → w ≡ number_in 12 whole → f ≡ fraction_in fraction → option_and_then (λ x. option_map (λ y. x * 1000000 + y) f) w ≡ micros_in text
 micros_in-cut text whole fraction w f in_two d e =
     cut_cases whole fraction w f d e ∙ sym (one_cut whole fraction _ refl) ∙ ap micros_of_parts (sym in_two)
 

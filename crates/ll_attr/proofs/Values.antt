@@ -6,7 +6,7 @@ use Rattle.std.proofs.lemmas.List.Splits.{slice_split_none, join_with_byte-slice
 use Rattle.std.specs.List.{AllByRecursion, list_all, join_with_byte, onto_first}
 use Rattle.ll_attr.specs.Attributes.{value_in, value_by, value_spelling, is_bare, is_bare_byte, is_quoted_byte}
 use Rattle.ll_attr.specs.Reading.{inner_of}
-use Rattle.ll_attr.specs.Words.{parts_at}
+use Rattle.ll_attr.specs.Words.{pieces_at}
 use Rattle.ll_attr.specs.declared.attributes.AttrValue.{AttrValue}
 use Rattle.ll_attr.specs.declared.attributes.AttrValue.TheVariants.{Quoted, Bare}
 
@@ -18,7 +18,7 @@ no_mark_by_recursion [] h = tt
 no_mark_by_recursion (b ∷ bs) h = (grind (arith, nat_tests), no_mark_by_recursion bs (grind (arith, nat_tests)))
 
 -- a bare value holds no mark, so it is its one part
-bare_uncut : (text : List ℕ) → is_bare text ≡ true → parts_at 34 text ≡ text ∷ []
+bare_uncut : (text : List ℕ) → is_bare text ≡ true → pieces_at 34 text ≡ text ∷ []
 bare_uncut text h =
     slice_split_none is_mark text (All-from_recursion (λ b. is_mark b ≡ false) text (no_mark_by_recursion text (grind (arith, nat_tests))))
 
@@ -55,17 +55,17 @@ some_left : (b : ℕ) (bs : List ℕ) → (length (b ∷ bs) == 0) ≡ false
 some_left b bs = grind (arith, nat_tests)
 
 -- what stands between two marks, by what stands before the first and after the second
-pub inner_by_cut : (before inner end : List ℕ) → inner_of (before ∷ inner ∷ parts_at 34 end)
+pub inner_by_cut : (before inner end : List ℕ) → inner_of (before ∷ inner ∷ pieces_at 34 end)
     ≡ inner_if (length before == 0 && (length end == 0 && list_all is_quoted_byte inner)) inner
 inner_by_cut (b ∷ bs) inner end =
     sym (ap (λ x. inner_if (x && (length end == 0 && list_all is_quoted_byte inner)) inner) (some_left b bs))
 inner_by_cut [] inner [] = inner_same (list_all is_quoted_byte inner) inner
 inner_by_cut [] inner (b ∷ bs) =
-    end_by (is_mark b) inner b (parts_at 34 bs) (omega (arith, length-slice_split is_mark bs))
+    end_by (is_mark b) inner b (pieces_at 34 bs) (omega (arith, length-slice_split is_mark bs))
     ∙ sym (ap (λ x. inner_if (x && list_all is_quoted_byte inner) inner) (some_left b bs))
 
-pub inner_in_cut : (text before after inner end : List ℕ) (b : Bool) → parts_at 34 text ≡ before ∷ parts_at 34 after → parts_at 34 after ≡ inner ∷ parts_at 34 end
-    → (length before == 0 && (length end == 0 && list_all is_quoted_byte inner)) ≡ b → inner_of (parts_at 34 text) ≡ inner_if b inner
+pub inner_in_cut : (text before after inner end : List ℕ) (b : Bool) → pieces_at 34 text ≡ before ∷ pieces_at 34 after → pieces_at 34 after ≡ inner ∷ pieces_at 34 end
+    → (length before == 0 && (length end == 0 && list_all is_quoted_byte inner)) ≡ b → inner_of (pieces_at 34 text) ≡ inner_if b inner
 inner_in_cut text before after inner end b e d h =
     ap inner_of (e ∙ ap (λ parts. before ∷ parts) d) ∙ inner_by_cut before inner end ∙ ap (λ x. inner_if x inner) h
 
@@ -100,4 +100,4 @@ spelled_by text ([] ∷ inner ∷ [] ∷ []) v e h = quoted_spelled (list_all is
 
 -- what a value spells is the text that it was read from
 pub value_spelled : (text : List ℕ) (v : AttrValue) → value_in text ≡ Some v → value_spelling v ≡ text
-value_spelled text v h = spelled_by text (parts_at 34 text) v (join_with_byte-slice_split 34 text) h
+value_spelled text v h = spelled_by text (pieces_at 34 text) v (join_with_byte-slice_split 34 text) h

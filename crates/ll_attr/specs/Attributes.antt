@@ -2,7 +2,7 @@
 use Rattle.std.specs.Prelude.{ℕ, List, [], ◌∷◌, ◌++◌, Bool, true, false, not, ◌&&◌, ◌||◌, ◌==◌, Option, Some, None, Result, Ok, Err, if◌then◌else◌, length, nat_le, bytes_eq, codes}
 use Rattle.std.specs.Char.{is_ascii_digit, is_ascii_uppercase}
 use Rattle.std.specs.List.{list_all, list_any, before_first, after_first}
-use Rattle.ll_attr.specs.Words.{parts_at}
+use Rattle.ll_attr.specs.Words.{pieces_at}
 use Rattle.ll_attr.specs.declared.attributes.Attribute.{Attribute}
 use Rattle.ll_attr.specs.declared.attributes.AttrValue.{AttrValue}
 use Rattle.ll_attr.specs.declared.attributes.AttrValue.TheVariants.{Quoted, Bare}
@@ -35,7 +35,7 @@ value_by text parts = if is_bare text then Some (Bare text) else None
 
 -- the value that a text spells
 abbrev pub value_in : List ℕ → Option AttrValue
-value_in text = value_by text (parts_at 34 text)
+value_in text = value_by text (pieces_at 34 text)
 
 abbrev pub is_equals : ℕ → Bool
 is_equals b = b == 61

@@ -2,7 +2,7 @@
 use Rattle.std.specs.Prelude.{◌≡◌, ℕ, ◌+◌, ◌-◌, ◌*◌, ◌/◌, ◌%◌, ◌^◌, ◌<◌, ◌&&◌, List, [], ◌∷◌, ◌++◌, Option, Some, None, if◌then◌else◌, length, decimal, codes}
 use Rattle.std.specs.Str.Parse.{digits_value}
 use Rattle.ll_attr.specs.Numbers.{is_digits}
-use Rattle.ll_attr.specs.Words.{parts_at}
+use Rattle.ll_attr.specs.Words.{pieces_at}
 
 -- microseconds as seconds with six decimals
 unfoldable pub seconds : ℕ → List ℕ
@@ -21,7 +21,7 @@ micros_of_parts parts = None
 
 -- the microseconds that a text of seconds means
 abbrev pub micros_in : List ℕ → Option ℕ
-micros_in text = micros_of_parts (parts_at 46 text)
+micros_in text = micros_of_parts (pieces_at 46 text)
 
 -- what is written is read again
 abbrev pub ReadsBack : Type 0

@@ -4,3 +4,4 @@ pub mod Numbers
 pub mod Reading
 pub mod Same
 pub mod Words
+pub mod YearEnd

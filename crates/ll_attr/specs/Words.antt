@@ -3,12 +3,12 @@ use Rattle.std.specs.Prelude.{ℕ, List, Option, Some, None, ◌==◌, drop, len
 use Rattle.std.specs.List.{join_with_byte, slice_split, starts_with}
 
 -- the parts of a text between single bytes of this value, as a space or a comma
-abbrev pub parts_at : ℕ → List ℕ → List (List ℕ)
-parts_at separator text = slice_split (λ b. b == separator) text
+abbrev pub pieces_at : ℕ → List ℕ → List (List ℕ)
+pieces_at separator text = slice_split (λ b. b == separator) text
 
 -- words are separated by one space
 abbrev pub words : List ℕ → List (List ℕ)
-words text = parts_at 32 text
+words text = pieces_at 32 text
 
 -- words with a space between two of them, as one text again
 abbrev pub joined : List (List ℕ) → List ℕ

@@ -5,7 +5,7 @@ ghost use Rattle.ll_attr.specs.Attributes.{parts_outside, value_in, is_equals, i
 ghost use Rattle.ll_attr.specs.Attributes as spec;
 ghost use Rattle.ll_attr.specs.Reading.{is_named, value_as, inner_of};
 ghost use Rattle.ll_attr.specs.Reading as reading;
-ghost use Rattle.ll_attr.specs.Words.{parts_at};
+ghost use Rattle.ll_attr.specs.Words.{pieces_at};
 
 use crate::parts::cut;
 
@@ -102,7 +102,7 @@ fn is_bare(text: &str) -> bool
 
 /// What stands between two quotation marks, where a text is a quoted string.
 pub(crate) fn quoted_text(text: &str) -> Option<&str>
-    ensures { MatchOption result (inner_of (parts_at 34 text.now) ≡ None) (λ inner. inner_of (parts_at 34 text.now) ≡ Some inner.now) }
+    ensures { MatchOption result (inner_of (pieces_at 34 text.now) ≡ None) (λ inner. inner_of (pieces_at 34 text.now) ≡ Some inner.now) }
 {
     let (before, after) = cut(text, '"')?;
     let (inner, end) = cut(after, '"')?;

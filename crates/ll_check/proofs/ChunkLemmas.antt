@@ -1,7 +1,7 @@
 -- What the lines of a chunk come to, one after another.
 use Rattle.std.proofs.Common.{◌≡◌, ◌≢◌, ℕ, ◌+◌, ◌==◌, List, [], ◌∷◌, true, false, cond, Option, Some, None, Result, Ok, Err, IfOk, IfErr, refl, ap, sym, subst, ◌∙◌, length, bytes_eq, codes, arith}
 use Rattle.std.proofs.lemmas.List.Splits.{length-slice_split}
-use Rattle.ll_attr.specs.Words.{parts_at}
+use Rattle.ll_attr.specs.Words.{pieces_at}
 use Rattle.ll_item.specs.Settings.{Configuration}
 use Rattle.ll_room.specs.Home.{Home, Stands}
 use Rattle.ll_verdict.specs.Events.{Event}
@@ -12,8 +12,8 @@ use Rattle.ll_check.specs.declared.fault.CheckKind.{CheckKind}
 use Rattle.ll_check.specs.declared.fault.CheckKind.TheVariants.{BadChunk, Memory}
 
 -- something always stands after a line's end, if only the empty text
-pub ended-parts : (bytes : List ℕ) (ch : Chain) (more : Result Chain CheckFault) → ended_line (parts_at 10 bytes) ch more ≡ more
-ended-parts bytes ch more = by_list _ (parts_at 10 bytes) (length-slice_split (λ b. b == 10) bytes)
+pub ended-parts : (bytes : List ℕ) (ch : Chain) (more : Result Chain CheckFault) → ended_line (pieces_at 10 bytes) ch more ≡ more
+ended-parts bytes ch more = by_list _ (pieces_at 10 bytes) (length-slice_split (λ b. b == 10) bytes)
   where
     by_list : (n : ℕ) (lines : List (List ℕ)) → length lines ≡ n + 1 → ended_line lines ch more ≡ more
     by_list n [] e = absurd (omega (arith, e))
@@ -21,16 +21,16 @@ ended-parts bytes ch more = by_list _ (parts_at 10 bytes) (length-slice_split (�
 
 -- ---- the first three lines
 
-pub header-is : (ch : Chain) (lines : List (List ℕ)) (first settings at rest : List ℕ) (r : Result Configuration CheckKind) → lines ≡ first ∷ settings ∷ at ∷ parts_at 10 rest
+pub header-is : (ch : Chain) (lines : List (List ℕ)) (first settings at rest : List ℕ) (r : Result Configuration CheckKind) → lines ≡ first ∷ settings ∷ at ∷ pieces_at 10 rest
     → begun ch (text_in first) (text_in settings) (text_in at) ≡ r
-    → checked_from Between ch lines ≡ go_on ch.events r (λ c. checked_from (Inside c) (chain_of c ch.events) (parts_at 10 rest))
+    → checked_from Between ch lines ≡ go_on ch.events r (λ c. checked_from (Inside c) (chain_of c ch.events) (pieces_at 10 rest))
 header-is ch lines first settings at rest r e is =
     ap (checked_from Between ch) e
-    ∙ ended-parts rest ch (go_on ch.events (begun ch (text_in first) (text_in settings) (text_in at)) (λ c. checked_from (Inside c) (chain_of c ch.events) (parts_at 10 rest)))
-    ∙ ap (λ r. go_on ch.events r (λ c. checked_from (Inside c) (chain_of c ch.events) (parts_at 10 rest))) is
+    ∙ ended-parts rest ch (go_on ch.events (begun ch (text_in first) (text_in settings) (text_in at)) (λ c. checked_from (Inside c) (chain_of c ch.events) (pieces_at 10 rest)))
+    ∙ ap (λ r. go_on ch.events r (λ c. checked_from (Inside c) (chain_of c ch.events) (pieces_at 10 rest))) is
 
-pub three : (text rest1 rest2 first settings at rest : List ℕ) → parts_at 10 text ≡ first ∷ parts_at 10 rest1 → parts_at 10 rest1 ≡ settings ∷ parts_at 10 rest2
-    → parts_at 10 rest2 ≡ at ∷ parts_at 10 rest → parts_at 10 text ≡ first ∷ settings ∷ at ∷ parts_at 10 rest
+pub three : (text rest1 rest2 first settings at rest : List ℕ) → pieces_at 10 text ≡ first ∷ pieces_at 10 rest1 → pieces_at 10 rest1 ≡ settings ∷ pieces_at 10 rest2
+    → pieces_at 10 rest2 ≡ at ∷ pieces_at 10 rest → pieces_at 10 text ≡ first ∷ settings ∷ at ∷ pieces_at 10 rest
 three text rest1 rest2 first settings at rest a b c = a ∙ ap (λ ls. first ∷ ls) (b ∙ ap (λ ls. settings ∷ ls) c)
 
 -- ---- the entries
@@ -38,38 +38,38 @@ three text rest1 rest2 first settings at rest a b c = a ∙ ap (λ ls. first ∷
 pub at-first : (h : Home) (events : List Event) (lines : List (List ℕ)) → Stands h events → SoFar h h.settings events lines lines
 at-first h events lines stands = record { more = events; settings = refl; stands = stands; same = refl }
 
-pub at-end : (h : Home) (c : Configuration) (events : List Event) (lines : List (List ℕ)) (text line rest : List ℕ) → SoFar h c events lines (parts_at 10 text)
-    → parts_at 10 text ≡ line ∷ parts_at 10 rest → bytes_eq line (codes "#END") ≡ true → GoesOn h c events lines (parts_at 10 rest)
+pub at-end : (h : Home) (c : Configuration) (events : List Event) (lines : List (List ℕ)) (text line rest : List ℕ) → SoFar h c events lines (pieces_at 10 text)
+    → pieces_at 10 text ≡ line ∷ pieces_at 10 rest → bytes_eq line (codes "#END") ≡ true → GoesOn h c events lines (pieces_at 10 rest)
 at-end h c events lines text line rest s e is = record {
   more = s.more;
   settings = s.settings;
   stands = s.stands;
   same = s.same ∙ ap (checked_from (Inside c) (chain_of c s.more)) e
-      ∙ ended-parts rest (chain_of c s.more) (cond (bytes_eq line (codes "#END")) (checked_from Between (chain_of c s.more) (parts_at 10 rest))
-      (go_on s.more (with_line c s.more line) (λ events. checked_from (Inside c) (chain_of c events) (parts_at 10 rest))))
-      ∙ ap (λ b. cond b (checked_from Between (chain_of c s.more) (parts_at 10 rest))
-      (go_on s.more (with_line c s.more line) (λ events. checked_from (Inside c) (chain_of c events) (parts_at 10 rest)))) is;
+      ∙ ended-parts rest (chain_of c s.more) (cond (bytes_eq line (codes "#END")) (checked_from Between (chain_of c s.more) (pieces_at 10 rest))
+      (go_on s.more (with_line c s.more line) (λ events. checked_from (Inside c) (chain_of c events) (pieces_at 10 rest))))
+      ∙ ap (λ b. cond b (checked_from Between (chain_of c s.more) (pieces_at 10 rest))
+      (go_on s.more (with_line c s.more line) (λ events. checked_from (Inside c) (chain_of c events) (pieces_at 10 rest)))) is;
 }
 
 -- a line that isn't the last of its chunk
-line-is : (c : Configuration) (more : List Event) (text line rest : List ℕ) (r : Result (List Event) CheckKind) → parts_at 10 text ≡ line ∷ parts_at 10 rest
+line-is : (c : Configuration) (more : List Event) (text line rest : List ℕ) (r : Result (List Event) CheckKind) → pieces_at 10 text ≡ line ∷ pieces_at 10 rest
     → bytes_eq line (codes "#END") ≡ false → with_line c more line ≡ r
-    → checked_from (Inside c) (chain_of c more) (parts_at 10 text) ≡ go_on more r (λ events. checked_from (Inside c) (chain_of c events) (parts_at 10 rest))
+    → checked_from (Inside c) (chain_of c more) (pieces_at 10 text) ≡ go_on more r (λ events. checked_from (Inside c) (chain_of c events) (pieces_at 10 rest))
 line-is c more text line rest r e other is =
     ap (checked_from (Inside c) (chain_of c more)) e
-    ∙ ended-parts rest (chain_of c more) (cond (bytes_eq line (codes "#END")) (checked_from Between (chain_of c more) (parts_at 10 rest))
-    (go_on more (with_line c more line) (λ events. checked_from (Inside c) (chain_of c events) (parts_at 10 rest))))
-    ∙ ap (λ b. cond b (checked_from Between (chain_of c more) (parts_at 10 rest))
-    (go_on more (with_line c more line) (λ events. checked_from (Inside c) (chain_of c events) (parts_at 10 rest)))) other
-    ∙ ap (λ r. go_on more r (λ events. checked_from (Inside c) (chain_of c events) (parts_at 10 rest))) is
+    ∙ ended-parts rest (chain_of c more) (cond (bytes_eq line (codes "#END")) (checked_from Between (chain_of c more) (pieces_at 10 rest))
+    (go_on more (with_line c more line) (λ events. checked_from (Inside c) (chain_of c events) (pieces_at 10 rest))))
+    ∙ ap (λ b. cond b (checked_from Between (chain_of c more) (pieces_at 10 rest))
+    (go_on more (with_line c more line) (λ events. checked_from (Inside c) (chain_of c events) (pieces_at 10 rest)))) other
+    ∙ ap (λ r. go_on more r (λ events. checked_from (Inside c) (chain_of c events) (pieces_at 10 rest))) is
 
 joined-of : (h : Home) (r : Result (List Event) CheckKind) → IsJoined h r → (es : List Event) × (r ≡ Ok es) × Stands h es
 joined-of h (Ok es) j = (es, refl, j)
 joined-of h (Err kind) j = absurd j
 
-pub after-line : (h new : Home) (c : Configuration) (events : List Event) (lines : List (List ℕ)) (text line rest : List ℕ) → SoFar h c events lines (parts_at 10 text)
-    → parts_at 10 text ≡ line ∷ parts_at 10 rest → bytes_eq line (codes "#END") ≡ false → new.settings ≡ h.settings
-    → ((es : List Event) → Stands h es → IsJoined new (with_line h.settings es line)) → SoFar new c events lines (parts_at 10 rest)
+pub after-line : (h new : Home) (c : Configuration) (events : List Event) (lines : List (List ℕ)) (text line rest : List ℕ) → SoFar h c events lines (pieces_at 10 text)
+    → pieces_at 10 text ≡ line ∷ pieces_at 10 rest → bytes_eq line (codes "#END") ≡ false → new.settings ≡ h.settings
+    → ((es : List Event) → Stands h es → IsJoined new (with_line h.settings es line)) → SoFar new c events lines (pieces_at 10 rest)
 after-line h new c events lines text line rest s e other kept joins =
     let j = joined-of new (with_line h.settings s.more line) (joins s.more s.stands) in
     let is : with_line c s.more line ≡ Ok j.0 = ap (λ c. with_line c s.more line) (sym s.settings) ∙ j.1 in
@@ -80,8 +80,8 @@ after-line h new c events lines text line rest s e other kept joins =
       same = s.same ∙ line-is c s.more text line rest (Ok j.0) e other is;
     }
 
-pub wrong-line : (h : Home) (c : Configuration) (events : List Event) (lines : List (List ℕ)) (text line rest : List ℕ) (f : CheckFault) → SoFar h c events lines (parts_at 10 text)
-    → parts_at 10 text ≡ line ∷ parts_at 10 rest → bytes_eq line (codes "#END") ≡ false
+pub wrong-line : (h : Home) (c : Configuration) (events : List Event) (lines : List (List ℕ)) (text line rest : List ℕ) (f : CheckFault) → SoFar h c events lines (pieces_at 10 text)
+    → pieces_at 10 text ≡ line ∷ pieces_at 10 rest → bytes_eq line (codes "#END") ≡ false
     → ((es : List Event) → Stands h es → (f.entry ≡ length es + 1) × (with_line h.settings es line ≡ Err f.kind))
     → checked_from (Inside c) (chain_of c events) lines ≡ Err f
 wrong-line h c events lines text line rest f s e other fails =
@@ -89,8 +89,8 @@ wrong-line h c events lines text line rest f s e other fails =
     s.same ∙ line-is c s.more text line rest (Err f.kind) e other (ap (λ c. with_line c s.more line) (sym s.settings) ∙ w.1)
     ∙ ap (λ n. Err (record { entry = n; kind = f.kind })) (sym w.0)
 
-pub unfinished : (h : Home) (c : Configuration) (events : List Event) (lines : List (List ℕ)) (text : List ℕ) (n : ℕ) → SoFar h c events lines (parts_at 10 text)
-    → parts_at 10 text ≡ text ∷ [] → n ≡ h.events → checked_from (Inside c) (chain_of c events) lines ≡ Err (record { entry = n + 1; kind = BadChunk })
+pub unfinished : (h : Home) (c : Configuration) (events : List Event) (lines : List (List ℕ)) (text : List ℕ) (n : ℕ) → SoFar h c events lines (pieces_at 10 text)
+    → pieces_at 10 text ≡ text ∷ [] → n ≡ h.events → checked_from (Inside c) (chain_of c events) lines ≡ Err (record { entry = n + 1; kind = BadChunk })
 unfinished h c events lines text n s e is =
     s.same ∙ ap (checked_from (Inside c) (chain_of c s.more)) e
     ∙ ap (λ k. Err (record { entry = k + 1; kind = BadChunk })) (sym (is ∙ ap (λ (h : Home). h.events) s.stands))
@@ -121,7 +121,7 @@ leads-wrong kept ch lines mid f l fails = l.same ∙ fails l.now l.at
 
 -- what bytes come to that are read to their end from the start
 pub whole : (bytes : List ℕ) (first kept : Option Home) (r : Result ℕ CheckFault) → first ≡ None
-    → ((ch : Chain) → IsAt first ch → (now : Chain) × IsAt kept now × (checked_from Between ch (parts_at 10 bytes) ≡ Ok now))
+    → ((ch : Chain) → IsAt first ch → (now : Chain) × IsAt kept now × (checked_from Between ch (pieces_at 10 bytes) ≡ Ok now))
     → ((ch : Chain) → IsAt kept ch → r ≡ counted (Ok ch)) → checked bytes ≡ r
 whole bytes first kept r e read count =
     let got = read start (subst (λ k. IsAt k start) (sym e) refl) in

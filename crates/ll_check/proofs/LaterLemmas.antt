@@ -7,7 +7,7 @@ use Rattle.ll_entry.specs.declared.entry.Recorded.{Recorded}
 use Rattle.ll_item.specs.Settings.{Configuration}
 use Rattle.ll_verdict.specs.Events.{Event}
 use Rattle.ll_check.specs.Chain.{Between, Chain, Inside, Place, begun, chain_of, checked_from, counted, ended_line, entry_at, go_on, joined, joined_by, not_before, start, text_in, wrong}
-use Rattle.ll_attr.specs.Words.{parts_at}
+use Rattle.ll_attr.specs.Words.{pieces_at}
 use Rattle.ll_room.specs.Home.{Home}
 use Rattle.ll_check.specs.Found.{IsAt}
 use Rattle.ll_check.specs.Entered.{event_of, fault_in}
@@ -79,7 +79,7 @@ counts P ch None e = rw e (λ kind. absurd (true≢false (ap no_memory kind)))
 counts P ch (Some c) e = rw e tt
 
 pub wants-none : (P : CheckFault → Type 0) (first kept : Option Home) (bytes : List ℕ) (r : Result ℕ CheckFault) → first ≡ None
-    → ((ch : Chain) → IsAt first ch → (now : Chain) × IsAt kept now × (checked_from Between ch (parts_at 10 bytes) ≡ Ok now))
+    → ((ch : Chain) → IsAt first ch → (now : Chain) × IsAt kept now × (checked_from Between ch (pieces_at 10 bytes) ≡ Ok now))
     → ((ch : Chain) → IsAt kept ch → r ≡ counted (Ok ch)) → IfErr r (λ f. f.kind ≡ Memory → P f)
 wants-none P first kept bytes r e read count =
     let got = read start (subst (λ k. IsAt k start) (sym e) refl) in

@@ -1,7 +1,7 @@
 -- A chain of chunks: the record of one channel from its start on, cut into pieces.
 use Rattle.std.specs.Prelude.{ℕ, ◌+◌, ◌==◌, List, [], ◌∷◌, ◌++◌, Bool, true, Option, Some, None, Result, Ok, Err, length, nat_le, bytes_eq, codes, if◌then◌else◌}
 use Rattle.std.specs.Str.{is_utf8}
-use Rattle.ll_attr.specs.Words.{after, parts_at}
+use Rattle.ll_attr.specs.Words.{after, pieces_at}
 use Rattle.ll_entry.specs.Entries.{entry_in}
 use Rattle.ll_entry.specs.Replies.{count}
 use Rattle.ll_entry.specs.declared.entry.EntryFault.{EntryFault}
@@ -135,4 +135,4 @@ counted (Ok ch) = counted_by ch.known (length ch.events)
 -- How many entries these bytes have, where they are a faithful chain: one or more chunks of one channel in sequence, in which every entry
 -- tells an event that can happen after those before it, with the reply that it should have. Or the first entry at which they aren't, and how.
 abbrev pub checked : List ℕ → Result ℕ CheckFault
-checked bytes = counted (checked_from Between start (parts_at 10 bytes))
+checked bytes = counted (checked_from Between start (pieces_at 10 bytes))

@@ -1,6 +1,6 @@
 //! Chains of chunks.
 ghost use Rattle.std.specs.Prelude.{◌≡◌, ◌≢◌, ◌<◌, [], IfErr, IfOk, OnOk, None, Ok, Err, length, true};
-ghost use Rattle.ll_attr.specs.Words.{parts_at};
+ghost use Rattle.ll_attr.specs.Words.{pieces_at};
 ghost use Rattle.ll_check.specs.Chain.{Between, Chain, checked, checked_from, counted, not_before, start};
 ghost use Rattle.ll_check.specs.Found.{IsAt, Leads};
 
@@ -15,7 +15,7 @@ use std::marker::Model;
 pub fn check(alloc: Global, bytes: &[u8]) -> Result<u64, CheckFault>
     ensures value { IfOk result (λ n. checked bytes.now ≡ Ok n) }
     ensures wrong { IfErr result (λ f. f.kind ≢ CheckKind.Memory → checked bytes.now ≡ Err f) }
-    ensures memory { IfErr result (λ f. f.kind ≡ CheckKind.Memory → not_before f.entry (checked_from Between start (parts_at 10 bytes.now)) ≡ true) }
+    ensures memory { IfErr result (λ f. f.kind ≡ CheckKind.Memory → not_before f.entry (checked_from Between start (pieces_at 10 bytes.now)) ≡ true) }
 {
     let mut checker = Checker::new(alloc);
     checker.read(bytes)?;
@@ -52,10 +52,10 @@ impl Checker {
     /// Goes through any number of whole chunks, which come next.
     pub fn read(&mut self, bytes: &[u8]) -> Result<(), CheckFault>
         ensures right { (ch : Chain) → IsAt self.old ch
-            → OnOk result ((now : Chain) × IsAt self.new now × (checked_from Between ch (parts_at 10 bytes.now) ≡ Ok now)) }
+            → OnOk result ((now : Chain) × IsAt self.new now × (checked_from Between ch (pieces_at 10 bytes.now) ≡ Ok now)) }
         ensures wrong { (ch : Chain) → IsAt self.old ch
-            → IfErr result (λ f. f.kind ≢ CheckKind.Memory → checked_from Between ch (parts_at 10 bytes.now) ≡ Err f) }
-        ensures memory { (ch : Chain) → IsAt self.old ch → IfErr result (λ f. not_before f.entry (checked_from Between ch (parts_at 10 bytes.now)) ≡ true) }
+            → IfErr result (λ f. f.kind ≢ CheckKind.Memory → checked_from Between ch (pieces_at 10 bytes.now) ≡ Err f) }
+        ensures memory { (ch : Chain) → IsAt self.old ch → IfErr result (λ f. not_before f.entry (checked_from Between ch (pieces_at 10 bytes.now)) ≡ true) }
     {
         let mut rest = bytes;
         while !rest.is_empty() {
@@ -83,10 +83,10 @@ impl Checker {
     /// Goes through one chunk, and answers what stands after it.
     fn read_chunk<'a>(&mut self, text: &'a [u8]) -> Result<&'a [u8], CheckFault>
         requires { 0 < length text.now }
-        ensures right { (ch : Chain) → IsAt self.old ch → IfOk result (λ rest. Leads self.new ch (parts_at 10 text.now) (parts_at 10 rest.now)) }
+        ensures right { (ch : Chain) → IsAt self.old ch → IfOk result (λ rest. Leads self.new ch (pieces_at 10 text.now) (pieces_at 10 rest.now)) }
         ensures wrong { (ch : Chain) → IsAt self.old ch
-            → IfErr result (λ f. f.kind ≢ CheckKind.Memory → checked_from Between ch (parts_at 10 text.now) ≡ Err f) }
-        ensures memory { (ch : Chain) → IsAt self.old ch → IfErr result (λ f. not_before f.entry (checked_from Between ch (parts_at 10 text.now)) ≡ true) }
+            → IfErr result (λ f. f.kind ≢ CheckKind.Memory → checked_from Between ch (pieces_at 10 text.now) ≡ Err f) }
+        ensures memory { (ch : Chain) → IsAt self.old ch → IfErr result (λ f. not_before f.entry (checked_from Between ch (pieces_at 10 text.now)) ≡ true) }
         ensures shorter { IfOk result (λ rest. length rest.now < length text.now) }
     {
         let entry = entries_of(&self.keeper) + 1;

@@ -1,6 +1,6 @@
 //! One chunk: its first three lines, and the entries after them.
 ghost use Rattle.std.specs.Prelude.{◌≡◌, ◌≢◌, ◌+◌, ◌^◌, ◌≤◌, ◌<◌, List, IfErr, IfOk, IfSome, MatchOption, OnOk, Some, Ok, Err, is_some, length, true};
-ghost use Rattle.ll_attr.specs.Words.{parts_at};
+ghost use Rattle.ll_attr.specs.Words.{pieces_at};
 ghost use Rattle.ll_check.specs.Chain as spec;
 ghost use Rattle.ll_check.specs.Chain.{Between, Chain, Inside, begun, begun_at, chain_of, checked_from, go_on, known_by, not_before, with_line, wrong};
 ghost use Rattle.ll_check.specs.Found.{GoesOn, IsAt, IsInside, IsJoined};
@@ -40,9 +40,9 @@ pub(crate) fn begin<'a>(
 ) -> Result<&'a [u8], CheckKind>
     requires { 0 < length text.now }
     ensures begun { (ch : Chain) → IsAt keeper.old ch → IfOk result (λ rest. IsInside keeper.new ch.events
-        (λ c. checked_from Between ch (parts_at 10 text.now) ≡ checked_from (Inside c) (chain_of c ch.events) (parts_at 10 rest.now))) }
+        (λ c. checked_from Between ch (pieces_at 10 text.now) ≡ checked_from (Inside c) (chain_of c ch.events) (pieces_at 10 rest.now))) }
     ensures wrong { (ch : Chain) → IsAt keeper.old ch
-        → IfErr result (λ k. k ≢ CheckKind.Memory → checked_from Between ch (parts_at 10 text.now) ≡ wrong ch.events k) }
+        → IfErr result (λ k. k ≢ CheckKind.Memory → checked_from Between ch (pieces_at 10 text.now) ≡ wrong ch.events k) }
     ensures kept { IfOk result (λ rest. is_some keeper.new ≡ true) }
     ensures shorter { IfOk result (λ rest. length rest.now < length text.now) }
 {
@@ -68,9 +68,9 @@ pub(crate) fn entries_of(keeper: &Option<Keeper>) -> u64
 /// What the first three lines of a chunk tell, where they have their form, and what stands after them.
 fn header_of(text: &[u8]) -> Option<(Header<'_>, &[u8])>
     requires { 0 < length text.now }
-    ensures header { (ch : Chain) → MatchOption result (checked_from Between ch (parts_at 10 text.now) ≡ wrong ch.events CheckKind.BadChunk)
-        (λ h. checked_from Between ch (parts_at 10 text.now) ≡ go_on ch.events (begun_at ch (settings_in h.0.settings.now) (Some h.0.at))
-        (λ c. checked_from (Inside c) (chain_of c ch.events) (parts_at 10 h.1.now))) }
+    ensures header { (ch : Chain) → MatchOption result (checked_from Between ch (pieces_at 10 text.now) ≡ wrong ch.events CheckKind.BadChunk)
+        (λ h. checked_from Between ch (pieces_at 10 text.now) ≡ go_on ch.events (begun_at ch (settings_in h.0.settings.now) (Some h.0.at))
+        (λ c. checked_from (Inside c) (chain_of c ch.events) (pieces_at 10 h.1.now))) }
     ensures shorter { IfSome result (λ h. length h.1.now < length text.now) }
 {
     let (first, rest) = cut_line(text)?;
@@ -164,10 +164,10 @@ pub(crate) fn read_entries<'a>(
     text: &'a [u8],
 ) -> Result<&'a [u8], CheckFault>
     ensures right { (events : List Event) → Stands keeper.old events
-        → IfOk result (λ rest. GoesOn keeper.new keeper.old.settings events (parts_at 10 text.now) (parts_at 10 rest.now)) }
+        → IfOk result (λ rest. GoesOn keeper.new keeper.old.settings events (pieces_at 10 text.now) (pieces_at 10 rest.now)) }
     ensures wrong { (events : List Event) → Stands keeper.old events
         → IfErr result (λ f. f.kind ≢ CheckKind.Memory
-        → checked_from (Inside keeper.old.settings) (chain_of keeper.old.settings events) (parts_at 10 text.now) ≡ Err f) }
+        → checked_from (Inside keeper.old.settings) (chain_of keeper.old.settings events) (pieces_at 10 text.now) ≡ Err f) }
     ensures memory { (events : List Event) → Stands keeper.old events → IfErr result (λ f.
         not_before f.entry (checked_from (Inside keeper.old.settings) (chain_of keeper.old.settings events) (parts_at 10 text.now)) ≡ true) }
     ensures shorter { IfOk result (λ rest. length rest.now < length text.now) }

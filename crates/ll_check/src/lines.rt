@@ -1,6 +1,6 @@
 //! Lines of bytes.
 ghost use Rattle.std.specs.Prelude.{◌≡◌, ◌<◌, ◌∷◌, [], IfSome, MatchOption, Some, None, length, option_map};
-ghost use Rattle.ll_attr.specs.Words.{parts_at};
+ghost use Rattle.ll_attr.specs.Words.{pieces_at};
 ghost use Rattle.ll_check.specs.Chain as spec;
 
 use memchr::memchr;
@@ -8,8 +8,8 @@ use std::str;
 
 /// The first line without its end, and what stands after it; none where no line ends.
 pub(crate) fn cut_line(bytes: &[u8]) -> Option<(&[u8], &[u8])>
-    ensures parts { MatchOption result (parts_at 10 bytes.now ≡ bytes.now ∷ [])
-        (λ c. parts_at 10 bytes.now ≡ c.0.now ∷ parts_at 10 c.1.now) }
+    ensures parts { MatchOption result (pieces_at 10 bytes.now ≡ bytes.now ∷ [])
+        (λ c. pieces_at 10 bytes.now ≡ c.0.now ∷ pieces_at 10 c.1.now) }
     ensures shorter { IfSome result (λ c. length c.1.now < length bytes.now) }
 {
     let end = memchr(b'\n', bytes)?;

@@ -6,7 +6,7 @@ use Rattle.std.specs.Option.{option_or}
 use Rattle.std.specs.Str.{str_eq_ignore_ascii_case}
 use Rattle.form_urlencoded.specs.Form.{parse}
 use Rattle.ll_attr.specs.Numbers.{number_in}
-use Rattle.ll_attr.specs.Words.{parts_at, after}
+use Rattle.ll_attr.specs.Words.{pieces_at, after}
 use Rattle.ll_item.specs.Names.{is_name}
 use Rattle.ll_directive.specs.declared.want.Awaited.{Awaited}
 use Rattle.ll_directive.specs.declared.want.Awaited.TheVariants.{Nothing, Segment, Part}
@@ -93,9 +93,9 @@ awaited_of None (Some part) = Err PartAlone
 awaited_of (Some msn) None = Ok (Segment msn)
 awaited_of (Some msn) (Some part) = Ok (Part msn part)
 
-abbrev pub skip_of : Option Skip → Skip
-skip_of None = No
-skip_of (Some skip) = skip
+abbrev pub skip_asked : Option Skip → Skip
+skip_asked None = No
+skip_asked (Some skip) = skip
 
 -- what the meanings of the three directives' values ask for; None stands for values of which one means nothing
 abbrev pub directives_of : Option (List ℕ) → Option (List ℕ) → Option (List Skip) → Result (Awaited × Skip) TargetFault
@@ -107,7 +107,7 @@ directives_of msns parts skips = do
   part ← at_most_one parts
   skip ← at_most_one skips
   awaited ← awaited_of msn part
-  Ok (awaited, skip_of skip)
+  Ok (awaited, skip_asked skip)
 
 -- what a query of these pairs asks for
 abbrev pub directives_in : List (List ℕ × List ℕ) → Result (Awaited × Skip) TargetFault
@@ -122,7 +122,7 @@ directives_in pairs =
 abbrev pub want_in : List ℕ → Result WantValue TargetFault
 want_in target = do
   path ← ok_or (path_in target) BadTarget
-  names ← ok_or (names_in (parts_at 47 path)) NotFound
+  names ← ok_or (names_in (pieces_at 47 path)) NotFound
   directives ← directives_in (parse (after_first is_question target))
   Ok (record { channel = names.0; rendition = names.1; awaited = directives.0; skip = directives.1 })
 

@@ -3,7 +3,7 @@ use Rattle.std.specs.Prelude.{ℕ, List, Bool, ◌&&◌, ◌==◌, not, Option, 
 use Rattle.std.specs.Char.{is_ascii_graphic}
 use Rattle.std.specs.List.{list_all}
 use Rattle.ll_attr.specs.Numbers.{number_in}
-use Rattle.ll_directive.specs.Targets.{values_of, skip_in, awaited_of, skip_of, ◌>>=◌}
+use Rattle.ll_directive.specs.Targets.{values_of, skip_in, awaited_of, skip_asked, ◌>>=◌}
 use Rattle.ll_directive.specs.declared.fault.TargetFault.{TargetFault}
 use Rattle.ll_directive.specs.declared.fault.TargetFault.TheVariants.{Double, BadMsn, BadPart, BadSkip}
 use Rattle.ll_directive.specs.declared.want.Awaited.{Awaited}
@@ -56,4 +56,4 @@ settled d = do
   part ← at_most_one_of parts
   skip ← at_most_one_of skips
   awaited ← awaited_of msn part
-  Ok (awaited, skip_of skip)
+  Ok (awaited, skip_asked skip)

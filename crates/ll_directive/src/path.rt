@@ -1,7 +1,7 @@
 //! The path of a target.
 ghost use Rattle.std.specs.Prelude.{◌≡◌, ◌==◌, ◌<◌, None, Some, MatchOption};
 ghost use Rattle.std.specs.List.{before_first, after_first};
-ghost use Rattle.ll_attr.specs.Words.{parts_at};
+ghost use Rattle.ll_attr.specs.Words.{pieces_at};
 ghost use Rattle.ll_directive.specs.Targets as spec;
 
 use ll_attr::{after, cut};
@@ -55,8 +55,8 @@ fn is_scheme(text: &str) -> bool
 
 /// The names of the channel and the rendition in `CHANNEL/RENDITION/live.m3u8`.
 pub(crate) fn names_in(path: &str) -> Option<(&str, &str)>
-    ensures { MatchOption result (spec.names_in (parts_at 47 path.now) ≡ None)
-        (λ names. spec.names_in (parts_at 47 path.now) ≡ Some (names.0.now, names.1.now)) }
+    ensures { MatchOption result (spec.names_in (pieces_at 47 path.now) ≡ None)
+        (λ names. spec.names_in (pieces_at 47 path.now) ≡ Some (names.0.now, names.1.now)) }
 {
     let (channel, rest) = cut(path, '/')?;
     let (rendition, file) = cut(rest, '/')?;

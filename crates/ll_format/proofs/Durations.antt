@@ -12,7 +12,7 @@ use Rattle.std.specs.Str.{all_ascii_digits}
 use Rattle.std.specs.Str.Parse.{digits_value}
 use Rattle.ll_attr.specs.Durations.{seconds, micros_in, micros_of_parts}
 use Rattle.ll_attr.specs.Numbers.{is_digits}
-use Rattle.ll_attr.specs.Words.{parts_at}
+use Rattle.ll_attr.specs.Words.{pieces_at}
 use Rattle.ll_attr.proofs.Digits.{digits_model, is_digits-parts, no_point}
 use Rattle.ll_attr.proofs.MicrosAtCut.{one_cut, is_point}
 use Rattle.ll_attr.proofs.ReadsBack.{six_digits, seconds-six_digits, is_digits-six_digits}
@@ -55,7 +55,7 @@ same_digits n w (a ∷ b ∷ c ∷ d ∷ e ∷ f ∷ []) six all h =
     cc
 
 -- what a duration that is read consists of
-read : (text whole fraction : List ℕ) (n : ℕ) → micros_in text ≡ Some n → parts_at 46 text ≡ whole ∷ parts_at 46 fraction
+read : (text whole fraction : List ℕ) (n : ℕ) → micros_in text ≡ Some n → pieces_at 46 text ≡ whole ∷ pieces_at 46 fraction
     → (is_digits 12 whole && is_digits 6 fraction ≡ true) × (digits_value 10 whole * 1000000 + digits_value 10 fraction * 10 ^ (6 - length fraction) ≡ n)
 read text whole fraction n e p =
     cond_some (is_digits 12 whole && is_digits 6 fraction) _ n
@@ -65,11 +65,11 @@ right : (x y : Bool) → x && y ≡ true → y ≡ true
 right true y h = h
 right false y h = cc
 
-module _ (text whole fraction : List ℕ) (n : ℕ) (e : micros_in text ≡ Some n) (p : parts_at 46 text ≡ whole ∷ parts_at 46 fraction) (small : n < 2 ^ 64) where
+module _ (text whole fraction : List ℕ) (n : ℕ) (e : micros_in text ≡ Some n) (p : pieces_at 46 text ≡ whole ∷ pieces_at 46 fraction) (small : n < 2 ^ 64) where
   digits : all_ascii_digits fraction ≡ true
   digits = (is_digits-parts 6 fraction (right (is_digits 12 whole) _ (read text whole fraction n e p).0)).2
 
-  two_parts : parts_at 46 text ≡ whole ∷ fraction ∷ []
+  two_parts : pieces_at 46 text ≡ whole ∷ fraction ∷ []
   two_parts = p ∙ ap (λ ps. whole ∷ ps) (slice_split_none is_point fraction (no_point fraction digits))
 
   joined : whole ++ (46 ∷ fraction) ≡ text
@@ -89,9 +89,9 @@ module _ (text whole fraction : List ℕ) (n : ℕ) (e : micros_in text ≡ Some
       let dec = decimal (n / 1000000) in
       let all : all_ascii_digits dec ≡ true = digits_decimal digits_model (n / 1000000) (omega arith) in
       let none = slice_split_none is_point (six_digits n) (no_point (six_digits n) (is_digits-parts 6 (six_digits n) (is_digits-six_digits n)).2) in
-      let cut : parts_at 46 (dec ++ (46 ∷ six_digits n)) ≡ dec ∷ parts_at 46 (six_digits n) = slice_split_at is_point dec 46 (six_digits n) (no_point dec all) refl in
+      let cut : pieces_at 46 (dec ++ (46 ∷ six_digits n)) ≡ dec ∷ pieces_at 46 (six_digits n) = slice_split_at is_point dec 46 (six_digits n) (no_point dec all) refl in
       let same : dec ∷ six_digits n ∷ [] ≡ whole ∷ fraction ∷ [] =
-      sym (cut ∙ ap (λ ps. dec ∷ ps) none) ∙ ap (parts_at 46) (sym (seconds-six_digits n) ∙ h) ∙ two_parts in
+      sym (cut ∙ ap (λ ps. dec ∷ ps) none) ∙ ap (pieces_at 46) (sym (seconds-six_digits n) ∙ h) ∙ two_parts in
       (cc, cc)
 
   by_test : (b : Bool) → bytes_eq (seconds n) text ≡ b → duration.read text ≡ (if b then Some n else None)
@@ -112,17 +112,17 @@ module _ (text whole fraction : List ℕ) (n : ℕ) (e : micros_in text ≡ Some
   duration_none other = none_by (bytes_eq (seconds n) text) refl other
 
 -- a text without a point has no six digits behind one
-uncut : (text : List ℕ) (n : ℕ) (b : Bool) → micros_in text ≡ Some n → parts_at 46 text ≡ text ∷ [] → n < 2 ^ 64 → bytes_eq (seconds n) text ≡ b → None ≡ duration.read text
+uncut : (text : List ℕ) (n : ℕ) (b : Bool) → micros_in text ≡ Some n → pieces_at 46 text ≡ text ∷ [] → n < 2 ^ 64 → bytes_eq (seconds n) text ≡ b → None ≡ duration.read text
 uncut text n false e p small h = ap (λ x. if x then Some n else None) (sym h) ∙ sym (ap (λ o. spelled_by o seconds text) e)
 uncut text n true e p small h =
     let dec = decimal (n / 1000000) in
     let all : all_ascii_digits dec ≡ true = digits_decimal digits_model (n / 1000000) (omega arith) in
     let none = slice_split_none is_point (six_digits n) (no_point (six_digits n) (is_digits-parts 6 (six_digits n) (is_digits-six_digits n)).2) in
-    let cut : parts_at 46 (dec ++ (46 ∷ six_digits n)) ≡ dec ∷ parts_at 46 (six_digits n) = slice_split_at is_point dec 46 (six_digits n) (no_point dec all) refl in
+    let cut : pieces_at 46 (dec ++ (46 ∷ six_digits n)) ≡ dec ∷ pieces_at 46 (six_digits n) = slice_split_at is_point dec 46 (six_digits n) (no_point dec all) refl in
     let same : dec ∷ six_digits n ∷ [] ≡ text ∷ [] =
-    sym (cut ∙ ap (λ ps. dec ∷ ps) none) ∙ ap (parts_at 46) (sym (seconds-six_digits n) ∙ (bytes_eq-Decides (seconds n) text).0 h) ∙ p in
+    sym (cut ∙ ap (λ ps. dec ∷ ps) none) ∙ ap (pieces_at 46) (sym (seconds-six_digits n) ∙ (bytes_eq-Decides (seconds n) text).0 h) ∙ p in
     let short : length (dec ∷ six_digits n ∷ []) ≡ 1 = ap length same in
     absurd (omega (arith, short))
 
-pub duration_uncut : (text : List ℕ) (n : ℕ) → micros_in text ≡ Some n → parts_at 46 text ≡ text ∷ [] → n < 2 ^ 64 → None ≡ duration.read text
+pub duration_uncut : (text : List ℕ) (n : ℕ) → micros_in text ≡ Some n → pieces_at 46 text ≡ text ∷ [] → n < 2 ^ 64 → None ≡ duration.read text
 duration_uncut text n e p small = uncut text n (bytes_eq (seconds n) text) e p small refl

@@ -6,7 +6,7 @@ use Rattle.std.proofs.lemmas.List.Folds.{list_all-append}
 use Rattle.std.proofs.lemmas.List.Splits.{join_with_byte-slice_split, slice_split_none, slice_split_at, slice_split-cons_yes, slice_split-cons_no}
 use Rattle.std.specs.List.{list_all, join_with_byte, AllByRecursion, onto_first}
 use Rattle.ll_attr.specs.Attributes.{is_quoted_byte}
-use Rattle.ll_attr.specs.Words.{parts_at}
+use Rattle.ll_attr.specs.Words.{pieces_at}
 use Rattle.ll_format.specs.Words.{is_quotable, cut_at, is_byte_between, is_one_empty, separated}
 use Rattle.ll_format.proofs.FormatLaws.{WordLaws, guarded, some_is, lacks}
 use Rattle.ll_format.proofs.WordLaws.{inside_from, lacks_from}
@@ -27,7 +27,7 @@ without c (b ∷ bs) h =
 
 -- joined texts are cut where they were joined
 cut_again : (c : ℕ) (text : List ℕ) (more : List (List ℕ)) → (c == c) ≡ true → list_all (list_all (is_byte_between c)) (text ∷ more) ≡ true
-    → parts_at c (join_with_byte c (text ∷ more)) ≡ text ∷ more
+    → pieces_at c (join_with_byte c (text ∷ more)) ≡ text ∷ more
 cut_again c text [] is h =
     let p = and_parts (list_all (is_byte_between c) text) true h in
     slice_split_none (λ b. b == c) text (All-from_recursion (λ b. (b == c) ≡ false) text (without c text p.0))
@@ -66,14 +66,14 @@ onto p b (text ∷ more) h all =
     let q = and_parts (list_all p text) (list_all (list_all p) more) all in
     and_from (list_all p (b ∷ text)) (list_all (list_all p) more) (and_from (p b) (list_all p text) h q.0) q.1
 
-between_by : (c b : ℕ) (bs : List ℕ) (is : Bool) → (b == c) ≡ is → is_quoted_byte b ≡ true → list_all (list_all (is_byte_between c)) (parts_at c bs) ≡ true
-    → list_all (list_all (is_byte_between c)) (parts_at c (b ∷ bs)) ≡ true
+between_by : (c b : ℕ) (bs : List ℕ) (is : Bool) → (b == c) ≡ is → is_quoted_byte b ≡ true → list_all (list_all (is_byte_between c)) (pieces_at c bs) ≡ true
+    → list_all (list_all (is_byte_between c)) (pieces_at c (b ∷ bs)) ≡ true
 between_by c b bs true e q h = ap (list_all (list_all (is_byte_between c))) (slice_split-cons_yes (λ x. x == c) b bs e) ∙ h
 between_by c b bs false e q h =
     ap (list_all (list_all (is_byte_between c))) (slice_split-cons_no (λ x. x == c) b bs e)
-    ∙ onto (is_byte_between c) b (parts_at c bs) (and_from (is_quoted_byte b) (not (b == c)) q (not_from_false (b == c) e)) h
+    ∙ onto (is_byte_between c) b (pieces_at c bs) (and_from (is_quoted_byte b) (not (b == c)) q (not_from_false (b == c) e)) h
 
-between : (c : ℕ) (text : List ℕ) → is_quotable text ≡ true → list_all (list_all (is_byte_between c)) (parts_at c text) ≡ true
+between : (c : ℕ) (text : List ℕ) → is_quotable text ≡ true → list_all (list_all (is_byte_between c)) (pieces_at c text) ≡ true
 between c [] h = refl
 between c (b ∷ bs) h =
     let p = and_parts (is_quoted_byte b) (is_quotable bs) h in
@@ -91,7 +91,7 @@ one_empty_by c b bs ((x ∷ xs) ∷ more) e = refl
 
 not_one_empty : (c : ℕ) (text : List ℕ) → not (is_one_empty (cut_at c text)) ≡ true
 not_one_empty c [] = refl
-not_one_empty c (b ∷ bs) = one_empty_by c b bs (parts_at c (b ∷ bs)) (join_with_byte-slice_split c (b ∷ bs))
+not_one_empty c (b ∷ bs) = one_empty_by c b bs (pieces_at c (b ∷ bs)) (join_with_byte-slice_split c (b ∷ bs))
 
 -- the texts are quotable, joined
 pub joined_quotable : (c : ℕ) (texts : List (List ℕ)) → is_quoted_byte c ≡ true → (separated c).Within texts → is_quotable (join_with_byte c texts) ≡ true

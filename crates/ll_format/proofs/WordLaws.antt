@@ -14,7 +14,7 @@ use Rattle.std.specs.Str.Parse.{digits_value}
 use Rattle.ll_attr.specs.Attributes.{is_quoted_byte}
 use Rattle.ll_attr.specs.Durations.{seconds, micros_in, micros_of_parts}
 use Rattle.ll_attr.specs.Numbers.{is_digits, number_in}
-use Rattle.ll_attr.specs.Words.{parts_at}
+use Rattle.ll_attr.specs.Words.{pieces_at}
 use Rattle.ll_attr.proofs.Fractions.{fraction_in-lt}
 use Rattle.ll_attr.proofs.Digits.{digits_model, list_all-is_ascii_digit, is_digits-parts}
 use Rattle.ll_attr.proofs.ReadsBack.{six_digits, seconds-six_digits, is_digits-six_digits, reads_back}
@@ -130,7 +130,7 @@ parts_small (whole ∷ fraction ∷ []) n e =
 parts_small (whole ∷ fraction ∷ other ∷ more) n e = absurd cc
 
 micros_small : (text : List ℕ) (n : ℕ) → micros_in text ≡ Some n → n < 10 ^ 18
-micros_small text n e = parts_small (parts_at 46 text) n e
+micros_small text n e = parts_small (pieces_at 46 text) n e
 
 pub duration-laws : WordLaws duration
 duration-laws = record {

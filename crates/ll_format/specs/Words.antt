@@ -4,7 +4,7 @@ use Rattle.std.specs.List.{list_all, join_with_byte}
 use Rattle.ll_attr.specs.Attributes.{is_quoted_byte}
 use Rattle.ll_attr.specs.Durations.{micros_in, seconds}
 use Rattle.ll_attr.specs.Numbers.{number_in}
-use Rattle.ll_attr.specs.Words.{parts_at}
+use Rattle.ll_attr.specs.Words.{pieces_at}
 use Rattle.ll_format.specs.Format.{Word}
 
 -- neither CR nor LF
@@ -76,7 +76,7 @@ rest_of_line = text_if is_rest
 -- the texts between single bytes, and none in the empty text
 abbrev pub cut_at : ℕ → List ℕ → List (List ℕ)
 cut_at c [] = []
-cut_at c (b ∷ bs) = parts_at c (b ∷ bs)
+cut_at c (b ∷ bs) = pieces_at c (b ∷ bs)
 
 -- a byte that may stand in quotation marks and separates no texts
 abbrev pub is_byte_between : ℕ → ℕ → Bool

@@ -2,7 +2,8 @@
 use Rattle.std.specs.Prelude.{◌≡◌, ◌≤◌, ℕ, ◌+◌, ◌*◌, ◌^◌, List, [], ◌∷◌, true, not, ◌&&◌, ◌||◌, ◌==◌, Option, Some, None, Result, Ok, Err, if◌then◌else◌, length, drop, nat_eq, nat_lt, bytes_eq, codes, option_and_then}
 use Rattle.std.specs.List.{starts_with}
 use Rattle.ll_attr.specs.Numbers.{number_in}
-use Rattle.ll_attr.specs.Words.{words, parts_at}
+use Rattle.ll_attr.specs.Words.{words, pieces_at}
+use Rattle.ll_attr.specs.YearEnd.{last_milli}
 use Rattle.ll_item.specs.Names.{is_name, are_names}
 use Rattle.ll_item.specs.declared.settings.SettingsFault.{SettingsFault}
 use Rattle.ll_item.specs.declared.settings.SettingsFault.TheVariants.{BadTarget, BadPartTarget, SkipTooSmall, WindowTooSmall, BadName, NoRendition, BadStart, BadLine}
@@ -26,13 +27,6 @@ pub record Configuration : Type 0 where
 -- the largest media sequence number
 abbrev pub number_end : ℕ
 number_end = 2 ^ 60
-
--- the last millisecond and the last microsecond of the year 9999
-abbrev pub last_milli : ℕ
-last_milli = 253402300799999
-
-abbrev pub last_micro : ℕ
-last_micro = 253402300799999999
 
 -- the first limit that a configuration breaks, or none
 abbrev pub limit_broken : Configuration → Option SettingsFault
@@ -89,7 +83,7 @@ number_of key word = option_and_then (number_in 20) (value_of key word)
 
 -- names are joined by commas
 abbrev pub names_in : List ℕ → List (List ℕ)
-names_in text = parts_at 44 text
+names_in text = pieces_at 44 text
 
 infixl 10 ◌>>=◌
 abbrev pub ◌>>=◌ : {A B : Type 0} → Option A → (A → Option B) → Option B

@@ -1,6 +1,6 @@
 //! Names of channels and renditions.
 ghost use Rattle.std.specs.Prelude.{◌≡◌};
-ghost use Rattle.ll_attr.specs.Words.{parts_at};
+ghost use Rattle.ll_attr.specs.Words.{pieces_at};
 ghost use Rattle.ll_item.specs.Names as spec;
 
 use ll_attr::{Text, cut};
@@ -41,7 +41,7 @@ fn is_among(names: &[Text], name: &str) -> bool
 
 /// Whether each name that a text joins by commas is one, and none stands twice.
 pub(crate) fn are_names_in(text: &str) -> bool
-    ensures { result ≡ spec.are_names (parts_at 44 text.now) }
+    ensures { result ≡ spec.are_names (pieces_at 44 text.now) }
 {
     let mut rest = text;
     while let Some((name, after)) = cut(rest, ',') {
@@ -55,7 +55,7 @@ pub(crate) fn are_names_in(text: &str) -> bool
 
 /// Whether one of the names that a text joins by commas is this one.
 fn is_among_in(text: &str, name: &str) -> bool
-    ensures { result ≡ spec.is_among (parts_at 44 text.now) name.now }
+    ensures { result ≡ spec.is_among (pieces_at 44 text.now) name.now }
 {
     text.split(',').any(|other| name == other)
 }

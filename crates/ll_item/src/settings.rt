@@ -1,6 +1,7 @@
 ghost use Rattle.std.specs.Prelude.{◌≡◌, ◌≤◌, ◌*◌, ◌&&◌, ℕ, List, IfOk, length, None, true};
 ghost use Rattle.ll_item.specs.Configured.{configured};
-ghost use Rattle.ll_item.specs.Settings.{settings_of, limit_broken, number_end, last_milli};
+ghost use Rattle.ll_item.specs.Settings.{settings_of, limit_broken, number_end};
+ghost use Rattle.ll_attr.specs.YearEnd.{last_milli};
 ghost use Rattle.ll_item.specs.Names.{is_name, are_names};
 ghost use Rattle.ll_item.specs.Items.{rendition_named};
 ghost use Rattle.ll_item.specs.Same.{same_settings};

@@ -2,7 +2,8 @@
 use Rattle.std.proofs.Common.{◌≡◌, ℕ, ◌+◌, ◌*◌, ◌≤◌, List, [], ◌∷◌, ◌++◌, Bool, true, false, length, append-nil, append_assoc, None, sym, subst, arith}
 use Rattle.std.proofs.lemmas.Bool.Decides.{nat_tests}
 use Rattle.std.proofs.lemmas.List.{length-append}
-use Rattle.ll_item.specs.Settings.{Configuration, IsWithin, number_end, last_micro}
+use Rattle.ll_attr.specs.YearEnd.{last_micro}
+use Rattle.ll_item.specs.Settings.{Configuration, IsWithin, number_end}
 use Rattle.ll_item.specs.declared.item.Item.{Item}
 use Rattle.ll_item.specs.declared.item.Item.TheVariants as item
 use Rattle.ll_window.specs.declared.part.Part.{Part}

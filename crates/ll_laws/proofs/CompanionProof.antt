@@ -40,7 +40,7 @@ within_at limit least b k rs ss all e none some =
 
 -- where no skipped number is missing and the segments are right, so is the playlist
 update-law : (v : Seen) (base : Playlist) (n : ℕ) → missing base (full_playlist v).sequence (suc n) ≡ None
-    → mapped (in_force None (spec.kept base (full_playlist v).sequence (suc n) ++ printed false (drop (suc n) (asked v).window.window))) ≡ (full_playlist v).segments
+    → mapped (in_force None (spec.kept_segments base (full_playlist v).sequence (suc n) ++ printed false (drop (suc n) (asked v).window.window))) ≡ (full_playlist v).segments
     → applied base (update_of v (suc n)) ≡ Ok (full_playlist v)
 update-law v base n none same =
     ap (λ o. unless_missing o (updated base (update_of v (suc n)) (record { count = suc n; removed = None }))) none

@@ -9,7 +9,7 @@ use Rattle.std.proofs.lemmas.Slice.Eq.{bytes_eq-Decides}
 use Rattle.std.specs.List.{list_all, list_any, AllByRecursion, after_first}
 use Rattle.ll_attr.specs.Attributes.{attributes_in, attributes_of, attribute_in, and_then, in_front, parts_outside, put_front, value_in, value_by, is_quoted_byte, is_equals}
 use Rattle.ll_attr.specs.Reading.{name_of, is_named}
-use Rattle.ll_attr.specs.Words.{parts_at}
+use Rattle.ll_attr.specs.Words.{pieces_at}
 use Rattle.ll_attr.specs.declared.attributes.Attribute.{Attribute}
 use Rattle.ll_attr.specs.declared.attributes.AttrValue.{AttrValue}
 use Rattle.ll_attr.specs.declared.attributes.AttrValue.TheVariants.{Quoted}
@@ -48,7 +48,7 @@ id_part id rest more h e = ap (λ ps. put_front 73 (put_front 68 (put_front 61 (
 
 -- and it is read as the ID
 
-between_marks : (id : List ℕ) → list_all is_quoted_byte id ≡ true → parts_at 34 (34 ∷ (id ++ 34 ∷ [])) ≡ [] ∷ id ∷ [] ∷ []
+between_marks : (id : List ℕ) → list_all is_quoted_byte id ≡ true → pieces_at 34 (34 ∷ (id ++ 34 ∷ [])) ≡ [] ∷ id ∷ [] ∷ []
 between_marks id h = ap (λ ps. [] ∷ ps) (slice_split_at (λ b. b == 34) id 34 [] (All-from_recursion (λ b. (b == 34) ≡ false) id (no_marks id h)) refl)
 
 quoted_value : (id : List ℕ) → list_all is_quoted_byte id ≡ true → value_in (34 ∷ (id ++ 34 ∷ [])) ≡ Some (Quoted id)

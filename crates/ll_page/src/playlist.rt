@@ -1,5 +1,5 @@
 ghost use Rattle.std.specs.Prelude.{◌≡◌, ◌≤◌, ◌/◌, ◌==◌, ◌++◌, IfOk, OnOk, string_bytes, flat_map, length, map, drop};
-ghost use Rattle.ll_item.specs.Settings.{last_micro};
+ghost use Rattle.ll_attr.specs.YearEnd.{last_micro};
 ghost use Rattle.ll_window.specs.Compact.{unfinished};
 ghost use Rattle.ll_page.specs.Full.{full_text, full_playlist, header_of, part_lines, map_of, block_of, finished_of, printed, open_of, report_by, reports_of, hint_of, sequence_of, range_line, range_lines};
 ghost use Rattle.ll_page.specs.Delta.{delta_text, delta_by, skip_of};

@@ -2,7 +2,7 @@
 use Rattle.std.specs.Prelude.{ℕ, List, [], ◌∷◌, Bool, true, false, not, ◌&&◌, ◌||◌, ◌==◌, length, nat_eq, nat_le, bytes_eq, codes, if◌then◌else◌}
 use Rattle.std.specs.Char.{is_ascii_digit}
 use Rattle.std.specs.List.{list_all, list_any, starts_with}
-use Rattle.ll_attr.specs.Words.{parts_at}
+use Rattle.ll_attr.specs.Words.{pieces_at}
 use Rattle.ll_attr.specs.declared.attributes.Attribute.{Attribute}
 use Rattle.ll_attr.specs.declared.attributes.AttrValue.{AttrValue}
 use Rattle.ll_attr.specs.declared.attributes.AttrValue.TheVariants.{Quoted, Bare}
@@ -26,7 +26,7 @@ seconds_of other = false
 
 -- digits, and perhaps `.` and digits
 abbrev pub is_seconds : List ℕ → Bool
-is_seconds text = seconds_of (parts_at 46 text)
+is_seconds text = seconds_of (pieces_at 46 text)
 
 -- START-DATE and END-DATE
 abbrev pub is_date_value : AttrValue → Bool

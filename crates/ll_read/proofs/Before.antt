@@ -3,7 +3,7 @@ use Rattle.std.proofs.Common.{◌≡◌, ℕ, suc, ◌+◌, ◌-◌, ◌<◌, �
 use Rattle.std.proofs.lemmas.List.{take_more, append-nil}
 use Rattle.std.proofs.lemmas.List.Folds.{list_any-append}
 use Rattle.std.specs.Str.Lines.{strip_carriage_return}
-use Rattle.ll_attr.specs.Words.{parts_at}
+use Rattle.ll_attr.specs.Words.{pieces_at}
 use Rattle.ll_line.specs.Line.{DateRangeLine}
 use Rattle.ll_line.specs.Formats.{line_in}
 use Rattle.ll_read.specs.Ranges.{has_id, ranges_of, ranges_in}
@@ -18,11 +18,11 @@ first_of id line left ps some =
     ∙ list_any-append (λ (range : DateRangeLine). bytes_eq id range.id) (of_line line) (ranges_of (take (left - 1) ps))
 
 -- the first line has the id, or those after it do
-pub turn : (id line shown rest below : List ℕ) (left : ℕ) (b x : Bool) → parts_at 10 rest ≡ line ∷ parts_at 10 below → 0 < left → shown ≡ strip_carriage_return line
-    → b ≡ has_id id (ranges_in (line_in shown)) → b ≡ x → has_id id (ranges_of (take left (parts_at 10 rest))) ≡ (x || has_id id (ranges_of (take (left - 1) (parts_at 10 below))))
+pub turn : (id line shown rest below : List ℕ) (left : ℕ) (b x : Bool) → pieces_at 10 rest ≡ line ∷ pieces_at 10 below → 0 < left → shown ≡ strip_carriage_return line
+    → b ≡ has_id id (ranges_in (line_in shown)) → b ≡ x → has_id id (ranges_of (take left (pieces_at 10 rest))) ≡ (x || has_id id (ranges_of (take (left - 1) (pieces_at 10 below))))
 turn id line shown rest below left b x e some s h is =
-    let more = has_id id (ranges_of (take (left - 1) (parts_at 10 below))) in
-    ap (λ ps. has_id id (ranges_of (take left ps))) e ∙ first_of id line left (parts_at 10 below) some
+    let more = has_id id (ranges_of (take (left - 1) (pieces_at 10 below))) in
+    ap (λ ps. has_id id (ranges_of (take left ps))) e ∙ first_of id line left (pieces_at 10 below) some
     ∙ ap (λ y. y || more) (ap (λ l. has_id id (ranges_in (line_in l))) (sym s) ∙ sym h ∙ is)
 
 ranges_append : (xs : List (List ℕ)) (line : List ℕ) → ranges_of (xs ++ line ∷ []) ≡ ranges_of xs ++ of_line line

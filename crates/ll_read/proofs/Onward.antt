@@ -4,7 +4,7 @@ use Rattle.std.proofs.lemmas.List.{append-nil}
 use Rattle.std.proofs.lemmas.List.Splits.{length-slice_split}
 use Rattle.std.specs.Option.{option_map}
 use Rattle.std.specs.Str.Lines.{strip_carriage_return}
-use Rattle.ll_attr.specs.Words.{parts_at}
+use Rattle.ll_attr.specs.Words.{pieces_at}
 use Rattle.ll_line.specs.Line.{DateRange, EndList, Hint, Line, RenditionReport, Uri}
 use Rattle.ll_line.specs.Formats.{line_in}
 use Rattle.ll_page.specs.Playlist.{Block, Playlist}
@@ -19,23 +19,23 @@ read_more : (n : ℕ) (r : Reading) (line : List ℕ) (ps : List (List ℕ)) →
 read_more n r line [] some = absurd (omega arith)
 read_more n r line (p ∷ ps) some = refl
 
-pub some_parts : (text : List ℕ) → 0 < length (parts_at 10 text)
+pub some_parts : (text : List ℕ) → 0 < length (pieces_at 10 text)
 some_parts text = omega (arith, length-slice_split (λ b. b == 10) text)
 
 by_parts : (line : List ℕ) (ps : List (List ℕ)) → 0 < length ps → strip_carriage_return line ≡ first_line (line ∷ ps)
 by_parts line [] some = absurd (omega arith)
 by_parts line (p ∷ ps) some = refl
 
-pub first_is : (text line below : List ℕ) → parts_at 10 text ≡ line ∷ parts_at 10 below → strip_carriage_return line ≡ first_line (parts_at 10 text)
-first_is text line below e = by_parts line (parts_at 10 below) (some_parts below) ∙ ap first_line (sym e)
+pub first_is : (text line below : List ℕ) → pieces_at 10 text ≡ line ∷ pieces_at 10 below → strip_carriage_return line ≡ first_line (pieces_at 10 text)
+first_is text line below e = by_parts line (pieces_at 10 below) (some_parts below) ∙ ap first_line (sym e)
 
 -- one line more, and what the lines left come to
-pub goes_on : (n : ℕ) (r : Reading) (o : Option Reading) (rest line shown below : List ℕ) (whole : Result Playlist ReadFault) → parts_at 10 rest ≡ line ∷ parts_at 10 below
-    → shown ≡ strip_carriage_return line → next_line r (line_in shown) ≡ o → read_from n r (parts_at 10 rest) ≡ whole
-    → and_then n o (λ q. read_from (n + 1) q (parts_at 10 below)) ≡ whole
+pub goes_on : (n : ℕ) (r : Reading) (o : Option Reading) (rest line shown below : List ℕ) (whole : Result Playlist ReadFault) → pieces_at 10 rest ≡ line ∷ pieces_at 10 below
+    → shown ≡ strip_carriage_return line → next_line r (line_in shown) ≡ o → read_from n r (pieces_at 10 rest) ≡ whole
+    → and_then n o (λ q. read_from (n + 1) q (pieces_at 10 below)) ≡ whole
 goes_on n r o rest line shown below whole e s h w =
-    ap (λ o. and_then n o (λ x. read_from (n + 1) x (parts_at 10 below))) (sym h ∙ ap (λ l. next_line r (line_in l)) s)
-    ∙ sym (read_more n r line (parts_at 10 below) (some_parts below)) ∙ ap (read_from n r) (sym e) ∙ w
+    ap (λ o. and_then n o (λ x. read_from (n + 1) x (pieces_at 10 below))) (sym h ∙ ap (λ l. next_line r (line_in l)) s)
+    ∙ sym (read_more n r line (pieces_at 10 below) (some_parts below)) ∙ ap (read_from n r) (sym e) ∙ w
 
 pub line_next : (r : Reading) (o : Option Line) (line : Line) (x : Bool) (s : Option Shape) → Some line ≡ o → x ≡ is_new_line line r.draft.playlist
     → s ≡ shape_next r.shape line x → next_line r o ≡ option_map (λ s. at s (put line r.draft)) s

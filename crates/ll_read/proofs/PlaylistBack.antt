@@ -5,7 +5,7 @@ use Rattle.std.specs.List.{flat_map}
 use Rattle.std.specs.Str.{is_utf8}
 use Rattle.ll_line.specs.Formats.{line}
 use Rattle.ll_line.specs.Line.{DateRange, First, Line}
-use Rattle.ll_attr.specs.Words.{parts_at}
+use Rattle.ll_attr.specs.Words.{pieces_at}
 use Rattle.ll_line.specs.Text.{text_of}
 use Rattle.ll_page.specs.Playlist.{Playlist}
 use Rattle.ll_page.specs.Spelling.{lines_of, open_lines, segment_lines, skip_lines, spelling}
@@ -47,7 +47,7 @@ by_lines text more p spelt utf8 within comes =
     let whole = text_of (First ∷ more) in
     let first = spelled First in
     let one_line = line-laws.inside First within.0 in
-    let shown = kept first one_line ∙ first_is whole first (text_of more) (ap (λ t. parts_at 10 (t ++ text_of more)) (with_end First) ∙ cut first (text_of more) one_line) in
+    let shown = kept first one_line ∙ first_is whole first (text_of more) (ap (λ t. pieces_at 10 (t ++ text_of more)) (with_end First) ∙ cut first (text_of more) one_line) in
     sym (begun whole text first (sym spelt) (IsUtf8-from_is_utf8 text utf8) shown refl) ∙ read (First ∷ more) 1 start p within comes
 
 pub reads-back : ReadsBackLaw

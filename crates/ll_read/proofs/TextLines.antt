@@ -7,7 +7,7 @@ use Rattle.std.proofs.Math.Seq.{drop-append-add, get_or-append_seam, take-append
 use Rattle.std.specs.List.{join_with_byte}
 use Rattle.std.specs.Str.{IsUtf8, is_utf8}
 use Rattle.std.specs.Str.Lines.{strip_carriage_return}
-use Rattle.ll_attr.specs.Words.{parts_at}
+use Rattle.ll_attr.specs.Words.{pieces_at}
 use Rattle.ll_read.specs.Reading.{line_feeds_of, with_line_feeds}
 use Rattle.ll_read.proofs.Ends.{ends_so}
 
@@ -42,4 +42,4 @@ each_line (line ∷ below ∷ more) u =
 
 pub utf8-lines : (text : List ℕ) → is_utf8 text ≡ true → is_utf8 (with_line_feeds text) ≡ true
 utf8-lines text h =
-    is_utf8-from_IsUtf8 (with_line_feeds text) (each_line (parts_at 10 text) (subst IsUtf8 (sym (join_with_byte-slice_split 10 text)) (IsUtf8-from_is_utf8 text h)))
+    is_utf8-from_IsUtf8 (with_line_feeds text) (each_line (pieces_at 10 text) (subst IsUtf8 (sym (join_with_byte-slice_split 10 text)) (IsUtf8-from_is_utf8 text h)))

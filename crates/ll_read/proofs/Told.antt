@@ -8,7 +8,7 @@ use Rattle.ll_line.specs.Text.{text_of}
 use Rattle.ll_page.specs.Playlist.{Playlist}
 use Rattle.ll_read.specs.Outlined.{outline_from, with_line, with_read}
 use Rattle.ll_read.specs.Readable.{Each}
-use Rattle.ll_read.specs.Reading.{Reading, and_then, ended, is_empty, line_feeds_of, next_line, read_from}
+use Rattle.ll_read.specs.Reading.{Reading, and_then, text_ended, is_empty, line_feeds_of, next_line, read_from}
 use Rattle.ll_read.specs.declared.fault.ReadFault.{ReadFault}
 use Rattle.ll_read.specs.declared.fault.ReadFault.TheVariants.{BadLine}
 use Rattle.ll_read.specs.declared.outline.Outline.{Outline}
@@ -29,11 +29,11 @@ IsTold parts lines =
 abbrev Told : Reading → List (List ℕ) → Playlist → Type 0
 Told r parts p = (lines : List Line) × (come (Some r) lines ≡ Some p) × IsTold parts lines
 
-whole : (n : ℕ) (stage : Stage) (q p : Playlist) → ended n stage q ≡ Ok p → whole_at stage q ≡ Some p
+whole : (n : ℕ) (stage : Stage) (q p : Playlist) → text_ended n stage q ≡ Ok p → whole_at stage q ≡ Some p
 whole n AtEnd q p h = ap Some (cc)
 whole n stage q p h = absurd (cc)
 
-last_told : (n : ℕ) (r : Reading) (rest : List ℕ) (p : Playlist) → (if is_empty rest then ended n r.shape.stage r.draft.playlist else Err (BadLine n)) ≡ Ok p
+last_told : (n : ℕ) (r : Reading) (rest : List ℕ) (p : Playlist) → (if is_empty rest then text_ended n r.shape.stage r.draft.playlist else Err (BadLine n)) ≡ Ok p
     → Told r (rest ∷ []) p
 last_told n r [] p h = ([], whole n r.shape.stage r.draft.playlist p h, (refl, tt, λ o. refl))
 last_told n r (b ∷ bs) p h = absurd (cc)

@@ -6,7 +6,7 @@ use Rattle.std.proofs.lemmas.List.Folds.{list_all-append}
 use Rattle.std.proofs.lemmas.List.Splits.{slice_split_at}
 use Rattle.std.specs.List.{AllByRecursion}
 use Rattle.std.specs.Str.Lines.{strip_carriage_return}
-use Rattle.ll_attr.specs.Words.{parts_at}
+use Rattle.ll_attr.specs.Words.{pieces_at}
 use Rattle.ll_format.specs.Words.{is_line_byte, is_one_line}
 use Rattle.ll_line.specs.Formats.{line}
 use Rattle.ll_line.specs.Line.{Line}
@@ -27,9 +27,9 @@ no_return text before h e =
 pub kept : (text : List ℕ) → is_one_line text ≡ true → text ≡ strip_carriage_return text
 kept text h = ends.kept text (λ before. no_return text before h)
 
-pub cut : (text more : List ℕ) → is_one_line text ≡ true → parts_at 10 ((text ++ 10 ∷ []) ++ more) ≡ text ∷ parts_at 10 more
+pub cut : (text more : List ℕ) → is_one_line text ≡ true → pieces_at 10 ((text ++ 10 ∷ []) ++ more) ≡ text ∷ pieces_at 10 more
 cut text more h =
-    ap (parts_at 10) (append_assoc text (10 ∷ []) more)
+    ap (pieces_at 10) (append_assoc text (10 ∷ []) more)
     ∙ slice_split_at (λ b. b == 10) text 10 more (All-from_recursion (λ b. (b == 10) ≡ false) text (no_feed text h)) refl
 
 -- a line's text is its spelling and LF

@@ -3,7 +3,7 @@ use Rattle.std.specs.Prelude.{ℕ, ◌+◌, List, [], ◌∷◌, ◌++◌, Bool,
 use Rattle.std.specs.Option.{option_map}
 use Rattle.std.specs.Str.{is_utf8}
 use Rattle.std.specs.Str.Lines.{strip_carriage_return}
-use Rattle.ll_attr.specs.Words.{parts_at}
+use Rattle.ll_attr.specs.Words.{pieces_at}
 use Rattle.ll_line.specs.Line.{DateRange, Line}
 use Rattle.ll_line.specs.Formats.{line_in}
 use Rattle.ll_page.specs.Playlist.{Playlist}
@@ -41,9 +41,9 @@ next_line r None = None
 next_line r (Some line) = next r line
 
 -- what stands at the end of the text, whose next line would have this number
-abbrev pub ended : ℕ → Stage → Playlist → Result Playlist ReadFault
-ended number AtEnd p = Ok p
-ended number stage p = Err (BadLine number)
+abbrev pub text_ended : ℕ → Stage → Playlist → Result Playlist ReadFault
+text_ended number AtEnd p = Ok p
+text_ended number stage p = Err (BadLine number)
 
 abbrev pub and_then : ℕ → Option Reading → (Reading → Result Playlist ReadFault) → Result Playlist ReadFault
 and_then number None more = Err (BadLine number)
@@ -56,8 +56,8 @@ is_empty (x ∷ xs) = false
 -- the playlist of these lines, of which the first has this number, or the number of the first that can't stand in its
 -- place; after the last LF nothing stands
 abbrev pub read_from : ℕ → Reading → List (List ℕ) → Result Playlist ReadFault
-read_from number r [] = ended number r.shape.stage r.draft.playlist
-read_from number r (rest ∷ []) = if is_empty rest then ended number r.shape.stage r.draft.playlist else Err (BadLine number)
+read_from number r [] = text_ended number r.shape.stage r.draft.playlist
+read_from number r (rest ∷ []) = if is_empty rest then text_ended number r.shape.stage r.draft.playlist else Err (BadLine number)
 read_from number r (line ∷ below ∷ more) =
     and_then number (next_line r (line_in (strip_carriage_return line))) (λ q. read_from (number + 1) q (below ∷ more))
 
@@ -69,11 +69,11 @@ first_line (line ∷ below ∷ more) = strip_carriage_return line
 
 -- UTF-8 whose first line is that of a playlist
 abbrev pub is_playlist : List ℕ → Bool
-is_playlist text = is_utf8 text && bytes_eq (first_line (parts_at 10 text)) (codes "#EXTM3U")
+is_playlist text = is_utf8 text && bytes_eq (first_line (pieces_at 10 text)) (codes "#EXTM3U")
 
 -- the playlist that a text spells, or why there is none
 abbrev pub playlist_in : List ℕ → Result Playlist ReadFault
-playlist_in text = if is_playlist text then read_from 1 start (parts_at 10 text) else Err NotPlaylist
+playlist_in text = if is_playlist text then read_from 1 start (pieces_at 10 text) else Err NotPlaylist
 
 -- these lines, each with LF at its end
 abbrev pub line_feeds_of : List (List ℕ) → List ℕ
@@ -83,4 +83,4 @@ line_feeds_of (line ∷ below ∷ more) = strip_carriage_return line ++ (10 ∷ 
 
 -- a text whose lines end in LF or CR LF, with LF in either place
 abbrev pub with_line_feeds : List ℕ → List ℕ
-with_line_feeds text = line_feeds_of (parts_at 10 text)
+with_line_feeds text = line_feeds_of (pieces_at 10 text)

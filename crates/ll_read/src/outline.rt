@@ -1,6 +1,6 @@
 //! What playlists come to without their texts.
 ghost use Rattle.std.specs.Prelude.{◌≡◌, ◌+◌, ◌<◌, ◌^◌, Ok};
-ghost use Rattle.ll_attr.specs.Words.{parts_at};
+ghost use Rattle.ll_attr.specs.Words.{pieces_at};
 ghost use Rattle.ll_page.specs.Playlist.{Playlist};
 ghost use Rattle.ll_line.specs.Meaning.{meant};
 ghost use Rattle.ll_read.specs.Outline.{outline_of};
@@ -52,7 +52,7 @@ pub fn read_outline(alloc: Global, bytes: &[u8]) -> Outline
 
 /// What lines come to.
 fn outline_of_lines(alloc: Global, text: &str) -> Outline
-    ensures { result ≡ outline_from (outline_of blank) (parts_at 10 text.now) }
+    ensures { result ≡ outline_from (outline_of blank) (pieces_at 10 text.now) }
 {
     let mut outline = Outline::start();
     let mut rest = text;

@@ -1,7 +1,7 @@
 //! Playlists, read line by line.
 ghost use Rattle.std.specs.Prelude.{◌≡◌, ◌≢◌, ◌∷◌, ◌++◌, [], IfOk, IfErr, IsOk, IsErrOf, Ok, Err, Some, None, MatchOption, take};
 ghost use Rattle.std.specs.Str.Lines.{strip_carriage_return};
-ghost use Rattle.ll_attr.specs.Words.{parts_at};
+ghost use Rattle.ll_attr.specs.Words.{pieces_at};
 ghost use Rattle.ll_read.specs.Draft.{Draft, put};
 ghost use Rattle.ll_read.specs.Drafted.{drafted, IsAfter};
 ghost use Rattle.ll_line.specs.Formats.{line_in};
@@ -37,7 +37,7 @@ pub fn read(alloc: Global, bytes: &[u8]) -> Result<Playlist, ReadFault>
 
 /// The first line, without its end.
 fn first(text: &str) -> &str
-    ensures { result.now ≡ first_line (parts_at 10 text.now) }
+    ensures { result.now ≡ first_line (pieces_at 10 text.now) }
 {
     match cut(text, '\n') {
         Some((line, _)) => without_end(line),
@@ -57,9 +57,9 @@ pub(crate) fn without_end(line: &str) -> &str
 
 /// The playlist of these lines. Once memory is refused the draft is given up, and the other lines are checked without it.
 fn read_lines(alloc: Global, text: &str) -> Result<Playlist, ReadFault>
-    ensures value { IfOk result (λ p. read_from 1 start (parts_at 10 text.now) ≡ Ok p) }
-    ensures refused { IfErr result (λ fault. fault ≢ ReadFault.Memory → read_from 1 start (parts_at 10 text.now) ≡ Err fault) }
-    ensures memory { IsErrOf result ReadFault.Memory → IsOk (read_from 1 start (parts_at 10 text.now)) }
+    ensures value { IfOk result (λ p. read_from 1 start (pieces_at 10 text.now) ≡ Ok p) }
+    ensures refused { IfErr result (λ fault. fault ≢ ReadFault.Memory → read_from 1 start (pieces_at 10 text.now) ≡ Err fault) }
+    ensures memory { IsErrOf result ReadFault.Memory → IsOk (read_from 1 start (pieces_at 10 text.now)) }
 {
     let mut shape = Shape::start();
     let mut draft = Some(Draft::new(alloc));
@@ -104,7 +104,7 @@ fn step(
     count: usize,
     line: &str,
 ) -> Option<(Shape, Option<Draft>)>
-    ensures { (d : Draft) → IsAfter (take count (parts_at 10 text.now)) draft d → MatchOption result (next_line (at shape d) (line_in line.now) ≡ None)
+    ensures { (d : Draft) → IsAfter (take count (pieces_at 10 text.now)) draft d → MatchOption result (next_line (at shape d) (line_in line.now) ≡ None)
         (λ s. (e : Draft) × (next_line (at shape d) (line_in line.now) ≡ Some (at s.0 e)) × drafted s.1 e
         × (e.playlist.ranges ≡ d.playlist.ranges ++ ranges_in (line_in line.now))) }
 {
@@ -127,7 +127,7 @@ fn grown(draft: Option<Draft>, alloc: Global, line: &Line<'_>) -> Option<Draft>
 
 /// Whether the id of a line is new after so many lines, where it has one. Without a draft the lines are gone through again.
 fn is_new(alloc: Global, draft: &Option<Draft>, text: &str, count: usize, line: &Line<'_>) -> bool
-    ensures { (d : Draft) → IsAfter (take count (parts_at 10 text.now)) draft.now d → result ≡ is_new_line (meant line.now) d.playlist }
+    ensures { (d : Draft) → IsAfter (take count (pieces_at 10 text.now)) draft.now d → result ≡ is_new_line (meant line.now) d.playlist }
 {
     match (line, draft) {
         (Line::DateRange(range), Some(draft)) => !draft.playlist.has_range(range.id),
@@ -138,7 +138,7 @@ fn is_new(alloc: Global, draft: &Option<Draft>, text: &str, count: usize, line: 
 
 /// Whether one of the first so many lines of a text is a date range of this id.
 fn stands_before(alloc: Global, text: &str, count: usize, id: &str) -> bool
-    ensures { result ≡ has_id id.now (ranges_of (take count (parts_at 10 text.now))) }
+    ensures { result ≡ has_id id.now (ranges_of (take count (pieces_at 10 text.now))) }
 {
     let mut left = count;
     let mut rest = text;

@@ -2,7 +2,7 @@
 use Rattle.std.proofs.Common.{◌≡◌, ℕ, ◌≤◌, ◌^◌, List, ◌++◌, None, true, ap, ◌∙◌, sym, subst, append_assoc, codes, decimal, length, arith}
 use Rattle.std.proofs.lemmas.List.{length-take-le}
 use Rattle.std.specs.Str.{is_utf8}
-use Rattle.ll_attr.specs.Words.{parts_at}
+use Rattle.ll_attr.specs.Words.{pieces_at}
 use Rattle.ll_check.specs.Chain.{Between, checked_from}
 use Rattle.ll_entry.specs.Replies.{most}
 use Rattle.ll_item.specs.Settings.{Configuration, limit_broken}
@@ -38,7 +38,7 @@ faithful_at r k within utf8 few text events s ch rest before known =
     let at : length ch.events ≡ r.at = ap length before ∙ length-take-le r.at events s.early in
     let events_are : r.room.events ≡ length events = ap (λ (h : Home). h.events) s.stands in
     let led : IsLed c ch.events r.lines events = subst (λ es. IsLed c es r.lines events) (sym before) s.led in
-    ap (λ t. checked_from Between ch (parts_at 10 (t ++ rest))) (text ∙ ap (λ n. chunk_text c n r.lines) (sym at))
+    ap (λ t. checked_from Between ch (pieces_at 10 (t ++ rest))) (text ∙ ap (λ n. chunk_text c n r.lines) (sym at))
     ∙ chunk settings_back c ch events r.lines rest within utf8 (subst (λ n. n ≤ most) (sym at) (small r.at (length events) r.room.events s.early events_are few)) led known
 
 pub faithful : (r now : Recording) (k : ChunkValue) → r ≡ now → limit_broken r.room.settings ≡ None → is_utf8 (settings_line r.room.settings) ≡ true

@@ -10,7 +10,7 @@ use Rattle.ll_entry.specs.Lines.{IsSpelled, entry_line}
 use Rattle.ll_entry.specs.declared.entry.Recorded.{Recorded}
 use Rattle.ll_item.specs.Settings.{Configuration, limit_broken}
 use Rattle.ll_record_laws.proofs.LeadLemmas.{entry-next}
-use Rattle.ll_record_laws.specs.Leads.{IsLed, ended}
+use Rattle.ll_record_laws.specs.Leads.{IsLed, with_end}
 use Rattle.ll_room.specs.Home.{Home, IsSame, Stands, home}
 use Rattle.ll_spelling.proofs.ItemBack.{item_back}
 use Rattle.ll_verdict.specs.Events.{Event}
@@ -38,7 +38,7 @@ longer at n m a e = omega (arith, a, e)
 pub record IsNext (old new : Recording) (entry : Recorded) : Type 0 where
   pub room : IsSame old.room new.room
   pub at : new.at ≡ old.at
-  pub lines : new.lines ≡ old.lines ++ ended (entry_line old.room.settings entry)
+  pub lines : new.lines ≡ old.lines ++ with_end (entry_line old.room.settings entry)
   pub calls : new.calls ≡ old.calls + length (filter is_call (event_of entry ∷ []))
 
 pub recorded-next : (old new : Recording) (events : List Event) (entry : Recorded) → limit_broken old.room.settings ≡ None → IsRecorded old events
@@ -46,7 +46,7 @@ pub recorded-next : (old new : Recording) (events : List Event) (entry : Recorde
     → Stands new.room (events ++ event_of entry ∷ []) → IsNext old new entry → IsRecorded new (events ++ event_of entry ∷ [])
 recorded-next old new events entry within r spelled utf8 right stands n =
     let more = events ++ event_of entry ∷ [] in
-    let led : IsLed old.room.settings (take old.at events) (old.lines ++ ended (entry_line old.room.settings entry)) more =
+    let led : IsLed old.room.settings (take old.at events) (old.lines ++ with_end (entry_line old.room.settings entry)) more =
     entry-next entries old.room.settings (take old.at events) events old.lines entry within spelled utf8 right r.led in
     let early : old.at ≤ length more = longer old.at (length events) (length more) r.early (one_more events (event_of entry)) in
     let begin : take new.at more ≡ take old.at events = ap (λ k. take k more) n.at ∙ take-append-le old.at events (event_of entry ∷ []) r.early in

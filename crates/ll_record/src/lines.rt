@@ -2,7 +2,7 @@
 ghost use Rattle.std.specs.Prelude.{◌≡◌, ◌≤◌, ◌+◌, ◌*◌, ◌++◌, [], OnOk, length, true};
 ghost use Rattle.std.specs.Str.{is_utf8};
 ghost use Rattle.ll_record.specs.Kept.{spare};
-ghost use Rattle.ll_record_laws.specs.Leads.{ended};
+ghost use Rattle.ll_record_laws.specs.Leads.{with_end};
 
 use std::alloc::{AllocError, Global};
 use std::marker::Model;
@@ -50,7 +50,7 @@ impl Lines {
     #[tactic(auto, using(crate::proofs::Texts::is_text))]
     pub(crate) fn put(&mut self, line: &str)
         requires { length line.now + 1 ≤ self.old.free }
-        ensures lines { self.new.lines ≡ self.old.lines ++ ended line.now }
+        ensures lines { self.new.lines ≡ self.old.lines ++ with_end line.now }
         ensures text { is_utf8 line.now ≡ true }
         ensures free { self.old.free ≤ self.new.free + (length line.now + 1) }
     {

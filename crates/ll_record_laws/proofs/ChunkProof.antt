@@ -8,7 +8,7 @@ use Rattle.std.proofs.lemmas.Str.Ascii.{IsAscii-from_all}
 use Rattle.std.proofs.lemmas.List.Elements.{All-from_recursion}
 use Rattle.std.specs.List.{AllByRecursion, list_all}
 use Rattle.std.specs.Str.{IsAscii, is_utf8}
-use Rattle.ll_attr.specs.Words.{after, parts_at}
+use Rattle.ll_attr.specs.Words.{after, pieces_at}
 use Rattle.ll_format.proofs.FormatLaws.{key_again}
 use Rattle.ll_format.proofs.WordLaws.{number-laws}
 use Rattle.ll_format.specs.Format.{◌>>=◌}
@@ -122,8 +122,8 @@ chunk law c ch after lines rest within utf8 few led of =
     let third : List ℕ = at_line n ++ 10 ∷ inner in
     let second : List ℕ = settings_line c ++ 10 ∷ third in
     let text : List ℕ = first_line ++ 10 ∷ second in
-    ap (λ t. checked_from Between ch (parts_at 10 t)) (chunk_is c n lines rest)
-    ∙ header-is ch (parts_at 10 text) first_line (settings_line c) (at_line n) inner (Ok c)
+    ap (λ t. checked_from Between ch (pieces_at 10 t)) (chunk_is c n lines rest)
+    ∙ header-is ch (pieces_at 10 text) first_line (settings_line c) (at_line n) inner (Ok c)
     (three text second third first_line (settings_line c) (at_line n) inner
     (cut-line first_line second refl) (cut-line (settings_line c) third s.1) (cut-line (at_line n) inner (at_one n few)))
     (begun_is c ch s.0 utf8 few of)

@@ -6,7 +6,7 @@ use Rattle.std.proofs.lemmas.List.Elements.{All-from_recursion}
 use Rattle.std.proofs.lemmas.List.Splits.{slice_split_at}
 use Rattle.std.specs.List.{AllByRecursion, list_all}
 use Rattle.std.specs.Str.{is_utf8}
-use Rattle.ll_attr.specs.Words.{parts_at}
+use Rattle.ll_attr.specs.Words.{pieces_at}
 use Rattle.ll_check.proofs.ChunkLemmas.{ended-parts}
 use Rattle.ll_check.specs.Chain.{Between, Chain, Inside, chain_of, checked_from, entry_at, go_on, joined, joined_by, with_line}
 use Rattle.ll_check.specs.Entered.{event_of, fault_in}
@@ -17,7 +17,7 @@ use Rattle.ll_entry.specs.declared.entry.Recorded.{Recorded}
 use Rattle.ll_format.specs.Words.{is_line_byte, is_one_line}
 use Rattle.ll_item.specs.Settings.{Configuration}
 use Rattle.ll_verdict.specs.Events.{Event}
-use Rattle.ll_record_laws.specs.Leads.{EntryNextLaw, NextLaw, ended}
+use Rattle.ll_record_laws.specs.Leads.{EntryNextLaw, NextLaw, with_end}
 
 -- ---- where a line ends
 
@@ -29,7 +29,7 @@ no_feeds [] h = tt
 no_feeds (b ∷ bs) h =
     let p = and_parts (is_line_byte b) (list_all is_line_byte bs) h in (not_feed b p.0, no_feeds bs p.1)
 
-pub cut-line : (line rest : List ℕ) → is_one_line line ≡ true → parts_at 10 (line ++ 10 ∷ rest) ≡ line ∷ parts_at 10 rest
+pub cut-line : (line rest : List ℕ) → is_one_line line ≡ true → pieces_at 10 (line ++ 10 ∷ rest) ≡ line ∷ pieces_at 10 rest
 cut-line line rest h = slice_split_at (λ b. b == 10) line 10 rest (All-from_recursion (λ b. (b == 10) ≡ false) line (no_feeds line h)) refl
 
 -- ---- one more line
@@ -37,11 +37,11 @@ cut-line line rest h = slice_split_at (λ b. b == 10) line 10 rest (All-from_rec
 -- what a chunk comes to with one more line, where that is its last one or not
 abbrev line_of : Configuration → List Event → List ℕ → List ℕ → Bool → Result Chain CheckFault
 line_of c events line rest last =
-    cond last (checked_from Between (chain_of c events) (parts_at 10 rest))
-    (go_on events (with_line c events line) (λ events. checked_from (Inside c) (chain_of c events) (parts_at 10 rest)))
+    cond last (checked_from Between (chain_of c events) (pieces_at 10 rest))
+    (go_on events (with_line c events line) (λ events. checked_from (Inside c) (chain_of c events) (pieces_at 10 rest)))
 
 pub one-line : (c : Configuration) (events : List Event) (line rest : List ℕ) (last : Bool) → is_one_line line ≡ true → bytes_eq line (codes "#END") ≡ last
-    → checked_from (Inside c) (chain_of c events) (parts_at 10 (line ++ 10 ∷ rest)) ≡ line_of c events line rest last
+    → checked_from (Inside c) (chain_of c events) (pieces_at 10 (line ++ 10 ∷ rest)) ≡ line_of c events line rest last
 one-line c events line rest last h e =
     ap (checked_from (Inside c) (chain_of c events)) (cut-line line rest h)
     ∙ ended-parts rest (chain_of c events) (line_of c events line rest (bytes_eq line (codes "#END")))
@@ -49,11 +49,11 @@ one-line c events line rest last h e =
 
 pub next : NextLaw
 next c before after more lines line led one utf8 other right rest =
-    ap (λ t. checked_from (Inside c) (chain_of c before) (parts_at 10 t)) (append_assoc lines (ended line) rest)
-    ∙ led (ended line ++ rest)
-    ∙ ap (λ t. checked_from (Inside c) (chain_of c after) (parts_at 10 t)) (append_assoc line (10 ∷ []) rest)
+    ap (λ t. checked_from (Inside c) (chain_of c before) (pieces_at 10 t)) (append_assoc lines (with_end line) rest)
+    ∙ led (with_end line ++ rest)
+    ∙ ap (λ t. checked_from (Inside c) (chain_of c after) (pieces_at 10 t)) (append_assoc line (10 ∷ []) rest)
     ∙ one-line c after line rest false one other
-    ∙ ap (λ r. go_on after r (λ events. checked_from (Inside c) (chain_of c events) (parts_at 10 rest))) right
+    ∙ ap (λ r. go_on after r (λ events. checked_from (Inside c) (chain_of c events) (pieces_at 10 rest))) right
 
 -- ---- one more entry
 

@@ -1,7 +1,7 @@
 -- Lines of a record that were written one after another, and what a check makes of them.
 use Rattle.std.specs.Prelude.{◌≡◌, ℕ, ◌≤◌, List, [], ◌∷◌, ◌++◌, true, false, Option, Some, None, Ok, length, bytes_eq, codes, decimal}
 use Rattle.std.specs.Str.{is_utf8}
-use Rattle.ll_attr.specs.Words.{parts_at}
+use Rattle.ll_attr.specs.Words.{pieces_at}
 use Rattle.ll_check.specs.Chain.{Between, Chain, Inside, chain_of, checked_from, with_line}
 use Rattle.ll_check.specs.Entered.{event_of, fault_in}
 use Rattle.ll_entry.specs.Laws.{EntryLaw}
@@ -18,11 +18,11 @@ use Rattle.ll_verdict.specs.Events.{Event}
 -- same with them after the first events as without them after the others.
 abbrev pub IsLed : Configuration → List Event → List ℕ → List Event → Type 0
 IsLed c before lines after =
-    (rest : List ℕ) → checked_from (Inside c) (chain_of c before) (parts_at 10 (lines ++ rest)) ≡ checked_from (Inside c) (chain_of c after) (parts_at 10 rest)
+    (rest : List ℕ) → checked_from (Inside c) (chain_of c before) (pieces_at 10 (lines ++ rest)) ≡ checked_from (Inside c) (chain_of c after) (pieces_at 10 rest)
 
 -- a line with its end
-abbrev pub ended : List ℕ → List ℕ
-ended line = line ++ 10 ∷ []
+abbrev pub with_end : List ℕ → List ℕ
+with_end line = line ++ 10 ∷ []
 
 -- no lines lead to no more events
 abbrev pub NothingLaw : Type 0
@@ -32,13 +32,13 @@ NothingLaw = (c : Configuration) (events : List Event) → IsLed c events [] eve
 abbrev pub NextLaw : Type 0
 NextLaw = (c : Configuration) (before after more : List Event) (lines line : List ℕ) → IsLed c before lines after
     → is_one_line line ≡ true → is_utf8 line ≡ true → bytes_eq line (codes "#END") ≡ false → with_line c after line ≡ Ok more
-    → IsLed c before (lines ++ ended line) more
+    → IsLed c before (lines ++ with_end line) more
 
 -- one more entry, where it is right after the events so far
 abbrev pub EntryNextLaw : Type 0
 EntryNextLaw = EntryLaw → (c : Configuration) (before after : List Event) (lines : List ℕ) (entry : Recorded) → limit_broken c ≡ None
     → IsSpelled c entry → is_utf8 (entry_line c entry) ≡ true → fault_in c after entry ≡ None → IsLed c before lines after
-    → IsLed c before (lines ++ ended (entry_line c entry)) (after ++ event_of entry ∷ [])
+    → IsLed c before (lines ++ with_end (entry_line c entry)) (after ++ event_of entry ∷ [])
 
 -- the chunk of these lines of entries, with so many entries before it
 unfoldable pub chunk_text : Configuration → ℕ → List ℕ → List ℕ
@@ -54,4 +54,4 @@ IsOf c (Some known) = known ≡ c
 abbrev pub ChunkLaw : Type 0
 ChunkLaw = SettingsLaw → (c : Configuration) (ch : Chain) (after : List Event) (lines rest : List ℕ) → limit_broken c ≡ None
     → is_utf8 (settings_line c) ≡ true → length ch.events ≤ most → IsLed c ch.events lines after → IsOf c ch.known
-    → checked_from Between ch (parts_at 10 (chunk_text c (length ch.events) lines ++ rest)) ≡ checked_from Between (chain_of c after) (parts_at 10 rest)
+    → checked_from Between ch (pieces_at 10 (chunk_text c (length ch.events) lines ++ rest)) ≡ checked_from Between (chain_of c after) (pieces_at 10 rest)

@@ -8,8 +8,8 @@ use Rattle.ll_world.specs.Kept.{Leads, answers_of}
 use Rattle.ll_world.specs.World as world
 use Rattle.ll_world.specs.World.{all_settings, count_end, silent}
 use Rattle.ll_world.specs.declared.answer.Answer.{Answer}
-use Rattle.ll_replay.specs.Kept.{Keeps, Kept, Says, kept_world, told}
-use Rattle.ll_replay.specs.World.{World, asked_under, heard, reply_count, spelled}
+use Rattle.ll_replay.specs.Kept.{Keeps, Kept, Says, kept_script, told}
+use Rattle.ll_replay.specs.Script.{Script, asked_under, heard, reply_count, spelled}
 
 abbrev pub hears : Kept → rooms.Kept → ℕ → Kept
 hears k held n = record k { rooms = held; replies = n }
@@ -20,13 +20,13 @@ up_to_end n m r e h = omega arith
 answers_are : (held : rooms.Kept) (a : Option Answer) (w v : world.World) → w.answers ≡ [] → Leads held a w v → v.answers ≡ answers_of a
 answers_are held a w v quiet leads = leads.answers ∙ ap (λ list. list ++ answers_of a) quiet
 
-stands : (held : rooms.Kept) (n : ℕ) (w : World) (v : world.World) → held ≡ rooms.kept_world v → all_settings v ≡ all_settings w.rooms
-    → n ≡ min (w.replies + reply_count v.answers) count_end → hears (kept_world w) held n ≡ kept_world (heard w v)
+stands : (held : rooms.Kept) (n : ℕ) (w : Script) (v : world.World) → held ≡ rooms.kept_world v → all_settings v ≡ all_settings w.rooms
+    → n ≡ min (w.replies + reply_count v.answers) count_end → hears (kept_script w) held n ≡ kept_script (heard w v)
 stands held n w v is same count =
-    ap₂ (λ h m. hears (kept_world w) h m) is count ∙ ap (λ s. record (hears (kept_world w) (rooms.kept_world v) (min (w.replies + reply_count v.answers) count_end)) { declared = s }) (sym same)
+    ap₂ (λ h m. hears (kept_script w) h m) is count ∙ ap (λ s. record (hears (kept_script w) (rooms.kept_world v) (min (w.replies + reply_count v.answers) count_end)) { declared = s }) (sym same)
 
 -- what the rooms answered is written, and its replies are counted
-pub heard-says : (old : Kept) (held : rooms.Kept) (n : ℕ) (w : World) (v : world.World) (a : Option Answer) (t : Option (Vec ℕ Global))
+pub heard-says : (old : Kept) (held : rooms.Kept) (n : ℕ) (w : Script) (v : world.World) (a : Option Answer) (t : Option (Vec ℕ Global))
     → Keeps old w → Leads held a w.rooms v → all_settings v ≡ all_settings w.rooms → n ≡ min (old.replies + reply_count (answers_of a)) count_end
     → told t ≡ flat_map spelled (answers_of a) → Says (hears old held n) t w (heard w v)
 heard-says old held n w v a t k leads same count text =
@@ -43,14 +43,14 @@ heard-says old held n w v a t k leads same count text =
     }
 
 -- a request has its number
-pub asked-says : (k : Kept) (id : ℕ) (t : Option (Vec ℕ Global)) (w v : World) → Says k t w v → Says (record k { last_id = Some id }) t w (asked_under v id)
+pub asked-says : (k : Kept) (id : ℕ) (t : Option (Vec ℕ Global)) (w v : Script) → Says k t w v → Says (record k { last_id = Some id }) t w (asked_under v id)
 asked-says k id t w v s = record {
   keeps = record { stands = ap (λ (k : Kept). record k { last_id = Some id }) s.keeps.stands; silent = s.keeps.silent };
   text = s.text;
 }
 
 -- where the rooms stay as they are, so does the world
-pub heard-still : (w : World) (v : world.World) → w.rooms.answers ≡ [] → v ≡ w.rooms → heard w v ≡ w
+pub heard-still : (w : Script) (v : world.World) → w.rooms.answers ≡ [] → v ≡ w.rooms → heard w v ≡ w
 heard-still w v quiet same =
     ap (heard w) same
     ∙ ap (λ r. record w { rooms = r; replies = w.replies + reply_count w.rooms.answers; text = w.text ++ flat_map spelled w.rooms.answers }) (still w.rooms quiet)
@@ -70,7 +70,7 @@ heard-still w v quiet same =
 pub heard-result : {E : Type 0} (r : Result (Option (Vec ℕ Global)) E) (old now new : Kept) (held : rooms.Kept) (step : world.World → world.World) (a : Option Answer)
     → old ≡ now → ((v : world.World) → all_settings (step v) ≡ all_settings v) → ((v : world.World) → old.rooms ≡ rooms.kept_world v → Leads held a v (step v))
     → new ≡ hears old held (min (old.replies + reply_count (answers_of a)) count_end) → IfOk r (λ t. told t ≡ flat_map spelled (answers_of a))
-    → (w : World) → Keeps now w → IfOk r (λ t. Says new t w (heard w (step w.rooms)))
+    → (w : Script) → Keeps now w → IfOk r (λ t. Says new t w (heard w (step w.rooms)))
 heard-result (Err e) old now new held step a same keeps leads is text w k = tt
 heard-result (Ok t) old now new held step a same keeps leads is text w k =
     let q = subst (λ s. Keeps s w) (sym same) k in
@@ -81,7 +81,7 @@ heard-result (Ok t) old now new held step a same keeps leads is text w k =
 pub asked-result : {E : Type 0} (r : Result (Option (Vec ℕ Global)) E) (old now new : Kept) (held : rooms.Kept) (id : ℕ) (step : world.World → world.World) (a : Option Answer)
     → old ≡ now → ((v : world.World) → all_settings (step v) ≡ all_settings v) → ((v : world.World) → old.rooms ≡ rooms.kept_world v → Leads held a v (step v))
     → new ≡ record (hears old held (min (old.replies + reply_count (answers_of a)) count_end)) { last_id = Some id } → IfOk r (λ t. told t ≡ flat_map spelled (answers_of a))
-    → (w : World) → Keeps now w → IfOk r (λ t. Says new t w (asked_under (heard w (step w.rooms)) id))
+    → (w : Script) → Keeps now w → IfOk r (λ t. Says new t w (asked_under (heard w (step w.rooms)) id))
 asked-result (Err e) old now new held id step a same keeps leads is text w k = tt
 asked-result (Ok t) old now new held id step a same keeps leads is text w k =
     let q = subst (λ s. Keeps s w) (sym same) k in
@@ -91,7 +91,7 @@ asked-result (Ok t) old now new held id step a same keeps leads is text w k =
 
 -- a call of the rooms that is never answered
 pub unheard : (old now new : Kept) (held : rooms.Kept) (step : world.World → world.World) → old ≡ now → ((v : world.World) → all_settings (step v) ≡ all_settings v)
-    → ((v : world.World) → old.rooms ≡ rooms.kept_world v → Leads held None v (step v)) → new ≡ hears old held old.replies → (w : World) → Keeps now w → Says new None w (heard w (step w.rooms))
+    → ((v : world.World) → old.rooms ≡ rooms.kept_world v → Leads held None v (step v)) → new ≡ hears old held old.replies → (w : Script) → Keeps now w → Says new None w (heard w (step w.rooms))
 unheard old now new held step same keeps leads is w k =
     let q = subst (λ s. Keeps s w) (sym same) k in
     subst (λ s. Says s None w (heard w (step w.rooms))) (sym is)
@@ -104,7 +104,7 @@ unheard old now new held step same keeps leads is w k =
 -- a call of the rooms that tells of nothing
 pub still-result : {E : Type 0} (r : Result (Option (Vec ℕ Global)) E) (old now : Kept) (step : world.World → world.World) (a : Option Answer)
     → old ≡ now → ((v : world.World) → old.rooms ≡ rooms.kept_world v → a ≡ None → step v ≡ v) → IfOk r (λ t. t ≡ None → a ≡ None)
-    → (w : World) → Keeps now w → IfOk r (λ t. t ≡ None → heard w (step w.rooms) ≡ w)
+    → (w : Script) → Keeps now w → IfOk r (λ t. t ≡ None → heard w (step w.rooms) ≡ w)
 still-result (Err e) old now step a same still none w k = tt
 still-result (Ok t) old now step a same still none w k = λ nothing.
     let q = subst (λ s. Keeps s w) (sym same) k in

@@ -7,4 +7,4 @@ pub mod StreamLemmas
 pub mod TakeLemmas
 pub mod TurnLemmas
 pub mod WorkedExamples
-pub mod WorldLaws
+pub mod ScriptLaws

@@ -11,16 +11,16 @@ use Rattle.ll_replay.specs.Cuts.{IsCutAt, IsCutBetween, StandsFor}
 use Rattle.ll_replay.specs.Kept.{Kept, Stands}
 use Rattle.ll_device.specs.Written.{AppendsPrefix}
 use Rattle.ll_replay.specs.Stream.{IsWhole, StopsForMemory, ended_lines, open_line, script, world_of, world_so_far}
-use Rattle.ll_replay.specs.World.{World, Ending, BadLine, LineTooLong, line, start, summary_of}
+use Rattle.ll_replay.specs.Script.{Script, Ending, BadLine, LineTooLong, line, start, summary_of}
 use Rattle.ll_replay.proofs.LineLemmas.{IsNext, at_lf, at_other, lines-all_ended, lines-last_open, next-at_lf, next_is_long}
-use Rattle.ll_replay.proofs.WorldLaws.{line-ended, line-text, line-too-long}
+use Rattle.ll_replay.proofs.ScriptLaws.{line-ended, line-text, line-too-long}
 use Rattle.ll_device.proofs.WriteLemmas.{AppendsPrefix-longer}
 
-fold-ended : (w : World) (ls : List (List ℕ)) (e : Ending) → w.ending ≡ Some e → fold line w ls ≡ w
+fold-ended : (w : Script) (ls : List (List ℕ)) (e : Ending) → w.ending ≡ Some e → fold line w ls ≡ w
 fold-ended w [] e h = refl
 fold-ended w (l ∷ ls) e h = ap (λ v. fold line v ls) (line-ended w l e h) ∙ fold-ended w ls e h
 
-fold-text : (w : World) (ls : List (List ℕ)) → (more : List ℕ) × ((fold line w ls).text ≡ w.text ++ more)
+fold-text : (w : Script) (ls : List (List ℕ)) → (more : List ℕ) × ((fold line w ls).text ≡ w.text ++ more)
 fold-text w [] = ([], sym (append-nil w.text))
 fold-text w (l ∷ ls) =
     let p = line-text w l in
@@ -40,7 +40,7 @@ script-from : (input : List ℕ) (before : List (List ℕ)) (l : List ℕ) → I
     → (more : List ℕ) × (script input ≡ (line (fold line start before) l).text ++ more)
 script-from input before l n =
     let t = fold-text (line (fold line start before) l) n.0 in
-    (t.0, ap (λ (w : World). w.text) (world_of-from input before l n) ∙ t.1)
+    (t.0, ap (λ (w : Script). w.text) (world_of-from input before l n) ∙ t.1)
 
 -- a fault at a line is one of the script
 pub IsCutAt-line : (f : RunFault) (base written : Option (List ℕ)) (input : List ℕ) (before : List (List ℕ)) (l : List ℕ) → IsNext input before l
@@ -51,10 +51,10 @@ IsCutAt-line fault.Write base written input before l n c =
     AppendsPrefix-longer base written (line (fold line start before) l).text t.0 (script input) t.1 c
 IsCutAt-line (fault.BadLine m) base written input before l n c =
     let is = world_of-ended input before l (BadLine m) n c.0 in
-    (ap (λ (w : World). w.ending) is ∙ c.0, subst (λ (w : World). Appends base written w.text) (sym is) c.1)
+    (ap (λ (w : Script). w.ending) is ∙ c.0, subst (λ (w : Script). Appends base written w.text) (sym is) c.1)
 IsCutAt-line (fault.LineTooLong m) base written input before l n c =
     let is = world_of-ended input before l (LineTooLong m) n c.0 in
-    (ap (λ (w : World). w.ending) is ∙ c.0, subst (λ (w : World). Appends base written w.text) (sym is) c.1)
+    (ap (λ (w : Script). w.ending) is ∙ c.0, subst (λ (w : Script). Appends base written w.text) (sym is) c.1)
 IsCutAt-line fault.Endless base written input before l n c = c
 IsCutAt-line fault.Memory base written input before l n c = (before, l, n.0, n.1, c)
 
@@ -108,7 +108,7 @@ lf-taken held text kept kept' base written after bytes b h t s next =
           let is : line (world_so_far bytes) text ≡ world_so_far (bytes ++ b ∷ []) =
           ap (line (world_so_far bytes)) (t ∙ ap strip_carriage_return s.holds)
           ∙ sym (ap (λ ls. fold line start ls) p.0 ∙ fold-append line start (ended_lines bytes) (strip_carriage_return (open_line bytes) ∷ [])) in
-          subst (λ (w : World). Stands kept' base after w) is (next s.stands);
+          subst (λ (w : Script). Stands kept' base after w) is (next s.stands);
     }
 
 pub lf-cut : (f : RunFault) (held text : List ℕ) (kept : Kept) (base written after : Option (List ℕ)) (bytes : List ℕ) (b : ℕ) (more : List ℕ)
@@ -127,10 +127,10 @@ end-cut f held text kept base written after bytes h t s c =
     IsCutAt-line f base after bytes (ended_lines bytes) (open_line bytes) ([], lines-last_open bytes some)
     (subst (λ l. IsCutBetween base after (world_so_far bytes) (line (world_so_far bytes) l) f) (t ∙ s.holds) c)
 
-IsWhole-at : (kept : Kept) (base written : Option (List ℕ)) (bytes : List ℕ) (summary : Summary) (w : World)
+IsWhole-at : (kept : Kept) (base written : Option (List ℕ)) (bytes : List ℕ) (summary : Summary) (w : Script)
     → world_of bytes ≡ w → Stands kept base written w → (Stands kept base written w → summary ≡ summary_of w) → IsWhole base written bytes summary
 IsWhole-at kept base written bytes summary w e s sums =
-    (ap (λ (v : World). v.ending) e ∙ s.goes_on, sums s ∙ ap summary_of (sym e), subst (λ (v : World). Appends base written v.text) (sym e) s.wrote)
+    (ap (λ (v : Script). v.ending) e ∙ s.goes_on, sums s ∙ ap summary_of (sym e), subst (λ (v : Script). Appends base written v.text) (sym e) s.wrote)
 
 pub IsWhole-all_ended : (held : List ℕ) (kept : Kept) (base written : Option (List ℕ)) (bytes : List ℕ) (summary : Summary)
     → length held ≡ 0 → StandsFor held kept base written bytes

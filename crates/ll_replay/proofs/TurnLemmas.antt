@@ -20,8 +20,8 @@ use Rattle.ll_world.specs.World as world
 use Rattle.ll_world.specs.World.{all_settings, count_end, silent}
 use Rattle.ll_world.specs.declared.answer.Answer as answer
 use Rattle.ll_world.specs.declared.answer.Answer.TheVariants as said
-use Rattle.ll_replay.specs.Kept.{Keeps, Kept, Says, kept_world, told}
-use Rattle.ll_replay.specs.World.{World, heard, passed_on, reply_count, spelled, tick, turned}
+use Rattle.ll_replay.specs.Kept.{Keeps, Kept, Says, kept_script, told}
+use Rattle.ll_replay.specs.Script.{Script, heard, passed_on, reply_count, spelled, tick, turned}
 use Rattle.ll_replay.proofs.HeardLemmas.{hears, heard-result, heard-says, still-result}
 
 -- ---- whatever comes to a connection, the channels have the same settings
@@ -53,15 +53,15 @@ counts a b e r t n x y z = omega arith
 abbrev pub goes_on_as : Kept → rooms.Kept → connection.Connections → ℕ → Kept
 goes_on_as k held all n = record k { rooms = held; connections = all; replies = n }
 
-stands : (old : Kept) (held : rooms.Kept) (all : connection.Connections) (n : ℕ) (w : World) (t : connection.Turn) → old ≡ kept_world w
+stands : (old : Kept) (held : rooms.Kept) (all : connection.Connections) (n : ℕ) (w : Script) (t : connection.Turn) → old ≡ kept_script w
     → held ≡ rooms.kept_world t.rooms → all ≡ t.connections → all_settings t.rooms ≡ all_settings w.rooms → n ≡ min (w.replies + t.replies) count_end
-    → goes_on_as old held all n ≡ kept_world (turned w t)
+    → goes_on_as old held all n ≡ kept_script (turned w t)
 stands old held all n w t is h a same count =
     ap₂ (λ (k : Kept) (r : rooms.Kept). goes_on_as k r all n) is h
-    ∙ ap₂ (λ (l : connection.Connections) m. goes_on_as (kept_world w) (rooms.kept_world t.rooms) l m) a count
-    ∙ ap (λ (s : List Configuration). record (goes_on_as (kept_world w) (rooms.kept_world t.rooms) t.connections (min (w.replies + t.replies) count_end)) { declared = s }) (sym same)
+    ∙ ap₂ (λ (l : connection.Connections) m. goes_on_as (kept_script w) (rooms.kept_world t.rooms) l m) a count
+    ∙ ap (λ (s : List Configuration). record (goes_on_as (kept_script w) (rooms.kept_world t.rooms) t.connections (min (w.replies + t.replies) count_end)) { declared = s }) (sym same)
 
-pub turned-says : (old new : Kept) (all : connection.Connections) (held : rooms.Kept) (sent : Sent) (t : connection.Turn) (w : World) → Keeps old w
+pub turned-says : (old new : Kept) (all : connection.Connections) (held : rooms.Kept) (sent : Sent) (t : connection.Turn) (w : Script) → Keeps old w
     → IsTurn all held sent t → all_settings t.rooms ≡ all_settings w.rooms → new ≡ goes_on_as old held all (min (old.replies + sent.replies) count_end)
     → Says new (Some sent.text) w (turned w t)
 turned-says old new all held sent t w k turn same is = record {
@@ -81,7 +81,7 @@ pub sent-says : (old now new : Kept) (all : connection.Connections) (held : room
     → ((v : world.World) → old.rooms ≡ rooms.kept_world v → old.declared ≡ all_settings v → IsTurn all held sent (t old.connections v))
     → ((all : connection.Connections) (v : world.World) → all_settings (t all v).rooms ≡ all_settings v)
     → new ≡ goes_on_as old held all (min (old.replies + sent.replies) count_end)
-    → (w : World) → Keeps now w → Says new (Some text) w (turned w (t w.connections w.rooms))
+    → (w : Script) → Keeps now w → Says new (Some text) w (turned w (t w.connections w.rooms))
 sent-says old now new all held sent text t same spelled turns keeps is w k =
     let q = subst (λ s. Keeps s w) (sym same) k in
     let turn = turns w.rooms (ap (λ (s : Kept). s.rooms) q.stands) (ap (λ (s : Kept). s.declared) q.stands) in
@@ -100,7 +100,7 @@ pub end-says : (old now new : Kept) (n : ℕ) (all : connection.Connections) (he
     → ((v : world.World) → old.rooms ≡ rooms.kept_world v
     → (all ≡ (connection.end n old.connections v).connections) × (held ≡ rooms.kept_world (connection.end n old.connections v).rooms))
     → new ≡ goes_on_as old held all old.replies
-    → (w : World) → Keeps now w → Says new None w (turned w (connection.end n w.connections w.rooms))
+    → (w : Script) → Keeps now w → Says new None w (turned w (connection.end n w.connections w.rooms))
 end-says old now new n all held same ends is w k =
     let q = subst (λ s. Keeps s w) (sym same) k in
     let t = connection.end n w.connections w.rooms in
@@ -126,17 +126,17 @@ answers_are held a w v quiet leads = leads.answers ∙ ap (λ list. list ++ answ
 
 module _ (old now : Kept) (held : rooms.Kept) (place : ℕ) (a : Option answer.Answer) (same : old ≡ now)
     (leads : (v : world.World) → old.rooms ≡ rooms.kept_world v → Leads held a v (world.tick place v)) where
-  here : (w : World) → Keeps now w → Keeps old w
+  here : (w : Script) → Keeps now w → Keeps old w
   here w k = subst (λ s. Keeps s w) (sym same) k
 
-  there : (w : World) → Keeps old w → Leads held a w.rooms (world.tick place w.rooms)
+  there : (w : Script) → Keeps old w → Leads held a w.rooms (world.tick place w.rooms)
   there w q = leads w.rooms (ap (λ (s : Kept). s.rooms) q.stands)
 
   -- one to a connection
   pub tick-passed : {E : Type 0} (r : Result (Option (Vec ℕ Global)) E) (n : ℕ) (reply : Reply) (mid new : Kept) → a ≡ Some (said.Replied (Connection n) reply)
       → mid ≡ record old { rooms = held }
-      → ((u : World) → Keeps mid u → IfOk r (λ t. Says new t u (turned u (connection.reply n reply u.connections u.rooms))))
-      → (w : World) → Keeps now w → IfOk r (λ t. Says new t w (tick place w))
+      → ((u : Script) → Keeps mid u → IfOk r (λ t. Says new t u (turned u (connection.reply n reply u.connections u.rooms))))
+      → (w : Script) → Keeps now w → IfOk r (λ t. Says new t w (tick place w))
   tick-passed (Err e) n reply mid new is_a is_mid goes w k = tt
   tick-passed (Ok t) n reply mid new is_a is_mid goes w k =
       let q = here w k in
@@ -154,21 +154,21 @@ module _ (old now : Kept) (held : rooms.Kept) (place : ℕ) (a : Option answer.A
       within : (n r e : ℕ) → n ≡ min r e → n ≡ min (n + 0) e
       within n r e h = omega arith
 
-  module _ (other : (w : World) → fold passed_on w (answers_of a) ≡ w) where
-    stays : (w : World) → Keeps old w → tick place w ≡ heard w (world.tick place w.rooms)
+  module _ (other : (w : Script) → fold passed_on w (answers_of a) ≡ w) where
+    stays : (w : Script) → Keeps old w → tick place w ≡ heard w (world.tick place w.rooms)
     stays w q =
         let v = world.tick place w.rooms in
         ap (fold passed_on (heard w v)) (answers_are held a w.rooms v q.silent (there w q)) ∙ other (heard w v)
 
     -- any other
     pub tick-heard : {E : Type 0} (r : Result (Option (Vec ℕ Global)) E) (new : Kept) → new ≡ hears old held (min (old.replies + reply_count (answers_of a)) count_end)
-        → IfOk r (λ t. told t ≡ flat_map spelled (answers_of a)) → (w : World) → Keeps now w → IfOk r (λ t. Says new t w (tick place w))
+        → IfOk r (λ t. told t ≡ flat_map spelled (answers_of a)) → (w : Script) → Keeps now w → IfOk r (λ t. Says new t w (tick place w))
     tick-heard (Err e) new is text w k = tt
     tick-heard (Ok t) new is text w k =
         subst (Says new t w) (sym (stays w (here w k)))
         (heard-result {E = Unit} (Ok t) old now new held (world.tick place) a same (λ v. tick-keeps v place) leads is text w k)
 
     pub tick-still : {E : Type 0} (r : Result (Option (Vec ℕ Global)) E) → ((v : world.World) → old.rooms ≡ rooms.kept_world v → a ≡ None → world.tick place v ≡ v)
-        → IfOk r (λ t. t ≡ None → a ≡ None) → (w : World) → Keeps now w → IfOk r (λ t. t ≡ None → tick place w ≡ w)
+        → IfOk r (λ t. t ≡ None → a ≡ None) → (w : Script) → Keeps now w → IfOk r (λ t. t ≡ None → tick place w ≡ w)
     tick-still (Err e) still none w k = tt
     tick-still (Ok t) still none w k = λ nothing. stays w (here w k) ∙ still-result {E = Unit} (Ok t) old now (world.tick place) a same still none w k nothing

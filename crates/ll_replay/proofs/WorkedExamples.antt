@@ -15,7 +15,7 @@ use Rattle.ll_verdict.specs.Accepted.{rendition_refusal}
 use Rattle.ll_verdict.specs.Verdict.{is_there}
 use Rattle.form_urlencoded.specs.Form.{raw_pairs, split}
 use Rattle.percent_encoding.specs.Percent.{percent_decode}
-use Rattle.ll_replay.specs.World.{line}
+use Rattle.ll_replay.specs.Script.{line}
 use Rattle.ll_replay.specs.Worked.{WorkedScript}
 
 pub worked : WorkedScript

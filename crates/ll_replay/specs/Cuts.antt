@@ -6,10 +6,10 @@ use Rattle.ll_replay.specs.declared.outcome.RunFault.TheVariants as fault
 use Rattle.ll_replay.specs.Kept.{Kept, Stands}
 use Rattle.ll_device.specs.Written.{AppendsPrefix}
 use Rattle.ll_replay.specs.Stream.{EndsBy, StopsAfter, StopsBetween, StopsForMemory, open_line, script, world_so_far}
-use Rattle.ll_replay.specs.World.{World, BadLine, LineTooLong}
+use Rattle.ll_replay.specs.Script.{Script, BadLine, LineTooLong}
 
 -- what a fault says of the way from one world to the next
-abbrev pub IsCutBetween : (base written : Option (List ℕ)) → (before after : World) → RunFault → Type 0
+abbrev pub IsCutBetween : (base written : Option (List ℕ)) → (before after : Script) → RunFault → Type 0
 IsCutBetween base written before after (fault.BadLine n) = (after.ending ≡ Some (BadLine n)) × Appends base written after.text
 IsCutBetween base written before after (fault.LineTooLong n) = (after.ending ≡ Some (LineTooLong n)) × Appends base written after.text
 IsCutBetween base written before after fault.Write = AppendsPrefix base written after.text

@@ -7,7 +7,7 @@ use Rattle.ll_connection.specs.Turn.{Connections}
 use Rattle.ll_item.specs.Settings.{Configuration}
 use Rattle.ll_world.specs.Kept as rooms
 use Rattle.ll_world.specs.World as rooms_world
-use Rattle.ll_replay.specs.World.{World}
+use Rattle.ll_replay.specs.Script.{Script}
 
 pub record Kept : Type 0 where
   pub rooms : rooms.Kept
@@ -19,8 +19,8 @@ pub record Kept : Type 0 where
   pub replies : ℕ
 
 -- what is kept of what a script has come to
-abbrev pub kept_world : World → Kept
-kept_world w = record {
+abbrev pub kept_script : Script → Kept
+kept_script w = record {
   rooms = rooms.kept_world w.rooms;
   connections = w.connections;
   declared = rooms_world.all_settings w.rooms;
@@ -30,8 +30,8 @@ kept_world w = record {
 }
 
 -- a driver keeps what a script has come to, of which all answers are written
-pub record Keeps (driver : Kept) (w : World) : Type 0 where
-  pub stands : driver ≡ kept_world w
+pub record Keeps (driver : Kept) (w : Script) : Type 0 where
+  pub stands : driver ≡ kept_script w
   pub silent : w.rooms.answers ≡ []
 
 -- an answer, where there is one
@@ -39,13 +39,13 @@ abbrev pub told : Option (Vec ℕ Global) → List ℕ
 told None = []
 told (Some text) = text.items
 
--- a step from one world to the next says this
-pub record Says (driver : Kept) (answer : Option (Vec ℕ Global)) (old new : World) : Type 0 where
+-- a step of a script says this
+pub record Says (driver : Kept) (answer : Option (Vec ℕ Global)) (old new : Script) : Type 0 where
   pub keeps : Keeps driver new
   pub text : new.text ≡ old.text ++ told answer
 
 -- a driver stands for what a script has come to, and what was written since base is its text
-pub record Stands (driver : Kept) (base written : Option (List ℕ)) (w : World) : Type 0 where
+pub record Stands (driver : Kept) (base written : Option (List ℕ)) (w : Script) : Type 0 where
   pub keeps : Keeps driver w
   pub goes_on : w.ending ≡ None
   pub wrote : Appends base written w.text

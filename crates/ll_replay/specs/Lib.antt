@@ -2,6 +2,6 @@ pub mod Cuts
 pub mod Kept
 pub mod Stream
 pub mod Worked
-pub mod World
+pub mod Script
 pub use Rattle.ll_page.specs.Full
 pub use Rattle.ll_page.specs.View

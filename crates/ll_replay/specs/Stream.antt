@@ -4,10 +4,10 @@ use Rattle.std.specs.Io.KnownBytes.{Appends, Consumes}
 use Rattle.std.specs.Str.Lines.{lines}
 use Rattle.ll_publish.specs.Pieces.{ended_pieces, last_piece, pieces}
 use Rattle.ll_replay.specs.declared.outcome.Summary.{Summary}
-use Rattle.ll_replay.specs.World.{World, Ending, start, line, longest_line, summary_of}
+use Rattle.ll_replay.specs.Script.{Script, Ending, start, line, longest_line, summary_of}
 
 -- what a script comes to
-abbrev pub world_of : List ℕ → World
+abbrev pub world_of : List ℕ → Script
 world_of bytes = fold line start (lines bytes)
 
 -- what is written for a script
@@ -25,7 +25,7 @@ EndsBy ending base written input = ((world_of input).ending ≡ Some ending) × 
 
 -- a run stopped on its way from one world to the next, which ends no script: what the first had said was written since base, and
 -- then a prefix of what the next says besides
-abbrev pub StopsBetween : (base written : Option (List ℕ)) → (before after : World) → Type 0
+abbrev pub StopsBetween : (base written : Option (List ℕ)) → (before after : Script) → Type 0
 StopsBetween base written before after =
     (prefix : List ℕ) × (rest : List ℕ) × (after.text ≡ before.text ++ (prefix ++ rest)) × Appends base written (before.text ++ prefix)
     × (after.ending ≡ None)
@@ -42,7 +42,7 @@ abbrev pub ended_lines : List ℕ → List (List ℕ)
 ended_lines bytes = ended_pieces (pieces bytes)
 
 -- what a script comes to with those lines
-abbrev pub world_so_far : List ℕ → World
+abbrev pub world_so_far : List ℕ → Script
 world_so_far bytes = fold line start (ended_lines bytes)
 
 -- the bytes after the last LF

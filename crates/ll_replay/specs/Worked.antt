@@ -1,7 +1,7 @@
 -- The definitions at worked examples: small scripts, and all that is written for each, byte for byte.
 use Rattle.std.specs.Prelude.{◌≡◌, ℕ, List, ◌∷◌, ◌++◌, Some, codes}
 use Rattle.ll_replay.specs.Stream.{script, world_of}
-use Rattle.ll_replay.specs.World.{BadLine}
+use Rattle.ll_replay.specs.Script.{BadLine}
 
 abbrev pub channel_line : List ℕ
 channel_line = codes "channel cam target=4 part=1000000 skip=24 window=36 renditions=hi first=0 start=0\n"

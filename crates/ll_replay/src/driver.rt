@@ -1,12 +1,12 @@
 //! Takes the lines of a script, one after another.
 ghost use Rattle.std.specs.Prelude.{◌≡◌, ◌<◌, ◌+◌, ◌-◌, ◌^◌, ℕ, List, Option, None, Some, IfOk, OnOk, OnErr, IfErr, IsErrOf, IsSome, flat_map, fold, min, string_bytes};
 ghost use Rattle.std.specs.Io.KnownBytes.{Appends};
-ghost use Rattle.ll_script.specs.Lines.{clocks_from, listed};
+ghost use Rattle.ll_script.specs.Lines.{clocks_from, meant_acts};
 ghost use Rattle.ll_connection.specs.Turn as connection;
 ghost use Rattle.ll_world.specs.Kept.{answers_of};
 ghost use Rattle.ll_world.specs.World as rooms;
-ghost use Rattle.ll_replay.specs.World.{World, start, line, summary_of};
-ghost use Rattle.ll_replay.specs.World as world;
+ghost use Rattle.ll_replay.specs.Script.{Script, start, line, summary_of};
+ghost use Rattle.ll_replay.specs.Script as script;
 ghost use Rattle.ll_replay.specs.Kept.{Keeps, Says, Stands, told};
 ghost use Rattle.ll_replay.specs.Cuts.{IsCutBetween};
 ghost use Rattle.ll_device.specs.Written.{AppendsPrefix};
@@ -77,7 +77,7 @@ impl Driver {
 
     /// What the lines so far came to.
     pub(crate) fn summary(&self) -> Summary
-        ensures { (w : World) (base written : Option (List ℕ)) → Stands self.now base written w → result ≡ summary_of w }
+        ensures { (w : Script) (base written : Option (List ℕ)) → Stands self.now base written w → result ≡ summary_of w }
     {
         Summary {
             events: self.rooms.events(),
@@ -92,10 +92,10 @@ impl Driver {
         writer: &mut W,
     ) -> Result<(), RunFault>
         requires { self.old.lines < 2 ^ 64 - 1 }
-        ensures ok { OnOk result ((w : World) (base : Option (List ℕ)) → Stands self.old base (W.written writer.old) w
+        ensures ok { OnOk result ((w : Script) (base : Option (List ℕ)) → Stands self.old base (W.written writer.old) w
             → Stands self.new base (W.written writer.new) (line w text.now)) }
         ensures lines { OnOk result (self.new.lines ≡ self.old.lines + 1) }
-        ensures cut { IfErr result (λ f. (w : World) (base : Option (List ℕ)) → Stands self.old base (W.written writer.old) w
+        ensures cut { IfErr result (λ f. (w : Script) (base : Option (List ℕ)) → Stands self.old base (W.written writer.old) w
             → IsCutBetween base (W.written writer.new) w (line w text.now) f) }
         ensures steady { OnOk result (W.failures writer.new ≡ W.failures writer.old) }
         ensures write_failed { IsErrOf result RunFault.Write → W.failures writer.old < W.failures writer.new }
@@ -114,11 +114,11 @@ impl Driver {
 
     /// Does what a line makes happen, one act after another.
     fn acts<W: Writer>(&mut self, acts: Acts, writer: &mut W) -> Result<(), RunFault>
-        ensures ok { OnOk result ((w : World) (base : Option (List ℕ)) → Stands self.old base (W.written writer.old) w
-            → Stands self.new base (W.written writer.new) (world.acted w (Some (listed self.old.declared acts)))) }
+        ensures ok { OnOk result ((w : Script) (base : Option (List ℕ)) → Stands self.old base (W.written writer.old) w
+            → Stands self.new base (W.written writer.new) (script.acted w (Some (meant_acts self.old.declared acts)))) }
         ensures lines { OnOk result (self.new.lines ≡ self.old.lines) }
-        ensures cut { IfErr result (λ f. (w : World) (base : Option (List ℕ)) → Stands self.old base (W.written writer.old) w
-            → IsCutBetween base (W.written writer.new) w (world.acted w (Some (listed self.old.declared acts))) f) }
+        ensures cut { IfErr result (λ f. (w : Script) (base : Option (List ℕ)) → Stands self.old base (W.written writer.old) w
+            → IsCutBetween base (W.written writer.new) w (script.acted w (Some (meant_acts self.old.declared acts))) f) }
         ensures steady { OnOk result (W.failures writer.new ≡ W.failures writer.old) }
         ensures write_failed { IsErrOf result RunFault.Write → W.failures writer.old < W.failures writer.new }
     {
@@ -131,11 +131,11 @@ impl Driver {
 
     /// A reading of the clock for each channel, in order of declaration; each is told of all that it made due before the next.
     fn clocks<W: Writer>(&mut self, ms: u64, writer: &mut W) -> Result<(), RunFault>
-        ensures ok { OnOk result ((w : World) (base : Option (List ℕ)) → Stands self.old base (W.written writer.old) w
-            → Stands self.new base (W.written writer.new) (world.acted w (Some (clocks_from 0 self.old.declared ms)))) }
+        ensures ok { OnOk result ((w : Script) (base : Option (List ℕ)) → Stands self.old base (W.written writer.old) w
+            → Stands self.new base (W.written writer.new) (script.acted w (Some (clocks_from 0 self.old.declared ms)))) }
         ensures lines { OnOk result (self.new.lines ≡ self.old.lines) }
-        ensures cut { IfErr result (λ f. (w : World) (base : Option (List ℕ)) → Stands self.old base (W.written writer.old) w
-            → IsCutBetween base (W.written writer.new) w (world.acted w (Some (clocks_from 0 self.old.declared ms))) f) }
+        ensures cut { IfErr result (λ f. (w : Script) (base : Option (List ℕ)) → Stands self.old base (W.written writer.old) w
+            → IsCutBetween base (W.written writer.new) w (script.acted w (Some (clocks_from 0 self.old.declared ms))) f) }
         ensures steady { OnOk result (W.failures writer.new ≡ W.failures writer.old) }
         ensures write_failed { IsErrOf result RunFault.Write → W.failures writer.old < W.failures writer.new }
     {
@@ -147,11 +147,11 @@ impl Driver {
 
     /// Does an act, writes its answer, and then the replies that it made due.
     fn done<W: Writer>(&mut self, act: Act, writer: &mut W) -> Result<(), RunFault>
-        ensures ok { OnOk result ((w : World) (base : Option (List ℕ)) → Stands self.old base (W.written writer.old) w
-            → Stands self.new base (W.written writer.new) (world.done w act)) }
+        ensures ok { OnOk result ((w : Script) (base : Option (List ℕ)) → Stands self.old base (W.written writer.old) w
+            → Stands self.new base (W.written writer.new) (script.done w act)) }
         ensures lines { OnOk result (self.new.lines ≡ self.old.lines) }
-        ensures cut { IfErr result (λ f. (w : World) (base : Option (List ℕ)) → Stands self.old base (W.written writer.old) w
-            → IsCutBetween base (W.written writer.new) w (world.done w act) f) }
+        ensures cut { IfErr result (λ f. (w : Script) (base : Option (List ℕ)) → Stands self.old base (W.written writer.old) w
+            → IsCutBetween base (W.written writer.new) w (script.done w act) f) }
         ensures steady { OnOk result (W.failures writer.new ≡ W.failures writer.old) }
         ensures write_failed { IsErrOf result RunFault.Write → W.failures writer.old < W.failures writer.new }
     {
@@ -165,11 +165,11 @@ impl Driver {
 
     /// Writes the replies of the channel at this place that are due, in order of asking.
     fn rest<W: Writer>(&mut self, place: usize, writer: &mut W) -> Result<(), RunFault>
-        ensures ok { OnOk result ((w : World) (base : Option (List ℕ)) → Stands self.old base (W.written writer.old) w
-            → Stands self.new base (W.written writer.new) (world.rest_at place w)) }
+        ensures ok { OnOk result ((w : Script) (base : Option (List ℕ)) → Stands self.old base (W.written writer.old) w
+            → Stands self.new base (W.written writer.new) (script.rest_at place w)) }
         ensures lines { OnOk result (self.new.lines ≡ self.old.lines) }
-        ensures cut { IfErr result (λ f. (w : World) (base : Option (List ℕ)) → Stands self.old base (W.written writer.old) w
-            → IsCutBetween base (W.written writer.new) w (world.rest_at place w) f) }
+        ensures cut { IfErr result (λ f. (w : Script) (base : Option (List ℕ)) → Stands self.old base (W.written writer.old) w
+            → IsCutBetween base (W.written writer.new) w (script.rest_at place w) f) }
         ensures steady { OnOk result (W.failures writer.new ≡ W.failures writer.old) }
         ensures write_failed { IsErrOf result RunFault.Write → W.failures writer.old < W.failures writer.new }
     {
@@ -185,8 +185,8 @@ impl Driver {
 
     /// The first reply of the channel at this place that is due, where one is.
     fn tick(&mut self, place: usize) -> Result<Option<Vec<u8>>, AllocError>
-        ensures says { (w : World) → Keeps self.old w → IfOk result (λ a. Says self.new a w (world.tick place w)) }
-        ensures still { (w : World) → Keeps self.old w → IfOk result (λ a. a ≡ None → world.tick place w ≡ w) }
+        ensures says { (w : Script) → Keeps self.old w → IfOk result (λ a. Says self.new a w (script.tick place w)) }
+        ensures still { (w : Script) → Keeps self.old w → IfOk result (λ a. a ≡ None → script.tick place w ≡ w) }
         ensures lines { OnOk result (self.new.lines ≡ self.old.lines) }
     {
         match to_connection(self.rooms.next_due(place)) {
@@ -200,8 +200,8 @@ impl Driver {
 
     /// A connection's request gets its reply, and its next requests are made. What is sent on it.
     fn reply(&mut self, number: u64, reply: Reply) -> Result<Option<Vec<u8>>, AllocError>
-        ensures says { (w : World) → Keeps self.old w
-            → IfOk result (λ a. Says self.new a w (world.turned w (connection.reply number reply w.connections w.rooms))) }
+        ensures says { (w : Script) → Keeps self.old w
+            → IfOk result (λ a. Says self.new a w (script.turned w (connection.reply number reply w.connections w.rooms))) }
         ensures something { IfOk result (λ a. IsSome a) }
         ensures lines { OnOk result (self.new.lines ≡ self.old.lines) }
     {
@@ -213,11 +213,11 @@ impl Driver {
 
     /// Does what a line makes happen, and writes its answer.
     fn act<W: Writer>(&mut self, act: Act, writer: &mut W) -> Result<(), RunFault>
-        ensures ok { OnOk result ((w : World) (base : Option (List ℕ)) → Stands self.old base (W.written writer.old) w
-            → Stands self.new base (W.written writer.new) (world.act w act)) }
+        ensures ok { OnOk result ((w : Script) (base : Option (List ℕ)) → Stands self.old base (W.written writer.old) w
+            → Stands self.new base (W.written writer.new) (script.act w act)) }
         ensures lines { OnOk result (self.new.lines ≡ self.old.lines) }
-        ensures cut { IfErr result (λ f. (w : World) (base : Option (List ℕ)) → Stands self.old base (W.written writer.old) w
-            → IsCutBetween base (W.written writer.new) w (world.act w act) f) }
+        ensures cut { IfErr result (λ f. (w : Script) (base : Option (List ℕ)) → Stands self.old base (W.written writer.old) w
+            → IsCutBetween base (W.written writer.new) w (script.act w act) f) }
         ensures steady { OnOk result (W.failures writer.new ≡ W.failures writer.old) }
         ensures write_failed { IsErrOf result RunFault.Write → W.failures writer.old < W.failures writer.new }
     {
@@ -229,7 +229,7 @@ impl Driver {
 
     /// What an act is answered, where it is answered.
     fn step(&mut self, act: Act) -> Result<Option<Vec<u8>>, AllocError>
-        ensures says { (w : World) → Keeps self.old w → IfOk result (λ a. Says self.new a w (world.act w act)) }
+        ensures says { (w : Script) → Keeps self.old w → IfOk result (λ a. Says self.new a w (script.act w act)) }
         ensures lines { OnOk result (self.new.lines ≡ self.old.lines) }
     {
         match act {
@@ -251,7 +251,7 @@ impl Driver {
 
     /// Adds a channel, which has no answer.
     fn declare(&mut self, settings: Settings) -> Result<Option<Vec<u8>>, AllocError>
-        ensures says { (w : World) → Keeps self.old w → IfOk result (λ a. Says self.new a w (world.act w (Act.Declare settings))) }
+        ensures says { (w : Script) → Keeps self.old w → IfOk result (λ a. Says self.new a w (script.act w (Act.Declare settings))) }
         ensures lines { OnOk result (self.new.lines ≡ self.old.lines) }
     {
         let copy = settings.copy(self.alloc)?;
@@ -262,7 +262,7 @@ impl Driver {
 
     /// What an item for the channel at this place is answered.
     fn offer(&mut self, place: usize, item: Item) -> Result<Option<Vec<u8>>, AllocError>
-        ensures says { (w : World) → Keeps self.old w → IfOk result (λ a. Says self.new a w (world.act w (Act.Offer place item))) }
+        ensures says { (w : Script) → Keeps self.old w → IfOk result (λ a. Says self.new a w (script.act w (Act.Offer place item))) }
         ensures lines { OnOk result (self.new.lines ≡ self.old.lines) }
     {
         let answer = self.rooms.offer(place, item)?;
@@ -272,7 +272,7 @@ impl Driver {
 
     /// What a request to the channel at this place is answered at once, where it need not wait.
     fn ask(&mut self, id: u64, place: usize, want: Want) -> Result<Option<Vec<u8>>, AllocError>
-        ensures says { (w : World) → Keeps self.old w → IfOk result (λ a. Says self.new a w (world.act w (Act.Ask id place want))) }
+        ensures says { (w : Script) → Keeps self.old w → IfOk result (λ a. Says self.new a w (script.act w (Act.Ask id place want))) }
         ensures lines { OnOk result (self.new.lines ≡ self.old.lines) }
     {
         let answer = self.rooms.ask(Owner::Get(id), place, want)?;
@@ -283,7 +283,7 @@ impl Driver {
 
     /// The reply to a request that is no event of any channel.
     fn answer(&mut self, id: u64, fault: TargetFault) -> Result<Option<Vec<u8>>, AllocError>
-        ensures says { (w : World) → Keeps self.old w → IfOk result (λ a. Says self.new a w (world.act w (Act.Answer id fault))) }
+        ensures says { (w : Script) → Keeps self.old w → IfOk result (λ a. Says self.new a w (script.act w (Act.Answer id fault))) }
         ensures lines { OnOk result (self.new.lines ≡ self.old.lines) }
     {
         self.last_id = Some(id);
@@ -293,7 +293,7 @@ impl Driver {
 
     /// Gives a request up, where it waits, which has no answer.
     fn close(&mut self, id: u64) -> Option<Vec<u8>>
-        ensures says { (w : World) → Keeps self.old w → Says self.new result w (world.act w (Act.Close id)) }
+        ensures says { (w : Script) → Keeps self.old w → Says self.new result w (script.act w (Act.Close id)) }
         ensures lines { self.new.lines ≡ self.old.lines }
     {
         self.rooms.close(Owner::Get(id));
@@ -302,7 +302,7 @@ impl Driver {
 
     /// What a reading of the clock of the channel at this place is answered, where it is refused.
     fn clock(&mut self, place: usize, ms: u64) -> Result<Option<Vec<u8>>, AllocError>
-        ensures says { (w : World) → Keeps self.old w → IfOk result (λ a. Says self.new a w (world.act w (Act.Clock place ms))) }
+        ensures says { (w : Script) → Keeps self.old w → IfOk result (λ a. Says self.new a w (script.act w (Act.Clock place ms))) }
         ensures lines { OnOk result (self.new.lines ≡ self.old.lines) }
     {
         let answer = self.rooms.clock(place, ms);
@@ -312,7 +312,7 @@ impl Driver {
 
     /// These bytes came on a connection. What is sent on it.
     fn bytes(&mut self, number: u64, piece: &[u8]) -> Result<Option<Vec<u8>>, AllocError>
-        ensures says { (w : World) → Keeps self.old w → IfOk result (λ a. Says self.new a w (world.act w (Act.Bytes number piece.now))) }
+        ensures says { (w : Script) → Keeps self.old w → IfOk result (λ a. Says self.new a w (script.act w (Act.Bytes number piece.now))) }
         ensures lines { OnOk result (self.new.lines ≡ self.old.lines) }
     {
         let sent = self
@@ -323,7 +323,7 @@ impl Driver {
 
     /// A connection ended, which has no answer.
     fn end(&mut self, number: u64) -> Option<Vec<u8>>
-        ensures says { (w : World) → Keeps self.old w → Says self.new result w (world.act w (Act.Drop number)) }
+        ensures says { (w : Script) → Keeps self.old w → Says self.new result w (script.act w (Act.Drop number)) }
         ensures lines { self.new.lines ≡ self.old.lines }
     {
         self.connections.end(&mut self.rooms, number);
@@ -342,7 +342,7 @@ impl Driver {
 
     /// Counts a reply, where an answer is one.
     fn count(&mut self, answer: &Option<Answer>)
-        ensures { self.new ≡ record self.old { replies = min (self.old.replies + world.reply_count (answers_of answer.now)) rooms.count_end } }
+        ensures { self.new ≡ record self.old { replies = min (self.old.replies + script.reply_count (answers_of answer.now)) rooms.count_end } }
     {
         self.replies = self.replies.saturating_add(replies_in(answer));
     }
@@ -365,7 +365,7 @@ impl Driver {
 
 /// The place of the channel in which an act may make replies due.
 fn makes_due(act: &Act) -> Option<usize>
-    ensures { result ≡ world.makes_due act.now }
+    ensures { result ≡ script.makes_due act.now }
 {
     match act {
         Act::Offer { place, .. } | Act::Clock { place, .. } => Some(*place),
@@ -376,7 +376,7 @@ fn makes_due(act: &Act) -> Option<usize>
 /// The reply that goes to a connection, and the connection's number; any other answer is handed back.
 fn to_connection(answer: Option<Answer>) -> Result<(u64, Reply), Option<Answer>>
     ensures to { IfOk result (λ r. answer ≡ Some (Answer.Replied (Owner.Connection r.0) r.1)) }
-    ensures other { IfErr result (λ a. (a ≡ answer) × ((w : World) → fold world.passed_on w (answers_of a) ≡ w)) }
+    ensures other { IfErr result (λ a. (a ≡ answer) × ((w : Script) → fold script.passed_on w (answers_of a) ≡ w)) }
 {
     match answer {
         Some(Answer::Replied(Owner::Connection(number), reply)) => Ok((number, reply)),
@@ -386,7 +386,7 @@ fn to_connection(answer: Option<Answer>) -> Result<(u64, Reply), Option<Answer>>
 
 /// How many replies an answer is: one or none. An answer to a connection is counted there.
 fn replies_in(answer: &Option<Answer>) -> u64
-    ensures { result ≡ world.reply_count (answers_of answer.now) }
+    ensures { result ≡ script.reply_count (answers_of answer.now) }
 {
     match answer {
         Some(Answer::Replied(Owner::Get(_), _) | Answer::Unavailable(Owner::Get(_))) => 1,
@@ -396,7 +396,7 @@ fn replies_in(answer: &Option<Answer>) -> u64
 
 /// The lines of what was answered, where something was.
 fn spell(alloc: Global, answer: Option<Answer>) -> Result<Option<Vec<u8>>, AllocError>
-    ensures lines { IfOk result (λ t. told t ≡ flat_map world.spelled (answers_of answer)) }
+    ensures lines { IfOk result (λ t. told t ≡ flat_map script.spelled (answers_of answer)) }
     ensures nothing { IfOk result (λ t. t ≡ None → answer ≡ None) }
 {
     match answer {
@@ -407,7 +407,7 @@ fn spell(alloc: Global, answer: Option<Answer>) -> Result<Option<Vec<u8>>, Alloc
 
 /// The lines of an answer.
 fn spell_one(alloc: Global, answer: Answer) -> Result<String, AllocError>
-    ensures { IfOk result (λ t. string_bytes t ≡ world.spelled answer) }
+    ensures { IfOk result (λ t. string_bytes t ≡ script.spelled answer) }
 {
     match answer {
         Answer::Accepted(count) => ok_line(alloc, count),
@@ -423,7 +423,7 @@ fn spell_one(alloc: Global, answer: Answer) -> Result<String, AllocError>
 
 /// Why a reading is refused, by its name in answers.
 fn clock_refusal(fault: ClockFault) -> ClockRefusal
-    ensures { result ≡ world.clock_refusal fault }
+    ensures { result ≡ script.clock_refusal fault }
 {
     match fault {
         ClockFault::ClockRange => ClockRefusal::ClockRange,

@@ -3,7 +3,7 @@ ghost use Rattle.std.specs.Str.Lines.{strip_carriage_return};
 ghost use Rattle.ll_replay.specs.Cuts.{HasFailed, IsCutAt, IsStopped, StandsFor};
 ghost use Rattle.ll_device.specs.Written.{AppendsPrefix};
 ghost use Rattle.ll_replay.specs.Stream.{EndsBy, IsWhole, StopsAfter, StopsForMemory, script};
-ghost use Rattle.ll_replay.specs.World as world;
+ghost use Rattle.ll_replay.specs.Script as script;
 
 use crate::driver::{Driver, LONGEST_LINE};
 use crate::outcome::{RunFault, Summary};
@@ -170,9 +170,9 @@ pub fn run<R: Reader, W: Writer>(
 ) -> Result<Summary, RunFault>
     ensures whole { (input : List ℕ) → R.left reader.old ≡ Some input → IfOk result (IsWhole (W.written writer.old) (W.written writer.new) input) }
     ensures bad_line { (input : List ℕ) (n : ℕ) → R.left reader.old ≡ Some input → IsErrOf result (RunFault.BadLine n)
-        → EndsBy (world.BadLine n) (W.written writer.old) (W.written writer.new) input }
+        → EndsBy (script.BadLine n) (W.written writer.old) (W.written writer.new) input }
     ensures too_long { (input : List ℕ) (n : ℕ) → R.left reader.old ≡ Some input → IsErrOf result (RunFault.LineTooLong n)
-        → EndsBy (world.LineTooLong n) (W.written writer.old) (W.written writer.new) input }
+        → EndsBy (script.LineTooLong n) (W.written writer.old) (W.written writer.new) input }
     ensures cut_by_write { (input : List ℕ) → R.left reader.old ≡ Some input → IsErrOf result RunFault.Write
         → AppendsPrefix (W.written writer.old) (W.written writer.new) (script input) }
     ensures cut_by_memory { (input : List ℕ) → R.left reader.old ≡ Some input → IsErrOf result RunFault.Memory

@@ -5,13 +5,13 @@ use Rattle.std.proofs.lemmas.List.Splits.{length-slice_split}
 use Rattle.std.proofs.lemmas.Str.{IsUtf8-from_is_utf8, is_utf8-from_IsUtf8}
 use Rattle.std.specs.Str.{IsUtf8, is_utf8}
 use Rattle.ll_attr.specs.Numbers.{number_in}
-use Rattle.ll_attr.specs.Words.{after, parts_at, words}
+use Rattle.ll_attr.specs.Words.{after, pieces_at, words}
 use Rattle.ll_item.specs.Settings.{Configuration, settings_in}
 use Rattle.ll_script.specs.Hex.{bytes_in_hex}
 use Rattle.ll_script.specs.Lines.{acts, alone, begun, bytes_by, bytes_of, declaration, get_of, is_passed_over, kinds}
 
 -- a text has at least one part
-some-part : (c : ℕ) (text : List ℕ) → parts_at c text ≢ []
+some-part : (c : ℕ) (text : List ℕ) → pieces_at c text ≢ []
 some-part c text = λ e. let n = length-slice_split (λ b. b == c) text in absurd (omega (arith, n, ap length e))
 
 -- a request has two words, and a text in which a space was found has more than one

@@ -155,10 +155,10 @@ acts channels last line = if is_passed_over line then Some [] else acts_by chann
 -- ---- what was read
 
 -- the acts that are meant by what was read of a line
-abbrev pub listed : List Configuration → Acts → List Act
-listed channels list.None = []
-listed channels (list.One act) = act ∷ []
-listed channels (list.Clock ms) = clocks_from 0 channels ms
+abbrev pub meant_acts : List Configuration → Acts → List Act
+meant_acts channels list.None = []
+meant_acts channels (list.One act) = act ∷ []
+meant_acts channels (list.Clock ms) = clocks_from 0 channels ms
 
 -- no act tells that memory was not found
 abbrev pub TellsNoMemory : Acts → Type 0

@@ -44,7 +44,7 @@ pub fn read_line(
     last: Option<u64>,
     line: &[u8],
 ) -> Result<Acts, LineFault>
-    ensures acts { IfOk result (λ a. spec.acts declared.now last line.now ≡ Some (spec.listed declared.now a)) }
+    ensures acts { IfOk result (λ a. spec.acts declared.now last line.now ≡ Some (spec.meant_acts declared.now a)) }
     ensures bad { IsErrOf result LineFault.BadLine → spec.acts declared.now last line.now ≡ None }
     ensures memory { IsErrOf result LineFault.Memory → IsSome (spec.acts declared.now last line.now) }
     ensures tells_no_memory { IfOk result (λ a. spec.TellsNoMemory a) }

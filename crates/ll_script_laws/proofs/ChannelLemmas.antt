@@ -24,7 +24,7 @@ use Rattle.ll_world.specs.World as rooms
 use Rattle.ll_world.specs.declared.answer.Answer as answer
 use Rattle.ll_world.specs.declared.answer.Answer.TheVariants as said
 use Rattle.ll_replay.specs.Stream.{world_of}
-use Rattle.ll_replay.specs.World.{World, Ending, act, acted, counted, done, heard, line, line_by, makes_due, passed_on, read_by, rest, start, tick}
+use Rattle.ll_replay.specs.Script.{Script, Ending, act, acted, counted, done, heard, line, line_by, makes_due, passed_on, read_by, rest, start, tick}
 use Rattle.ll_script_laws.proofs.ActLemmas.{AreSound, IsSound, acts-sound}
 use Rattle.ll_script_laws.proofs.ItemTexts.{IsRead}
 
@@ -129,7 +129,7 @@ closes-kept w owner k = close_of-kept w (wait_of owner w.waits) k
 
 -- ---- acts and lines
 
-act-kept : (w : World) (a : Act) → AreKept w.rooms → IsSound a → AreKept (act w a).rooms
+act-kept : (w : Script) (a : Act) → AreKept w.rooms → IsSound a → AreKept (act w a).rooms
 act-kept w (Declare settings) k s = declare-kept w.rooms settings k s
 act-kept w (Offer place item) k s = offer-kept w.rooms place item k s
 act-kept w (Refuse reason) k s = k
@@ -141,7 +141,7 @@ act-kept w RefuseClock k s = k
 act-kept w (Bytes n piece) k s = bytes-keeps AreKept asks-kept closes-kept n piece w.connections w.rooms k
 act-kept w (Drop n) k s = end-keeps AreKept asks-kept closes-kept n w.connections w.rooms k
 
-passed_on-kept : (w : World) (a : answer.Answer) → AreKept w.rooms → AreKept (passed_on w a).rooms
+passed_on-kept : (w : Script) (a : answer.Answer) → AreKept w.rooms → AreKept (passed_on w a).rooms
 passed_on-kept w (said.Accepted count) k = k
 passed_on-kept w (said.Refused reason) k = k
 passed_on-kept w (said.ClockRefused reason) k = k
@@ -149,43 +149,43 @@ passed_on-kept w (said.Replied (Get id) r) k = k
 passed_on-kept w (said.Replied (Connection n) r) k = reply-keeps AreKept asks-kept closes-kept n r w.connections w.rooms k
 passed_on-kept w (said.Unavailable owner) k = k
 
-all_passed_on-kept : (w : World) (answers : List answer.Answer) → AreKept w.rooms → AreKept (fold passed_on w answers).rooms
+all_passed_on-kept : (w : Script) (answers : List answer.Answer) → AreKept w.rooms → AreKept (fold passed_on w answers).rooms
 all_passed_on-kept w [] k = k
 all_passed_on-kept w (a ∷ answers) k = all_passed_on-kept (passed_on w a) answers (passed_on-kept w a k)
 
-ticks-kept : (place n : ℕ) (w : World) → AreKept w.rooms → AreKept (rooms.repeat (tick place) n w).rooms
+ticks-kept : (place n : ℕ) (w : Script) → AreKept w.rooms → AreKept (rooms.repeat (tick place) n w).rooms
 ticks-kept place zero w k = k
 ticks-kept place (suc n) w k =
     let v = rooms.repeat (tick place) n w in
     let u = rooms.tick place v.rooms in
     all_passed_on-kept (heard v u) u.answers (tick_at-kept v.rooms place (slice_get v.rooms.channels place) (ticks-kept place n w k) refl)
 
-rest-kept : (place : Option ℕ) (w : World) → AreKept w.rooms → AreKept (rest place w).rooms
+rest-kept : (place : Option ℕ) (w : Script) → AreKept w.rooms → AreKept (rest place w).rooms
 rest-kept None w k = k
 rest-kept (Some place) w k = ticks-kept place (length w.rooms.waits) w k
 
-acted-kept : (list : List Act) (w : World) → AreKept w.rooms → Each IsSound list → AreKept (fold done w list).rooms
+acted-kept : (list : List Act) (w : Script) → AreKept w.rooms → Each IsSound list → AreKept (fold done w list).rooms
 acted-kept [] w k s = k
 acted-kept (a ∷ list) w k s = acted-kept list (done w a) (rest-kept (makes_due a) (act w a) (act-kept w a k s.0)) s.1
 
-acted_by-kept : (o : Option (List Act)) (w : World) → AreKept w.rooms → AreSound o → AreKept (acted w o).rooms
+acted_by-kept : (o : Option (List Act)) (w : Script) → AreKept w.rooms → AreSound o → AreKept (acted w o).rooms
 acted_by-kept None w k s = k
 acted_by-kept (Some list) w k s = acted-kept list w k s
 
-read_by-kept : (long : Bool) (w : World) (text : List ℕ) → AreKept w.rooms → AreKept (read_by long w text).rooms
+read_by-kept : (long : Bool) (w : Script) (text : List ℕ) → AreKept w.rooms → AreKept (read_by long w text).rooms
 read_by-kept true w text k = k
 read_by-kept false w text k =
     acted_by-kept (acts (rooms.all_settings w.rooms) w.last_id text) (counted w) k (acts-sound (rooms.all_settings w.rooms) w.last_id text)
 
-line_by-kept : (o : Option Ending) (w : World) (text : List ℕ) → AreKept w.rooms → AreKept (line_by o w text).rooms
+line_by-kept : (o : Option Ending) (w : Script) (text : List ℕ) → AreKept w.rooms → AreKept (line_by o w text).rooms
 line_by-kept (Some ending) w text k = k
 line_by-kept None w text k = read_by-kept (nat_lt 65536 (length text)) w text k
 
-line-kept : (w : World) (text : List ℕ) → AreKept w.rooms → AreKept (line w text).rooms
+line-kept : (w : Script) (text : List ℕ) → AreKept w.rooms → AreKept (line w text).rooms
 unfolding line
 line-kept w text k = line_by-kept w.ending w text k
 
-lines-kept : (ls : List (List ℕ)) (w : World) → AreKept w.rooms → AreKept (fold line w ls).rooms
+lines-kept : (ls : List (List ℕ)) (w : Script) → AreKept w.rooms → AreKept (fold line w ls).rooms
 lines-kept [] w k = k
 lines-kept (l ∷ ls) w k = lines-kept ls (line w l) (line-kept w l k)
 

@@ -7,7 +7,7 @@ use Rattle.ll_item.specs.Items.{rendition_named}
 use Rattle.ll_item.specs.Settings.{Configuration}
 use Rattle.ll_page.specs.Page.{Paged}
 use Rattle.ll_verdict.specs.Events.{Event, Publish, Ask, Collect, Close, Clock, Step, asks, items, until}
-use Rattle.ll_verdict.specs.Verdict.{Request, at_once, closes, comes_after, decided, far, held, held_by, hold_by, is_close, is_there, page_of, reply, reply_at, reply_by, settles, waiting, wanted_at, wanted_of}
+use Rattle.ll_verdict.specs.Verdict.{Request, at_once, closes, comes_after, decided, far, held, held_by, hold_by, is_close, is_there, page_of, reply, reply_at_step, reply_by, settles, waiting, wanted_at, wanted_of}
 use Rattle.ll_verdict.specs.declared.reply.Reply.{Reply}
 use Rattle.ll_verdict.specs.declared.reply.Reply.TheVariants.{Busy, TooFar}
 use Rattle.ll_verdict.specs.declared.reply.Reply.TheVariants as now
@@ -114,7 +114,7 @@ settled_by false true p page h = cc
 settled_by false false p page h = cc
 
 by_decision : (c : Configuration) (events : List Event) (r : Request) (page : Paged) (o : Option Step) → decided c events r ≡ o → IsAsked c events r
-    → option_and_then (reply_at c r) o ≡ Some (Text page)
+    → option_and_then (reply_at_step c r) o ≡ Some (Text page)
     → (want : WantValue) × (between : List Event) × (later : List Event) × (events ≡ (r.before ++ Ask want ∷ between) ++ later)
     × (wanted_of c want ≡ Some r.wanted) × IsWanted c (r.before ++ Ask want ∷ between) r.wanted page
 by_decision c events r page None e asked h = cc

@@ -19,7 +19,7 @@ use Rattle.ll_verdict.specs.declared.reply.Settled.TheVariants.{Text}
 use Rattle.ll_verdict.specs.declared.wanted.Wanted.{Wanted}
 use Rattle.ll_world.specs.World.{Channel}
 use Rattle.ll_replay.specs.Stream.{script, world_of}
-use Rattle.ll_replay.specs.World.{longest_line}
+use Rattle.ll_replay.specs.Script.{longest_line}
 use Rattle.ll_apply.specs.Texts.{applied_text}
 use Rattle.ll_laws.specs.Published.{ArePublished}
 

@@ -5,7 +5,7 @@ use Rattle.std.proofs.lemmas.List.Folds.{list_all-append}
 use Rattle.std.proofs.lemmas.List.Elements.{All-from_recursion}
 use Rattle.std.proofs.lemmas.List.Splits.{slice_split_none, slice_split_at}
 use Rattle.std.specs.List.{list_all, join_with_byte, All, AllByRecursion}
-use Rattle.ll_attr.specs.Words.{parts_at, words, joined}
+use Rattle.ll_attr.specs.Words.{pieces_at, words, joined}
 use Rattle.ll_format.specs.Words.{is_line_byte, is_one_line}
 use Rattle.ll_format.proofs.FormatLaws.{inside_both, lacks}
 
@@ -22,15 +22,15 @@ without : (c : ℕ) (text : List ℕ) → lacks c text ≡ true → All (λ b. (
 without c text h = All-from_recursion (λ b. (b == c) ≡ false) text (by_recursion c text h)
 
 -- a text without the byte is its one part
-pub uncut : (c : ℕ) (text : List ℕ) → lacks c text ≡ true → parts_at c text ≡ text ∷ []
+pub uncut : (c : ℕ) (text : List ℕ) → lacks c text ≡ true → pieces_at c text ≡ text ∷ []
 uncut c text h = slice_split_none (λ b. b == c) text (without c text h)
 
 -- and the first part where the byte stands after it
-pub cut_first : (c : ℕ) (text rest : List ℕ) → (c == c) ≡ true → lacks c text ≡ true → parts_at c (text ++ (c ∷ rest)) ≡ text ∷ parts_at c rest
+pub cut_first : (c : ℕ) (text rest : List ℕ) → (c == c) ≡ true → lacks c text ≡ true → pieces_at c (text ++ (c ∷ rest)) ≡ text ∷ pieces_at c rest
 cut_first c text rest is h = slice_split_at (λ b. b == c) text c rest (without c text h) is
 
 pub cut_again : (c : ℕ) (text : List ℕ) (more : List (List ℕ)) → (c == c) ≡ true → list_all (lacks c) (text ∷ more) ≡ true
-    → parts_at c (join_with_byte c (text ∷ more)) ≡ text ∷ more
+    → pieces_at c (join_with_byte c (text ∷ more)) ≡ text ∷ more
 cut_again c text [] is h = uncut c text (and_parts (lacks c text) true h).0
 cut_again c text (next ∷ more) is h =
     let p = and_parts (lacks c text) (list_all (lacks c) (next ∷ more)) h in

@@ -4,7 +4,7 @@ use Rattle.std.proofs.lemmas.Bool.{and_parts}
 use Rattle.std.specs.List.{list_all, list_any, after_first}
 use Rattle.ll_attr.specs.Attributes.{attributes_in, attributes_of, attribute_in, attribute_spelling, spelling, value_spelling, value_by, value_in, parts_outside, is_attribute_name, is_name_byte, is_bare, is_bare_byte, is_quoted_byte, is_equals}
 use Rattle.ll_attr.specs.Reading.{name_of, is_named}
-use Rattle.ll_attr.specs.Words.{parts_at}
+use Rattle.ll_attr.specs.Words.{pieces_at}
 use Rattle.ll_attr.specs.declared.attributes.Attribute.{Attribute}
 use Rattle.ll_attr.specs.declared.attributes.AttrValue.{AttrValue}
 use Rattle.ll_attr.specs.declared.attributes.AttrValue.TheVariants.{Quoted, Bare}
@@ -39,7 +39,7 @@ one_attribute names part a h =
     let named = (and_parts (list_any is_equals part) (is_attribute_name (name_of part)) p.0).1 in
     let bytes = (and_parts (nat_le 1 (length (name_of part))) (list_all is_name_byte (name_of part)) named).1 in
     inside_both a.name (61 ∷ value_spelling a.value) (ap is_one_line p.1 ∙ inside_from is_name_byte (name_of part) refl refl bytes)
-    (one_value text (parts_at 34 text) a.value p.2)
+    (one_value text (pieces_at 34 text) a.value p.2)
 
 one_more : (a : Attribute) (more : List Attribute) → is_one_line (attribute_spelling a) ≡ true → is_one_line (spelling more) ≡ true
     → is_one_line (spelling (a ∷ more)) ≡ true

@@ -3,7 +3,7 @@ use Rattle.std.proofs.Common.{◌≡◌, ℕ, ◌≤◌, ◌<◌, ◌==◌, ◌&
 use Rattle.std.proofs.Math.Seq.{drop-cons}
 use Rattle.std.proofs.lemmas.Bool.Decides.{nat_tests}
 use Rattle.std.proofs.lemmas.List.{at_drop_all}
-use Rattle.ll_attr.specs.Words.{after, parts_at}
+use Rattle.ll_attr.specs.Words.{after, pieces_at}
 use Rattle.std.specs.Str.{IsCharBoundary}
 use Rattle.ll_time.specs.Dates.{is_date, is_date_time, is_offset, is_rest, is_time, time_of_day}
 
@@ -35,20 +35,20 @@ last_false false b e = refl
 pub date_time-uncut : (text : List ℕ) → (IsCharBoundary text 10 → ⊥) → false ≡ is_date_time text
 date_time-uncut text inside = last_false (is_date (take 10 text)) (is_time (drop 10 text)) (not_after is_time refl high_time text 10 inside)
 
-by_first : (b : ℕ) (bs rest : List ℕ) (x : Bool) → (b == 84) ≡ x → after (codes "T") (b ∷ bs) ≡ Some rest → is_time (b ∷ bs) ≡ (time_of_day (parts_at 58 (take 8 rest)) && is_rest (drop 8 rest))
+by_first : (b : ℕ) (bs rest : List ℕ) (x : Bool) → (b == 84) ≡ x → after (codes "T") (b ∷ bs) ≡ Some rest → is_time (b ∷ bs) ≡ (time_of_day (pieces_at 58 (take 8 rest)) && is_rest (drop 8 rest))
 by_first b bs rest true e h = grind (arith, nat_tests)
 by_first b bs rest false e h = grind (arith, nat_tests)
 
 -- what follows the `T` of a time
-time-after : (text rest : List ℕ) → after (codes "T") text ≡ Some rest → is_time text ≡ (time_of_day (parts_at 58 (take 8 rest)) && is_rest (drop 8 rest))
+time-after : (text rest : List ℕ) → after (codes "T") text ≡ Some rest → is_time text ≡ (time_of_day (pieces_at 58 (take 8 rest)) && is_rest (drop 8 rest))
 time-after [] rest h = absurd (cc)
 time-after (b ∷ bs) rest h = by_first b bs rest (b == 84) refl h
 
 pub time-uncut : (text rest : List ℕ) → after (codes "T") text ≡ Some rest → (IsCharBoundary rest 8 → ⊥) → false ≡ is_time text
 time-uncut text rest h inside =
-    last_false (time_of_day (parts_at 58 (take 8 rest))) (is_rest (drop 8 rest)) (not_after is_rest refl high_rest rest 8 inside) ∙ sym (time-after text rest h)
+    last_false (time_of_day (pieces_at 58 (take 8 rest))) (is_rest (drop 8 rest)) (not_after is_rest refl high_rest rest 8 inside) ∙ sym (time-after text rest h)
 
 pub time-cut : (text rest time tail : List ℕ) (a b : Bool) → after (codes "T") text ≡ Some rest → time ≡ take 8 rest → tail ≡ drop 8 rest
-    → a ≡ time_of_day (parts_at 58 time) → b ≡ is_rest tail → (a && b) ≡ is_time text
+    → a ≡ time_of_day (pieces_at 58 time) → b ≡ is_rest tail → (a && b) ≡ is_time text
 time-cut text rest time tail a b h front back e f =
-    ap (λ x. x && b) (e ∙ ap (λ t. time_of_day (parts_at 58 t)) front) ∙ ap (λ x. time_of_day (parts_at 58 (take 8 rest)) && x) (f ∙ ap is_rest back) ∙ sym (time-after text rest h)
+    ap (λ x. x && b) (e ∙ ap (λ t. time_of_day (pieces_at 58 t)) front) ∙ ap (λ x. time_of_day (pieces_at 58 (take 8 rest)) && x) (f ∙ ap is_rest back) ∙ sym (time-after text rest h)

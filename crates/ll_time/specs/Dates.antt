@@ -4,7 +4,7 @@ use Rattle.std.specs.Prelude.{ℕ, List, [], ◌∷◌, Bool, false, ◌&&◌, �
 use Rattle.std.specs.Char.{is_ascii_digit}
 use Rattle.jiff_core.specs.Calendar.{days_in_month}
 use Rattle.ll_attr.specs.Numbers.{number_in}
-use Rattle.ll_attr.specs.Words.{parts_at}
+use Rattle.ll_attr.specs.Words.{pieces_at}
 
 -- the number that just so many decimal digits spell
 abbrev pub number_of : ℕ → List ℕ → Option ℕ
@@ -25,7 +25,7 @@ date_of other = false
 
 -- `YYYY-MM-DD`
 abbrev pub is_date : List ℕ → Bool
-is_date text = date_of (parts_at 45 text)
+is_date text = date_of (pieces_at 45 text)
 
 abbrev pub offset_of : List (List ℕ) → Bool
 offset_of (hours ∷ minutes ∷ []) = is_at_most 23 (number_of 2 hours) && is_at_most 59 (number_of 2 minutes)
@@ -39,7 +39,7 @@ time_of_day other = false
 -- `Z`, `+hh:mm` or `-hh:mm`
 abbrev pub is_offset : List ℕ → Bool
 is_offset [] = false
-is_offset (sign ∷ rest) = (sign == 90 && length rest == 0) || ((sign == 43 || sign == 45) && offset_of (parts_at 58 rest))
+is_offset (sign ∷ rest) = (sign == 90 && length rest == 0) || ((sign == 43 || sign == 45) && offset_of (pieces_at 58 rest))
 
 abbrev pub digits_before : List ℕ → ℕ
 digits_before [] = 0
@@ -56,7 +56,7 @@ is_rest (b ∷ bs) = if b == 46 then is_fraction bs else is_offset (b ∷ bs)
 
 abbrev pub is_time : List ℕ → Bool
 is_time [] = false
-is_time (b ∷ bs) = b == 84 && time_of_day (parts_at 58 (take 8 bs)) && is_rest (drop 8 bs)
+is_time (b ∷ bs) = b == 84 && time_of_day (pieces_at 58 (take 8 bs)) && is_rest (drop 8 bs)
 
 -- `YYYY-MM-DDThh:mm:ss`, then perhaps `.` and 1 to 9 digits, then `Z`, `+hh:mm` or `-hh:mm`
 abbrev pub is_date_time : List ℕ → Bool

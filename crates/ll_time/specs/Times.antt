@@ -2,10 +2,6 @@
 use Rattle.std.specs.Prelude.{ℕ, ◌/◌, ◌%◌, List, ◌++◌, decimal, codes}
 use Rattle.ll_time.specs.Calendar.{CivilDate, nth_date}
 
--- the last millisecond of the year 9999, from 1970 on
-abbrev pub last_milli : ℕ
-last_milli = 253402300799999
-
 -- the last two, three and four decimal digits of a number
 unfoldable pub digits_2 : ℕ → List ℕ
 digits_2 n = decimal (n / 10 % 10) ++ decimal (n % 10)

@@ -1,6 +1,6 @@
 //! Dates with a time of day and an offset from UTC, read.
 ghost use Rattle.std.specs.Prelude.{◌≡◌, ◌^◌, ◌<◌, IfSome};
-ghost use Rattle.ll_attr.specs.Words.{parts_at};
+ghost use Rattle.ll_attr.specs.Words.{pieces_at};
 ghost use Rattle.ll_time.specs.Dates.{number_of};
 ghost use Rattle.ll_time.specs.Dates as spec;
 
@@ -63,7 +63,7 @@ fn is_time(text: &str) -> bool
 
 /// Whether a text is `hh:mm:ss`.
 fn is_time_of_day(text: &str) -> bool
-    ensures { result ≡ spec.time_of_day (parts_at 58 text.now) }
+    ensures { result ≡ spec.time_of_day (pieces_at 58 text.now) }
 {
     let Some((hours, rest)) = cut(text, ':') else {
         return false;
@@ -122,7 +122,7 @@ fn is_offset(text: &str) -> bool
 
 /// Whether a text is `hh:mm`.
 fn is_hours_and_minutes(text: &str) -> bool
-    ensures { result ≡ spec.offset_of (parts_at 58 text.now) }
+    ensures { result ≡ spec.offset_of (pieces_at 58 text.now) }
 {
     match cut(text, ':') {
         Some((hours, minutes)) => is_at_most(hours, 23) && is_at_most(minutes, 59),

@@ -1,5 +1,6 @@
 ghost use Rattle.std.specs.Prelude.{◌≡◌, ◌≤◌, ◌<◌, MatchOption, Some};
-ghost use Rattle.ll_time.specs.Times.{last_milli, time_text};
+ghost use Rattle.ll_attr.specs.YearEnd.{last_milli};
+ghost use Rattle.ll_time.specs.Times.{time_text};
 
 use crate::calendar::date_of_day;
 use crate::digits::{FourDigits, ThreeDigits, TwoDigits};
@@ -20,7 +21,7 @@ pub struct UtcTime {
 
 impl Model for UtcTime {
     ghost use Rattle.std.specs.Prelude.{◌≤◌, ℕ};
-    ghost use Rattle.ll_time.specs.Times.{last_milli};
+    ghost use Rattle.ll_attr.specs.YearEnd.{last_milli};
 
     ghost Value = { ℕ };
 

@@ -10,7 +10,7 @@ use Rattle.ll_window.specs.Segments.{own}
 use Rattle.ll_verdict.specs.Accepted.{refusal}
 use Rattle.ll_verdict.specs.Events.{Event, Publish, Ask, Collect, Close, Clock, Step, asks, items, taken, until}
 use Rattle.ll_verdict.specs.Laws.{IsNewer, NewerTextLaw}
-use Rattle.ll_verdict.specs.Verdict.{Request, at_once, closes, comes_after, decided, far, held, held_by, hold_by, is_close, is_there, page_of, reply, reply_at, reply_by, settles, waiting, wanted_of}
+use Rattle.ll_verdict.specs.Verdict.{Request, at_once, closes, comes_after, decided, far, held, held_by, hold_by, is_close, is_there, page_of, reply, reply_at_step, reply_by, settles, waiting, wanted_of}
 use Rattle.ll_verdict.specs.declared.reply.Reply.{Reply}
 use Rattle.ll_verdict.specs.declared.reply.Reply.TheVariants.{Busy, TooFar}
 use Rattle.ll_verdict.specs.declared.reply.Reply.TheVariants as now
@@ -143,7 +143,7 @@ newer_by c events r page front since rest place begins missing shown there =
     }
 
 by_decision : (c : Configuration) (events : List Event) (r : Request) (page : Paged) (o : Option Step) → decided c events r ≡ o → IsAsked c events r
-    → option_and_then (reply_at c r) o ≡ Some (Text page) → IsNewer c events r page
+    → option_and_then (reply_at_step c r) o ≡ Some (Text page) → IsNewer c events r page
 by_decision c events r page None e asked h = cc
 by_decision c events r page (Some s) e asked h =
     let f = first_state c events r s e in

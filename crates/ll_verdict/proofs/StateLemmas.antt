@@ -14,7 +14,7 @@ use Rattle.ll_verdict.specs.declared.reply.Reply.{Reply}
 use Rattle.ll_verdict.specs.declared.reply.Settled.{Settled}
 use Rattle.ll_verdict.specs.Events.{Event, Publish, Ask, Collect, Close, Clock, Step, until, items, time, asks, taken, later}
 use Rattle.ll_verdict.specs.State.{State, slot_of, slot_by, is_collect, is_waiting, leaves, gone, state_of, settle, stays, answer_of, next, waiting_in, StateLaw}
-use Rattle.ll_verdict.specs.Verdict.{wanted_of, Request, deadline, is_there, is_close, closes, settles, decided, reply, reply_at, reply_by, reply_with, held, held_by, at_once, waiting}
+use Rattle.ll_verdict.specs.Verdict.{wanted_of, Request, deadline, is_there, is_close, closes, settles, decided, reply, reply_at_step, reply_by, reply_with, held, held_by, at_once, waiting}
 use Rattle.ll_verdict.proofs.ListLemmas.{each-map, Agree, round, counted_round}
 use Rattle.ll_verdict.proofs.StepLemmas.{at, ends, along, items-snoc, time-snoc, asks-snoc, held-snoc, decided-snoc, gone-snoc, or_false, Earlier, held-earlier}
 
@@ -31,7 +31,7 @@ abbrev reply_if : Configuration → Request → Step → Bool → Option Settled
 reply_if c r s b = if b then None else Some (reply_with c (items c (until s)) r.wanted)
 
 first_end : (c : Configuration) (r : Request) (s : Step) (st b k g : Bool) → closes r s ≡ b → true ≡ (not g && true)
-    → is_none (cond (st || b) (Some s) None) ≡ (not (g || (b || (k && false))) && is_none (option_and_then (reply_at c r) (cond (st || b) (Some s) None)))
+    → is_none (cond (st || b) (Some s) None) ≡ (not (g || (b || (k && false))) && is_none (option_and_then (reply_at_step c r) (cond (st || b) (Some s) None)))
 first_end c r s st b k true e h = absurd (true≢false h)
 first_end c r s true true k false e h = refl
 first_end c r s false true k false e h = refl
@@ -41,11 +41,11 @@ first_end c r s false false true false e h = refl
 first_end c r s false false false false e h = refl
 
 consistent_by : (c : Configuration) (r : Request) (s : Step) (d : Option Step) (g k : Bool)
-    → is_none d ≡ (not g && is_none (option_and_then (reply_at c r) d))
+    → is_none d ≡ (not g && is_none (option_and_then (reply_at_step c r) d))
     → is_none (option_or d (cond (ends c r s) (Some s) None))
-    ≡ (not (g || (closes r s || (k && is_some (option_and_then (reply_at c r) d)))) && is_none (option_and_then (reply_at c r) (option_or d (cond (ends c r s) (Some s) None))))
+    ≡ (not (g || (closes r s || (k && is_some (option_and_then (reply_at_step c r) d)))) && is_none (option_and_then (reply_at_step c r) (option_or d (cond (ends c r s) (Some s) None))))
 consistent_by c r s None g k h = first_end c r s (settles c r s) (closes r s) k g refl h
-consistent_by c r s (Some s0) g k h = still_false g (closes r s || (k && is_some (reply_at c r s0))) (is_none (reply_at c r s0)) h
+consistent_by c r s (Some s0) g k h = still_false g (closes r s || (k && is_some (reply_at_step c r s0))) (is_none (reply_at_step c r s0)) h
 
 pub consistent : (c : Configuration) (r : Request) (es : List Event) → Consistent c es r
 consistent c r es = along (λ es. Consistent c es r) refl
@@ -54,20 +54,20 @@ consistent c r es = along (λ es. Consistent c es r) refl
 -- an open request after one more event
 
 reply_none : (c : Configuration) (r : Request) (s : Step) (st b k : Bool) (v : Settled) → closes r s ≡ b → reply_with c (items c (until s)) r.wanted ≡ v
-    → not (b || k) ≡ true → option_and_then (reply_at c r) (cond (st || b) (Some s) None) ≡ cond st (Some v) None
+    → not (b || k) ≡ true → option_and_then (reply_at_step c r) (cond (st || b) (Some s) None) ≡ cond st (Some v) None
 reply_none c r s st true k v e f free = absurd (true≢false (sym free))
 reply_none c r s true false k v e f free = ap (reply_if c r s) e ∙ ap Some f
 reply_none c r s false false k v e f free = refl
 
 reply_by_end : (c : Configuration) (r : Request) (s : Step) (d : Option Step) (g k st : Bool) (v : Settled)
-    → is_none d ≡ (not g && is_none (option_and_then (reply_at c r) d)) → settles c r s ≡ st → reply_with c (items c (until s)) r.wanted ≡ v
+    → is_none d ≡ (not g && is_none (option_and_then (reply_at_step c r) d)) → settles c r s ≡ st → reply_with c (items c (until s)) r.wanted ≡ v
     → not (g || (closes r s || k)) ≡ true
-    → option_and_then (reply_at c r) (option_or d (cond (ends c r s) (Some s) None))
-    ≡ cond (is_none (option_and_then (reply_at c r) d) && st) (Some v) (option_and_then (reply_at c r) d)
+    → option_and_then (reply_at_step c r) (option_or d (cond (ends c r s) (Some s) None))
+    ≡ cond (is_none (option_and_then (reply_at_step c r) d) && st) (Some v) (option_and_then (reply_at_step c r) d)
 reply_by_end c r s d true k st v h e f free = absurd (true≢false (sym free))
 reply_by_end c r s None false k st v h e f free =
-    ap (λ b. option_and_then (reply_at c r) (cond (b || closes r s) (Some s) None)) e ∙ reply_none c r s st (closes r s) k v refl f free
-reply_by_end c r s (Some s0) false k st v h e f free = ap (λ b. cond (b && st) (Some v) (reply_at c r s0)) h
+    ap (λ b. option_and_then (reply_at_step c r) (cond (b || closes r s) (Some s) None)) e ∙ reply_none c r s st (closes r s) k v refl f free
+reply_by_end c r s (Some s0) false k st v h e f free = ap (λ b. cond (b && st) (Some v) (reply_at_step c r s0)) h
 
 after : (r : Request) (es : List Event) → Earlier es r → nat_lt (length r.before) (length es) ≡ true
 after r es lt = grind (arith, nat_tests)
@@ -106,7 +106,7 @@ change c es e = settle c (taken c (items c es) e) (later (time es) e)
 reply_next : (c : Configuration) (es : List Event) (e : Event) (r : Request) → Earlier es r → not (gone c (es ++ e ∷ []) r) ≡ true
     → reply c (es ++ e ∷ []) r ≡ (change c es e (slot_of c es r)).settled
 reply_next c es e r lt free =
-    ap (option_and_then (reply_at c r)) (decided-snoc c es e r)
+    ap (option_and_then (reply_at_step c r)) (decided-snoc c es e r)
     ∙ reply_by_end c r (at es e) (decided c es r) (gone c es r) (is_collect r.ticket e && is_some (reply c es r)) _ _ (consistent c r es) (settles_now c es e r lt)
     (ap (λ xs. reply_with c xs r.wanted) (items-snoc c es e)) (ap not (sym (gone-snoc c es e r)) ∙ free)
 
@@ -157,7 +157,7 @@ unborn_gone c r es = along (λ es. length es ≤ length r.before + 1 → gone c 
     let short : length es + 1 ≤ length r.before + 1 = omega (arith, length-append es (e ∷ [])) in
     let early : nat_lt (length r.before) (length es) ≡ false = grind (arith, nat_tests, short) in
     gone-snoc c es e r ∙ ap₂ (λ g b. g || ((b && is_close r.ticket e) || (is_collect r.ticket e && is_some (reply c es r)))) (h (omega arith)) early
-    ∙ ap (λ d. is_collect r.ticket e && is_some (option_and_then (reply_at c r) d)) (unborn c r es (omega arith))
+    ∙ ap (λ d. is_collect r.ticket e && is_some (option_and_then (reply_at_step c r) d)) (unborn c r es (omega arith))
     ∙ and_none (is_collect r.ticket e)) es
 
 -- the entry of a request that the event brings
@@ -169,7 +169,7 @@ born c es w None (Some a) =
     let r : Request = record { ticket = asks es + 1; wanted = a; before = es } in
     let short : length (es ++ Ask w ∷ []) ≤ length es + 1 = omega (arith, length-append es (Ask w ∷ [])) in
     ap (λ b. map (slot_of c (es ++ Ask w ∷ [])) (cond (not b) (r ∷ []) [])) (unborn_gone c r (es ++ Ask w ∷ []) short)
-    ∙ ap (λ d. record (slot_of c es r) { settled = option_and_then (reply_at c r) d } ∷ []) (unborn c r (es ++ Ask w ∷ []) short)
+    ∙ ap (λ d. record (slot_of c es r) { settled = option_and_then (reply_at_step c r) d } ∷ []) (unborn c r (es ++ Ask w ∷ []) short)
 
 -- the list after an event that brings no request
 unchanged : (c : Configuration) (es : List Event) (e : Event) → held c (es ++ e ∷ []) ≡ held c es

@@ -117,12 +117,12 @@ abbrev pub reply_with : Configuration → List Item → Wanted → Settled
 reply_with c items a = if is_there c items a then Text (page_of c items a) else Timeout
 
 -- what it gets from the event that decides it: nothing where it was given up, else the reply of that very state
-abbrev pub reply_at : Configuration → Request → Step → Option Settled
-reply_at c r s = if closes r s then None else Some (reply_with c (items c (until s)) r.wanted)
+abbrev pub reply_at_step : Configuration → Request → Step → Option Settled
+reply_at_step c r s = if closes r s then None else Some (reply_with c (items c (until s)) r.wanted)
 
 -- what it gets; none while it is undecided, and none where it was given up
 abbrev pub reply : Configuration → List Event → Request → Option Settled
-reply c events r = option_and_then (reply_at c r) (decided c events r)
+reply c events r = option_and_then (reply_at_step c r) (decided c events r)
 
 -- how many of these requests wait after these events
 abbrev pub waiting : Configuration → List Event → List Request → ℕ

@@ -1,7 +1,8 @@
 -- A window as it is kept, one part more.
 use Rattle.std.proofs.Common.{◌≡◌, ℕ, ◌+◌, ◌*◌, ◌≤◌, List, [], ◌∷◌, ◌++◌, Bool, true, false, cond, length, ◌==◌, None, nat_le, refl, ap, ap₂, sym, subst, ◌∙◌, arith}
 use Rattle.std.proofs.lemmas.Bool.Decides.{nat_tests}
-use Rattle.ll_item.specs.Settings.{Configuration, number_end, last_micro}
+use Rattle.ll_attr.specs.YearEnd.{last_micro}
+use Rattle.ll_item.specs.Settings.{Configuration, number_end}
 use Rattle.ll_window.specs.declared.finished.Finished.{Finished}
 use Rattle.ll_window.specs.declared.part.Part.{Part}
 use Rattle.ll_window.specs.declared.place.Place.{Place}

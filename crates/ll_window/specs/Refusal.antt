@@ -1,6 +1,7 @@
 -- Which items may follow.
 use Rattle.std.specs.Prelude.{ℕ, ◌+◌, ◌*◌, ◌/◌, ◌||◌, ◌==◌, List, [], ◌∷◌, Bool, true, false, length, nat_lt, Option, Some, None, if◌then◌else◌}
-use Rattle.ll_item.specs.Settings.{Configuration, number_end, last_micro}
+use Rattle.ll_attr.specs.YearEnd.{last_micro}
+use Rattle.ll_item.specs.Settings.{Configuration, number_end}
 use Rattle.ll_item.specs.declared.item.Item.{Item}
 use Rattle.ll_item.specs.declared.item.Item.TheVariants as item
 use Rattle.ll_window.specs.declared.part.Part.{Part}

@@ -1,7 +1,7 @@
 ghost use Rattle.std.specs.Prelude.{◌≡◌, ◌≢◌, ◌≤◌, ◌+◌, ◌-◌, ◌++◌, ◌∷◌, [], List, IfOk, IfErr, IfSome, MatchResult, OnOk, OnErr, IsErrOf, None, Some, length, nat_lt, true};
 ghost use Rattle.std.specs.Option.{option_map};
 ghost use Rattle.ll_item.specs.declared.item.Item.{Item};
-ghost use Rattle.ll_item.specs.Settings.{last_micro};
+ghost use Rattle.ll_attr.specs.YearEnd.{last_micro};
 ghost use Rattle.ll_window.specs.Compact.{compact, unfinished};
 ghost use Rattle.ll_window.specs.Compact as kept;
 ghost use Rattle.ll_window.specs.Refusal.{refusal, refusal_after, part_refusal};

@@ -10,7 +10,7 @@ use Rattle.httparse.specs.Grammar.{RequestHead, ReadsRequest, HasNoRequest, Neve
 use Rattle.httparse.specs.Spans.{name_and_value}
 use Rattle.ll_wire.specs.Reading.{read}
 use Rattle.ll_wire.specs.declared.fault.HeadFault.TheVariants.{HeadTooLarge, BadHead}
-use Rattle.ll_wire.specs.Heads.{Fault, Whole, RequestValue, head_value, IsWithin, Outcome, Going, Lost, outcome, verdict, unfinished, judged, judged_parts, first_fault, lacks_host, tells_body, field_texts, is_in_target, head_of}
+use Rattle.ll_wire.specs.Heads.{Fault, Whole, RequestValue, head_value, LiesIn, Outcome, Going, Lost, outcome, verdict, unfinished, judged, judged_parts, first_fault, lacks_host, tells_body, field_texts, is_in_target, head_of}
 use Rattle.ll_wire.proofs.ReadLemmas.{head_read}
 use Rattle.ll_wire.proofs.ValidLemmas.{may-goes, never-lost, no-target, target-goes}
 
@@ -59,26 +59,26 @@ slice_front : (a b : List ℕ) (i j : ℕ) → i ≤ j → j ≤ length a → sl
 slice_front a b i j le fits =
     ap (take (j - i)) (drop-append-le i a b (omega arith)) ∙ take-append-le (j - i) (drop i a) b (omega (arith, length-drop i a))
 
-front_found : (a b : List ℕ) (found : Head) → IsWithin a found → head_value (a ++ b) found ≡ head_value a found
+front_found : (a b : List ℕ) (found : Head) → LiesIn a found → head_value (a ++ b) found ≡ head_value a found
 front_found a b (head.Whole len request) w =
     ap (λ t. Whole (record { len = len; target = t; keep = request.keep })) (slice_front a b request.from request.to w.2 (omega (arith, w.1, w.2, w.3)))
 front_found a b head.Part w = refl
 front_found a b (head.Bad fault) w = refl
 
-front_within : (a b : List ℕ) (found : Head) → IsWithin a found → IsWithin (a ++ b) found
+front_within : (a b : List ℕ) (found : Head) → LiesIn a found → LiesIn (a ++ b) found
 front_within a b (head.Whole len request) w = (w.0, omega (arith, w.1, length-append a b), w.2, w.3)
 front_within a b head.Part w = tt
 front_within a b (head.Bad fault) w = tt
 
-module _ (bytes start : List ℕ) (is : start ≡ take 8192 bytes) (found : Head) (within : IsWithin start found) where
+module _ (bytes start : List ℕ) (is : start ≡ take 8192 bytes) (found : Head) (within : LiesIn start found) where
   whole_bytes : start ++ drop 8192 bytes ≡ bytes
   whole_bytes = ap (λ t. t ++ drop 8192 bytes) is ∙ take-append-drop 8192 bytes
 
   pub found_in_all : head_value bytes found ≡ head_value start found
   found_in_all = ap (λ t. head_value t found) (sym whole_bytes) ∙ front_found start (drop 8192 bytes) found within
 
-  pub within_all : IsWithin bytes found
-  within_all = subst (λ (t : List ℕ). IsWithin t found) whole_bytes (front_within start (drop 8192 bytes) found within)
+  pub within_all : LiesIn bytes found
+  within_all = subst (λ (t : List ℕ). LiesIn t found) whole_bytes (front_within start (drop 8192 bytes) found within)
 
 pub start-short : (bytes start : List ℕ) → start ≡ take 8192 bytes → length start < 3 * 2731
 start-short bytes start is = omega (arith, ap length is, length-take 8192 bytes)

@@ -3,7 +3,7 @@ use Rattle.std.specs.Prelude.{ℕ, ◌<◌, ◌≤◌, ⊤, List, Bool, true, fa
 use Rattle.std.specs.List.{list_any, prefix_len, suffix_len}
 use Rattle.std.specs.Char.{is_ascii_whitespace}
 use Rattle.std.specs.Str.{str_eq_ignore_ascii_case}
-use Rattle.ll_attr.specs.Words.{parts_at}
+use Rattle.ll_attr.specs.Words.{pieces_at}
 use Rattle.httparse.specs.Grammar.{RequestHead, print_request}
 use Rattle.httparse.specs.Spans.{name_and_value}
 use Rattle.ll_wire.specs.Reading.{Reading, Blank, BlankReturn, Method, Target, Version, LineStop, LineReturn, Lines, LinesReturn, Name, Value, ValueReturn, Wrong, read}
@@ -61,7 +61,7 @@ is_close member = str_eq_ignore_ascii_case (trimmed_back (trimmed_front member))
 
 -- the connection is closed after the answer: `close` is one of the tokens between commas
 abbrev pub tells_close : FieldText → Bool
-tells_close f = is_named (codes "Connection") f && list_any is_close (parts_at 44 f.1)
+tells_close f = is_named (codes "Connection") f && list_any is_close (pieces_at 44 f.1)
 
 -- ---- a whole head
 
@@ -155,7 +155,7 @@ head_value bytes (found.Bad fault) = Fault fault
 head_value bytes (found.Whole len request) = Whole (record { len = len; target = slice_range bytes request.from request.to; keep = request.keep })
 
 -- a request that was found lies in its head, and its head in the bytes
-abbrev pub IsWithin : List ℕ → Head → Type 0
-IsWithin bytes found.Part = ⊤
-IsWithin bytes (found.Bad fault) = ⊤
-IsWithin bytes (found.Whole len request) = (0 < len) × (len ≤ length bytes) × (request.from ≤ request.to) × (request.to ≤ len)
+abbrev pub LiesIn : List ℕ → Head → Type 0
+LiesIn bytes found.Part = ⊤
+LiesIn bytes (found.Bad fault) = ⊤
+LiesIn bytes (found.Whole len request) = (0 < len) × (len ≤ length bytes) × (request.from ≤ request.to) × (request.to ≤ len)

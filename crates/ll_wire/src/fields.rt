@@ -1,7 +1,7 @@
 //! What the fields of a head say.
 ghost use Rattle.std.specs.Prelude.{◌≡◌, All, length, map, count_by};
 ghost use Rattle.std.specs.List.{list_any};
-ghost use Rattle.ll_attr.specs.Words.{parts_at};
+ghost use Rattle.ll_attr.specs.Words.{pieces_at};
 ghost use Rattle.httparse.specs.Spans.{IsHeaderWithin, header_bytes};
 ghost use Rattle.ll_wire.specs.Heads as spec;
 
@@ -37,7 +37,7 @@ fn tells_close(bytes: &[u8], field: HeaderSpan) -> bool
 
 /// Whether the token `close` is a member of a list.
 fn has_close(value: &[u8]) -> bool
-    ensures { result ≡ list_any spec.is_close (parts_at 44 value.now) }
+    ensures { result ≡ list_any spec.is_close (pieces_at 44 value.now) }
 {
     value.split(|b| *b == b',').any(|member| is_close(member))
 }

@@ -3,7 +3,7 @@ ghost use Rattle.std.specs.Prelude.{◌≡◌, ◌<◌, ◌≤◌, All, length, 
 ghost use Rattle.httparse.specs.Grammar.{NeverHasRequest};
 ghost use Rattle.httparse.specs.Spans.{RequestOverflows, IsHeaderWithin, span_bytes, header_bytes};
 ghost use Rattle.httparse.specs.Spans as in_head;
-ghost use Rattle.ll_wire.specs.Heads.{head_of, head_value, unfinished, judged_parts, IsWithin};
+ghost use Rattle.ll_wire.specs.Heads.{head_of, head_value, unfinished, judged_parts, LiesIn};
 
 use crate::fault::HeadFault;
 use crate::fields::{any_tells_body, any_tells_close, hosts};
@@ -57,7 +57,7 @@ fn front(bytes: &[u8]) -> &[u8]
 /// What bytes come to in which a head is not at its end.
 fn unfinished(bytes: &[u8]) -> Head
     ensures value { head_value bytes.now result ≡ unfinished bytes.now }
-    ensures within { IsWithin bytes.now result }
+    ensures within { LiesIn bytes.now result }
 {
     if bytes.len() < MOST_BYTES {
         Head::Part
@@ -72,7 +72,7 @@ fn malformed(bytes: &[u8], start: &[u8]) -> Head
     requires front { start.now ≡ take 8192 bytes.now }
     requires never { NeverHasRequest start.now }
     ensures value { head_value bytes.now result ≡ head_of bytes.now }
-    ensures within { IsWithin bytes.now result }
+    ensures within { LiesIn bytes.now result }
 {
     if ends_in_target(start) {
         unfinished(bytes)
@@ -88,7 +88,7 @@ fn many_fields(bytes: &[u8], start: &[u8]) -> Head
     requires front { start.now ≡ take 8192 bytes.now }
     requires many { RequestOverflows 64 start.now }
     ensures value { head_value bytes.now result ≡ head_of bytes.now }
-    ensures within { IsWithin bytes.now result }
+    ensures within { LiesIn bytes.now result }
 {
     let mut headers = [EMPTY_HEADER_SPAN; ANY_FIELDS];
     match parse_request(start, &mut headers) {
@@ -109,7 +109,7 @@ fn judge(bytes: &[u8], fields: &[HeaderSpan], spans: RequestSpans) -> Head
     requires path { in_head.IsWithin spans.len spans.path }
     requires fields { All (IsHeaderWithin (length bytes.now)) fields.now }
     ensures parts { head_value bytes.now result ≡ judged_parts spans.len (span_bytes bytes.now spans.method) (span_bytes bytes.now spans.path) spans.version (map (header_bytes bytes.now) fields.now) }
-    ensures within { IsWithin bytes.now result }
+    ensures within { LiesIn bytes.now result }
 {
     if fields.len() > MOST_FIELDS {
         return Head::Bad(HeadFault::HeadTooLarge);
@@ -135,7 +135,7 @@ fn judge(bytes: &[u8], fields: &[HeaderSpan], spans: RequestSpans) -> Head
 /// the first fault. No more than 8,192 bytes are looked at. It takes no memory.
 pub fn next_head(bytes: &[u8]) -> Head
     ensures value { head_value bytes.now result ≡ head_of bytes.now }
-    ensures within { IsWithin bytes.now result }
+    ensures within { LiesIn bytes.now result }
 {
     let start = front(bytes);
     let mut headers = [EMPTY_HEADER_SPAN; MOST_FIELDS];

@@ -1,6 +1,6 @@
 -- Each line comes to what the definition says of it, whatever the events before.
 use Rattle.std.proofs.Common.{arith, sym}
-use Rattle.ll_attr.specs.Words.{parts_at}
+use Rattle.ll_attr.specs.Words.{pieces_at}
 use Rattle.ll_check.specs.Chain.{Inside, chain_of, checked_from}
 use Rattle.ll_check.proofs.LaterLemmas.{later-as}
 use Rattle.ll_check.proofs.ChunkLemmas.{after-line, wrong-line}
@@ -24,5 +24,5 @@ loop-line-preserved c = record {
 pub returns-in-Err-clause-memory : goal.returns-in-Err-clause-memory
 returns-in-Err-clause-memory c events stands =
     let s = c.loop-line.invariant.so_far events stands in
-    later-as c.in-Err.fault.entry (Inside c.args.keeper.now.settings) (chain_of c.args.keeper.now.settings s.more) (parts_at 10 c.loop-line.rest.now)
-    (checked_from (Inside c.args.keeper.now.settings) (chain_of c.args.keeper.now.settings events) (parts_at 10 c.args.text.now)) s.same (c.in-Err.ensures.wrong s.more s.stands).0
+    later-as c.in-Err.fault.entry (Inside c.args.keeper.now.settings) (chain_of c.args.keeper.now.settings s.more) (pieces_at 10 c.loop-line.rest.now)
+    (checked_from (Inside c.args.keeper.now.settings) (chain_of c.args.keeper.now.settings events) (pieces_at 10 c.args.text.now)) s.same (c.in-Err.ensures.wrong s.more s.stands).0

@@ -1,5 +1,5 @@
 use Rattle.std.specs.Prelude.{◌≤◌, List, length}
-use Rattle.ll_attr.specs.Words.{parts_at}
+use Rattle.ll_attr.specs.Words.{pieces_at}
 use Rattle.ll_check.specs.Found.{SoFar}
 use Rattle.ll_room.specs.Home.{Stands}
 use Rattle.ll_verdict.specs.Events.{Event}
@@ -8,7 +8,7 @@ use Rattle.ll_check.proofs.chunk.read_entries.Given as goal
 abbrev pub invariant-loop-line : goal.invariant-loop-line
 invariant-loop-line l = record {
   so_far : (events : List Event) → Stands l.initial.keeper events
-      → SoFar l.keeper l.initial.keeper.settings events (parts_at 10 l.initial.text) (parts_at 10 l.rest);
+      → SoFar l.keeper l.initial.keeper.settings events (pieces_at 10 l.initial.text) (pieces_at 10 l.rest);
   shorter : length l.rest ≤ length l.initial.text;
 }
 

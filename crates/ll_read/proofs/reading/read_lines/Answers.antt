@@ -1,6 +1,6 @@
 -- A line more is read, or is the first that can't stand in its place.
 use Rattle.std.proofs.Common.{None, Some, ◌++◌, ◌+◌, take, refl, ap, sym, ◌∙◌, arith, rules}
-use Rattle.ll_attr.specs.Words.{parts_at}
+use Rattle.ll_attr.specs.Words.{pieces_at}
 use Rattle.ll_line.specs.Formats.{line_in}
 use Rattle.ll_read.specs.Draft.{blank, plain}
 use Rattle.ll_read.specs.Ranges.{ranges_in, ranges_of}
@@ -21,11 +21,11 @@ returns-in_default-step-clause-refused c = λ no.
 pub loop-line-preserved : goal.loop-line-preserved
 loop-line-preserved c =
     let inv = c.loop-line.invariant.3 in
-    let parts = parts_at 10 c.args.text.now in
+    let parts = pieces_at 10 c.args.text.now in
     let count = c.loop-line.count in
     let shown = c.without_end.result.now in
     let s = c.in-Some-step.ensures inv.0 inv.1 in
-    let more = one_line count parts (parts_at 10 c.in-Some.below.now) c.in-Some.line.now (c.loop-line.invariant.1 ∙ c.in-Some.ensures.parts) in
+    let more = one_line count parts (pieces_at 10 c.in-Some.below.now) c.in-Some.line.now (c.loop-line.invariant.1 ∙ c.in-Some.ensures.parts) in
     let ranges = s.3 ∙ ap (λ rs. rs ++ ranges_in (line_in shown)) inv.1.1 ∙ ap (λ l. ranges_of (take count parts) ++ ranges_in (line_in l)) c.without_end.ensures ∙ sym more.1 in (
       search rules,
       more.0,

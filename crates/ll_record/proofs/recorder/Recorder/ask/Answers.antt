@@ -4,7 +4,7 @@ use Rattle.ll_entry.specs.Lines.{IsSpelled, entry_line}
 use Rattle.ll_entry.specs.declared.entry.Recorded.{Recorded}
 use Rattle.ll_entry.specs.declared.entry.Recorded.TheVariants as recorded
 use Rattle.ll_item.specs.Settings.{limit_broken}
-use Rattle.ll_record_laws.specs.Leads.{ended}
+use Rattle.ll_record_laws.specs.Leads.{with_end}
 use Rattle.ll_room.specs.Answers.{new_tickets}
 use Rattle.ll_verdict.specs.Events.{Event, Ask}
 use Rattle.ll_record.proofs.Spare.{one-new, spare-left-more, spare-more}
@@ -31,7 +31,7 @@ told c = record {
   next = record {
     room = c.ask.ensures.same;
     at = refl;
-    lines = c.put.ensures.lines ∙ ap₂ (λ lines line. lines ++ ended line) c.reserve.ensures.lines (line-is c);
+    lines = c.put.ensures.lines ∙ ap₂ (λ lines line. lines ++ with_end line) c.reserve.ensures.lines (line-is c);
     calls = refl;
   };
 }

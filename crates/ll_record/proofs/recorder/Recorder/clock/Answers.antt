@@ -3,7 +3,7 @@ use Rattle.std.specs.Str.{is_utf8}
 use Rattle.ll_entry.specs.Lines.{entry_line}
 use Rattle.ll_entry.specs.declared.entry.Recorded.TheVariants as recorded
 use Rattle.ll_item.specs.Settings.{limit_broken}
-use Rattle.ll_record_laws.specs.Leads.{ended}
+use Rattle.ll_record_laws.specs.Leads.{with_end}
 use Rattle.ll_verdict.specs.Events.{Event, Clock}
 use Rattle.ll_record.proofs.Spare.{spare-left, spare-same}
 use Rattle.ll_record.proofs.Steps.{IsTold, at-view, clock-step, kept-after}
@@ -24,7 +24,7 @@ told c = record {
   next = record {
     room = c.clock.ensures.same;
     at = refl;
-    lines = c.put.ensures.lines ∙ ap₂ (λ lines line. lines ++ ended line) c.reserve.ensures.lines (line-is c);
+    lines = c.put.ensures.lines ∙ ap₂ (λ lines line. lines ++ with_end line) c.reserve.ensures.lines (line-is c);
     calls = refl;
   };
 }

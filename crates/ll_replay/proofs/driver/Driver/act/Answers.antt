@@ -1,7 +1,7 @@
 -- The answer to an act was written.
-use Rattle.ll_replay.specs.World.{act}
+use Rattle.ll_replay.specs.Script.{act}
 use Rattle.ll_replay.proofs.DriverLemmas.{said, said-cut, stops-before}
-use Rattle.ll_replay.proofs.WorldLaws.{act-follows}
+use Rattle.ll_replay.proofs.ScriptLaws.{act-follows}
 use Rattle.ll_replay.proofs.driver.Driver.act.Goals as goal
 
 pub returns-in-Ok-clause-ok : goal.returns-in-Ok-clause-ok

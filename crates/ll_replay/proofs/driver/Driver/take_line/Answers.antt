@@ -2,7 +2,7 @@
 use Rattle.std.proofs.Common.{◌≤◌, Err, ap, arith, length, subst, sym}
 use Rattle.ll_replay.specs.Kept.{Stands}
 use Rattle.ll_replay.specs.contracts.driver.Driver.{the_view}
-use Rattle.ll_script.specs.Lines.{listed}
+use Rattle.ll_script.specs.Lines.{meant_acts}
 use Rattle.ll_replay.proofs.TakeLemmas.{take-acts, take-bad, take-cut, take-nowhere, take-too_long}
 use Rattle.ll_replay.proofs.driver.Driver.take_line.Goals as goal
 
@@ -13,12 +13,12 @@ returns-then-text-gt-LONGEST_LINE-clause-cut g c w base s =
 pub returns-in-Ok-clause-ok : goal.returns-in-Ok-clause-ok
 returns-in-Ok-clause-ok g c =
     let short : length c.args.text.now ≤ 65536 = omega arith in
-    take-acts (the_view c.self.inside) _ c.acts.new.self _ _ c.args.text.now (listed c.self.inside.declared c.in-Ok.acts) c.acts.result c.self.view_is short c.in-Ok.ensures.acts c.acts.ensures.ok
+    take-acts (the_view c.self.inside) _ c.acts.new.self _ _ c.args.text.now (meant_acts c.self.inside.declared c.in-Ok.acts) c.acts.result c.self.view_is short c.in-Ok.ensures.acts c.acts.ensures.ok
 
 pub returns-in-Ok-clause-cut : goal.returns-in-Ok-clause-cut
 returns-in-Ok-clause-cut g c =
     let short : length c.args.text.now ≤ 65536 = omega arith in
-    take-cut (the_view c.self.inside) _ _ _ c.args.text.now (listed c.self.inside.declared c.in-Ok.acts) c.acts.result c.self.view_is short c.in-Ok.ensures.acts c.acts.ensures.cut
+    take-cut (the_view c.self.inside) _ _ _ c.args.text.now (meant_acts c.self.inside.declared c.in-Ok.acts) c.acts.result c.self.view_is short c.in-Ok.ensures.acts c.acts.ensures.cut
 
 pub returns-in-Err-BadLine-clause-cut : goal.returns-in-Err-BadLine-clause-cut
 returns-in-Err-BadLine-clause-cut g c w base s =

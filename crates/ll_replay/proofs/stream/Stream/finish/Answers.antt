@@ -1,5 +1,5 @@
 -- At the end the open line is the last line, if it has bytes; else the ended lines are all.
-use Rattle.ll_replay.specs.World.{line}
+use Rattle.ll_replay.specs.Script.{line}
 use Rattle.ll_replay.specs.Stream.{world_so_far}
 use Rattle.ll_replay.proofs.RunLemmas.{IfErr-handed}
 use Rattle.ll_replay.proofs.StreamLemmas.{IsWhole-all_ended, IsWhole-last_line, end-cut, no_bytes, some_bytes}

@@ -25,7 +25,8 @@ pub data Ending : Type 0 where
   BadLine : ℕ → Ending
   LineTooLong : ℕ → Ending
 
-pub record World : Type 0 where
+-- what the lines so far came to
+pub record Script : Type 0 where
   -- the channels, and the requests that wait in them; what they answered is written
   pub rooms : rooms.World
   -- the connections, of which all answers are written
@@ -40,7 +41,7 @@ pub record World : Type 0 where
   pub text : List ℕ
   pub ending : Option Ending
 
-abbrev pub start : World
+abbrev pub start : Script
 start = record { rooms = rooms.start; connections = []; lines = 0; last_id = None; replies = 0; text = []; ending = None }
 
 -- ---- answers
@@ -82,26 +83,26 @@ abbrev pub reply_count : List answer.Answer → ℕ
 reply_count answers = length (filter is_reply answers)
 
 -- what the rooms have come to, and what they answered is written
-abbrev pub heard : World → rooms.World → World
+abbrev pub heard : Script → rooms.World → Script
 heard w v = record w { rooms = silent v; replies = w.replies + reply_count v.answers; text = w.text ++ flat_map spelled v.answers }
 
-abbrev pub says : World → List ℕ → World
+abbrev pub says : Script → List ℕ → Script
 says w text = record w { text = w.text ++ text }
 
-abbrev pub asked_under : World → ℕ → World
+abbrev pub asked_under : Script → ℕ → Script
 asked_under w id = record w { last_id = Some id }
 
 -- a request that is no event of any channel
-abbrev pub replied : World → ℕ → List ℕ → World
+abbrev pub replied : Script → ℕ → List ℕ → Script
 replied w id text = record w { text = w.text ++ text; replies = w.replies + 1; last_id = Some id }
 
 -- what came of something that came to a connection
-abbrev pub turned : World → connection.Turn → World
+abbrev pub turned : Script → connection.Turn → Script
 turned w t = record w { rooms = silent t.rooms; connections = t.connections; replies = w.replies + t.replies; text = w.text ++ t.text }
 
 -- ---- acts
 
-abbrev pub act : World → Act → World
+abbrev pub act : Script → Act → Script
 act w (Declare settings) = heard w (rooms.declare settings w.rooms)
 act w (Offer place item) = heard w (rooms.offer place item w.rooms)
 act w (Refuse reason) = says w (no_line reason)
@@ -114,26 +115,26 @@ act w (Bytes n piece) = turned w (connection.bytes n piece w.connections w.rooms
 act w (Drop n) = turned w (connection.end n w.connections w.rooms)
 
 -- a reply is passed on to the connection that asked for it, which then makes its next requests
-abbrev pub passed_to : Owner → Reply → World → World
+abbrev pub passed_to : Owner → Reply → Script → Script
 passed_to (Get id) reply w = w
 passed_to (Connection n) reply w = turned w (connection.reply n reply w.connections w.rooms)
 
-abbrev pub passed_on : World → answer.Answer → World
+abbrev pub passed_on : Script → answer.Answer → Script
 passed_on w (said.Accepted count) = w
 passed_on w (said.Refused reason) = w
 passed_on w (said.ClockRefused reason) = w
 passed_on w (said.Replied owner reply) = passed_to owner reply w
 passed_on w (said.Unavailable owner) = w
 
-abbrev pub ticked : World → rooms.World → World
+abbrev pub ticked : Script → rooms.World → Script
 ticked w v = fold passed_on (heard w v) v.answers
 
 -- of the replies of the channel at this place that are due, the one asked for first is written
-abbrev pub tick : ℕ → World → World
+abbrev pub tick : ℕ → Script → Script
 tick place w = ticked w (rooms.tick place w.rooms)
 
 -- all replies of the channel at this place that are due are written: no more than requests wait
-abbrev pub rest_at : ℕ → World → World
+abbrev pub rest_at : ℕ → Script → Script
 rest_at place w = rooms.repeat (tick place) (length w.rooms.waits) w
 
 -- the channel in which an act may make replies due: only an item and a reading of the clock make any due
@@ -150,42 +151,42 @@ makes_due (Bytes n piece) = None
 makes_due (Drop n) = None
 
 -- what happens by itself after an act: the replies that it made due are written
-abbrev pub rest : Option ℕ → World → World
+abbrev pub rest : Option ℕ → Script → Script
 rest None w = w
 rest (Some place) w = rest_at place w
 
-abbrev pub done : World → Act → World
+abbrev pub done : Script → Act → Script
 done w a = rest (makes_due a) (act w a)
 
 -- ---- lines
 
-abbrev pub acted : World → Option (List Act) → World
+abbrev pub acted : Script → Option (List Act) → Script
 acted w None = record w { ending = Some (BadLine w.lines) }
 acted w (Some list) = fold done w list
 
-abbrev pub counted : World → World
+abbrev pub counted : Script → Script
 counted w = record w { lines = w.lines + 1 }
 
 -- the most bytes of a line, without its end
 abbrev pub longest_line : ℕ
 longest_line = 65536
 
-abbrev pub read_by : Bool → World → List ℕ → World
+abbrev pub read_by : Bool → Script → List ℕ → Script
 read_by true w text = record (counted w) { ending = Some (LineTooLong (w.lines + 1)) }
 read_by false w text = acted (counted w) (acts (all_settings w.rooms) w.last_id text)
 
-abbrev pub line_by : Option Ending → World → List ℕ → World
+abbrev pub line_by : Option Ending → Script → List ℕ → Script
 line_by (Some ending) w text = w
 line_by None w text = read_by (nat_lt longest_line (length text)) w text
 
 -- one more line; none is read after one that ends the script
-unfoldable pub line : World → List ℕ → World
+unfoldable pub line : Script → List ℕ → Script
 line w text = line_by w.ending w text
 
 -- ---- the summary
 
 -- the events that lines brought, and the replies; both count up to 2^64 - 1
-abbrev pub summary_of : World → Summary
+abbrev pub summary_of : Script → Summary
 summary_of w = record {
   events = rooms.event_count w.rooms;
   replies = min w.replies rooms.count_end;

@@ -16,27 +16,27 @@ use Rattle.ll_verdict.specs.declared.reply.Reply.{Reply}
 use Rattle.ll_world.specs.World as rooms
 use Rattle.ll_world.specs.declared.answer.Answer as answer
 use Rattle.ll_world.specs.declared.answer.Answer.TheVariants as said
-use Rattle.ll_replay.specs.World.{World, Ending, LineTooLong, act, acted, counted, done, heard, line, line_by, makes_due, passed_on, passed_to, read_by, rest, spelled, tick, turned}
+use Rattle.ll_replay.specs.Script.{Script, Ending, LineTooLong, act, acted, counted, done, heard, line, line_by, makes_due, passed_on, passed_to, read_by, rest, spelled, tick, turned}
 
 -- a world that says more and ends as the first
-abbrev pub Follows : World → World → Type 0
+abbrev pub Follows : Script → Script → Type 0
 Follows w v = (more : List ℕ) × (v.text ≡ w.text ++ more) × (v.ending ≡ w.ending)
 
-pub follows_itself : (w v : World) → v.text ≡ w.text → v.ending ≡ w.ending → Follows w v
+pub follows_itself : (w v : Script) → v.text ≡ w.text → v.ending ≡ w.ending → Follows w v
 follows_itself w v t e = ([], t ∙ sym (append-nil w.text), e)
 
-pub follows_both : (u v w : World) → Follows u v → Follows v w → Follows u w
+pub follows_both : (u v w : Script) → Follows u v → Follows v w → Follows u w
 follows_both u v w a b = (a.0 ++ b.0, b.1 ∙ ap (λ t. t ++ b.0) a.1 ∙ append_assoc u.text a.0 b.0, b.2 ∙ a.2)
 
 -- what the rooms answered is written
-heard-follows : (w : World) (v : rooms.World) → Follows w (heard w v)
+heard-follows : (w : Script) (v : rooms.World) → Follows w (heard w v)
 heard-follows w v = (flat_map spelled v.answers, refl, refl)
 
 -- what is sent on a connection is written
-turned-follows : (w : World) (t : connection.Turn) → Follows w (turned w t)
+turned-follows : (w : Script) (t : connection.Turn) → Follows w (turned w t)
 turned-follows w t = (t.text, refl, refl)
 
-pub act-follows : (w : World) (a : Act) → Follows w (act w a)
+pub act-follows : (w : Script) (a : Act) → Follows w (act w a)
 act-follows w (Declare settings) = heard-follows w (rooms.declare settings w.rooms)
 act-follows w (Offer place item) = heard-follows w (rooms.offer place item w.rooms)
 act-follows w (Refuse reason) = (no_line reason, refl, refl)
@@ -48,72 +48,72 @@ act-follows w RefuseClock = (clock_line refused.ClockRange, refl, refl)
 act-follows w (Bytes n piece) = turned-follows w (connection.bytes n piece w.connections w.rooms)
 act-follows w (Drop n) = turned-follows w (connection.end n w.connections w.rooms)
 
-passed_to-follows : (w : World) (o : Owner) (r : Reply) → Follows w (passed_to o r w)
+passed_to-follows : (w : Script) (o : Owner) (r : Reply) → Follows w (passed_to o r w)
 passed_to-follows w (Get id) r = follows_itself w w refl refl
 passed_to-follows w (Connection n) r = turned-follows w (connection.reply n r w.connections w.rooms)
 
-passed_on-follows : (w : World) (a : answer.Answer) → Follows w (passed_on w a)
+passed_on-follows : (w : Script) (a : answer.Answer) → Follows w (passed_on w a)
 passed_on-follows w (said.Accepted count) = follows_itself w w refl refl
 passed_on-follows w (said.Refused reason) = follows_itself w w refl refl
 passed_on-follows w (said.ClockRefused reason) = follows_itself w w refl refl
 passed_on-follows w (said.Replied o r) = passed_to-follows w o r
 passed_on-follows w (said.Unavailable o) = follows_itself w w refl refl
 
-all_passed_on-follow : (w : World) (answers : List answer.Answer) → Follows w (fold passed_on w answers)
+all_passed_on-follow : (w : Script) (answers : List answer.Answer) → Follows w (fold passed_on w answers)
 all_passed_on-follow w [] = follows_itself w w refl refl
 all_passed_on-follow w (a ∷ answers) = follows_both w (passed_on w a) (fold passed_on (passed_on w a) answers) (passed_on-follows w a) (all_passed_on-follow (passed_on w a) answers)
 
-pub tick-follows : (place : ℕ) (w : World) → Follows w (tick place w)
+pub tick-follows : (place : ℕ) (w : Script) → Follows w (tick place w)
 tick-follows place w =
     let v = rooms.tick place w.rooms in
     follows_both w (heard w v) (tick place w) (heard-follows w v) (all_passed_on-follow (heard w v) v.answers)
 
-pub ticks-follow : (place n : ℕ) (w : World) → Follows w (rooms.repeat (tick place) n w)
+pub ticks-follow : (place n : ℕ) (w : Script) → Follows w (rooms.repeat (tick place) n w)
 ticks-follow place zero w = follows_itself w w refl refl
 ticks-follow place (suc n) w =
     follows_both w (rooms.repeat (tick place) n w) (tick place (rooms.repeat (tick place) n w)) (ticks-follow place n w)
     (tick-follows place (rooms.repeat (tick place) n w))
 
-pub rest-follows : (w : World) (place : Option ℕ) → Follows w (rest place w)
+pub rest-follows : (w : Script) (place : Option ℕ) → Follows w (rest place w)
 rest-follows w None = follows_itself w w refl refl
 rest-follows w (Some place) = ticks-follow place (length w.rooms.waits) w
 
-pub done-follows : (w : World) (a : Act) → Follows w (done w a)
+pub done-follows : (w : Script) (a : Act) → Follows w (done w a)
 done-follows w a = follows_both w (act w a) (done w a) (act-follows w a) (rest-follows (act w a) (makes_due a))
 
-pub acted-follows : (w : World) (list : List Act) → Follows w (acted w (Some list))
+pub acted-follows : (w : Script) (list : List Act) → Follows w (acted w (Some list))
 acted-follows w [] = follows_itself w w refl refl
 acted-follows w (a ∷ list) = follows_both w (done w a) (acted (done w a) (Some list)) (done-follows w a) (acted-follows (done w a) list)
 
-abbrev Adds : World → World → Type 0
+abbrev Adds : Script → Script → Type 0
 Adds w v = (more : List ℕ) × (v.text ≡ w.text ++ more)
 
-acted-text : (w : World) (o : Option (List Act)) → Adds w (acted w o)
+acted-text : (w : Script) (o : Option (List Act)) → Adds w (acted w o)
 acted-text w None = ([], sym (append-nil w.text))
 acted-text w (Some list) = let f = acted-follows w list in (f.0, f.1)
 
-read_by-text : (b : Bool) (w : World) (l : List ℕ) → Adds w (read_by b w l)
+read_by-text : (b : Bool) (w : Script) (l : List ℕ) → Adds w (read_by b w l)
 read_by-text true w l = ([], sym (append-nil w.text))
 read_by-text false w l = acted-text (counted w) (acts (rooms.all_settings w.rooms) w.last_id l)
 
-line_by-text : (o : Option Ending) (w : World) (l : List ℕ) → Adds w (line_by o w l)
+line_by-text : (o : Option Ending) (w : Script) (l : List ℕ) → Adds w (line_by o w l)
 line_by-text (Some e) w l = ([], sym (append-nil w.text))
 line_by-text None w l = read_by-text (nat_lt 65536 (length l)) w l
 
-pub line-text : (w : World) (l : List ℕ) → (more : List ℕ) × ((line w l).text ≡ w.text ++ more)
+pub line-text : (w : Script) (l : List ℕ) → (more : List ℕ) × ((line w l).text ≡ w.text ++ more)
 unfolding line
 line-text w l = line_by-text w.ending w l
 
-pub line-ended : (w : World) (l : List ℕ) (e : Ending) → w.ending ≡ Some e → line w l ≡ w
+pub line-ended : (w : Script) (l : List ℕ) (e : Ending) → w.ending ≡ Some e → line w l ≡ w
 unfolding line
 line-ended w l e h = ap (λ o. line_by o w l) h
 
-line-read : (w : World) (l : List ℕ) (b : Bool) → w.ending ≡ None → nat_lt 65536 (length l) ≡ b → line w l ≡ read_by b w l
+line-read : (w : Script) (l : List ℕ) (b : Bool) → w.ending ≡ None → nat_lt 65536 (length l) ≡ b → line w l ≡ read_by b w l
 unfolding line
 line-read w l b h e = ap (λ o. line_by o w l) h ∙ ap (λ t. read_by t w l) e
 
 -- a line that isn't too long, by what it means
-pub line-means : (w : World) (l : List ℕ) (o : Option (List Act)) → w.ending ≡ None → length l ≤ 65536 → acts (rooms.all_settings w.rooms) w.last_id l ≡ o
+pub line-means : (w : Script) (l : List ℕ) (o : Option (List Act)) → w.ending ≡ None → length l ≤ 65536 → acts (rooms.all_settings w.rooms) w.last_id l ≡ o
     → line w l ≡ acted (counted w) o
 line-means w l o goes_on short means =
     let fits : nat_lt 65536 (length l) ≡ false = at_most 65536 (length l) short in
@@ -125,8 +125,8 @@ line-means w l o goes_on short means =
 is_above : (a b : ℕ) → a < b → nat_lt a b ≡ true
 is_above a b h = grind (arith, nat_tests)
 
-pub line-too-long : (w : World) (l : List ℕ) → w.ending ≡ None → 65536 < length l
+pub line-too-long : (w : Script) (l : List ℕ) → w.ending ≡ None → 65536 < length l
     → ((line w l).ending ≡ Some (LineTooLong (w.lines + 1))) × ((line w l).text ≡ w.text)
 line-too-long w l h long =
     let e = line-read w l true h (is_above 65536 (length l) long) in
-    (ap (λ (v : World). v.ending) e, ap (λ (v : World). v.text) e)
+    (ap (λ (v : Script). v.ending) e, ap (λ (v : Script). v.text) e)
