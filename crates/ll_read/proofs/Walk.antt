@@ -30,6 +30,10 @@ Comes stage d lines p = (so_far stage d lines ≡ lines_of p) × IsWhole p × (o
 abbrev Rest : List Line → Playlist → Type 0
 Rest more p = (stage : Stage) (d : Draft) → Holds stage d → come (Some (reading_at stage d)) more ≡ Some p → Comes stage d more p
 
+-- a line that may not stand there
+never : {A : Type 0} (p : Playlist) → None ≡ Some p → A
+never p h = absurd (cc)
+
 -- lines that are those of a later stage and more
 onward : (lines : List Line) (stage : Stage) (d : Draft) (more : List Line) (p : Playlist) → lines ≡ so_far stage d more → Comes stage d more p
     → (lines ≡ lines_of p) × IsWhole p × (outline_with (outline_of (known stage d).playlist) more ≡ outline_of p)
@@ -72,7 +76,7 @@ ending stage d (RenditionReport r) more p g rest h =
     (ap (λ l. segmented d.playlist (open_lines d.playlist.open_block ++ l)) (sym (map_last RenditionReport d.playlist.reports r more))) (rest InReports e g h)
 ending stage d (Hint uri) more p g rest h = rest AtEnd (put (Hint uri) (known InReports d)) g h
 ending stage d EndList more p g rest h = rest AtEnd (put EndList (known InReports d)) g h
-ending stage d line more p g rest h = absurd (cc)
+ending stage d line more p g rest h = never p h
 
 -- a block that stays open
 stays_open : (b : Block) (q : Playlist) (line : Line) (s : Shape) (more : List Line)
@@ -164,9 +168,9 @@ step InSegment d (Part part) more p g rest h =
     onward _ InParts e more p (ap (segmented d.playlist) (part_more b part more)) (rest InParts e (g.0, g.1, not-true (is_empty (b.parts ++ part ∷ [])) (some_last b.parts part)) h)
 step InSegment d (Duration n) more p g rest h = rest AfterDuration (put (Duration n) (known InSegment d)) g h
 step AfterDuration d (Uri uri) more p g rest h = finished d uri more p g rest h
-step stage d line more p g rest h = absurd (cc)
+step stage d line more p g rest h = never p h
 
 pub walk : (stage : Stage) (d : Draft) (lines : List Line) (p : Playlist) → Holds stage d → come (Some (reading_at stage d)) lines ≡ Some p → Comes stage d lines p
 walk AtEnd d [] p g h = let e : d.playlist ≡ p = cc in (ap lines_of e, subst IsWhole e g, ap outline_of e)
-walk stage d [] p g h = absurd (cc)
+walk stage d [] p g h = never p h
 walk stage d (line ∷ more) p g h = step stage d line more p g (λ t e. walk t e more p) h
