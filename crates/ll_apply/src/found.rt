@@ -9,7 +9,7 @@ use std::alloc::Global;
 
 /// What a text spells. Where no memory is found for the playlist its outline is told alone, so that each fault of the texts
 /// comes before out of memory.
-#[derive(Debug, Drop)]
+#[derive(Drop)]
 pub(crate) struct Found {
     pub(crate) outline: Outline,
     pub(crate) playlist: Option<Playlist>,

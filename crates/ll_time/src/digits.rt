@@ -5,7 +5,7 @@ ghost use Rattle.ll_time.specs.Times.{digits_2, digits_3, digits_4};
 use std::fmt;
 
 /// A number's last two decimal digits.
-#[derive(Clone, Copy, Debug)]
+#[derive(Clone, Copy)]
 pub(crate) struct TwoDigits(pub(crate) u64);
 
 #[tactic(auto, unfolding(crate::specs::Times::digits_2))]
@@ -19,7 +19,7 @@ impl fmt::Display for TwoDigits {
 }
 
 /// A number's last three decimal digits.
-#[derive(Clone, Copy, Debug)]
+#[derive(Clone, Copy)]
 pub(crate) struct ThreeDigits(pub(crate) u64);
 
 #[tactic(auto, unfolding(crate::specs::Times::digits_3))]
@@ -33,7 +33,7 @@ impl fmt::Display for ThreeDigits {
 }
 
 /// A number's last four decimal digits.
-#[derive(Clone, Copy, Debug)]
+#[derive(Clone, Copy)]
 pub(crate) struct FourDigits(pub(crate) u64);
 
 #[tactic(auto, unfolding(crate::specs::Times::digits_4))]
