@@ -18,7 +18,7 @@ use std::alloc::{AllocError, Global};
 use std::marker::Model;
 
 /// The playlist so far, and what its next segment begins with.
-#[derive(Debug, Drop)]
+#[derive(Drop)]
 pub(crate) struct Draft {
     pub(crate) playlist: Playlist,
     /// Whether the next segment is broken from the one before it.

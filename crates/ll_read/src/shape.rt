@@ -6,7 +6,7 @@ ghost use Rattle.ll_read.specs.Shape as spec;
 use ll_line::Line;
 
 /// After which line one stands.
-#[derive(Clone, Copy, Debug)]
+#[derive(Clone, Copy)]
 pub(crate) enum Stage {
     /// After none.
     AtStart,
@@ -38,7 +38,7 @@ pub(crate) enum Stage {
 }
 
 /// Where in a playlist one stands, with just what decides which line may follow.
-#[derive(Clone, Copy, Debug)]
+#[derive(Clone, Copy)]
 pub(crate) struct Shape {
     pub(crate) stage: Stage,
     /// Whether the segments may end where no segment is open: after a skip line there has to be one.
