@@ -70,11 +70,12 @@ fn read_lines(alloc: Global, text: &str) -> Result<Playlist, ReadFault>
         let Some((line, below)) = cut(rest, '\n') else {
             return ended(rest, shape, draft, number);
         };
-        let Some((next, grown)) = step(alloc, shape, draft, text, count, without_end(line)) else {
+        let Some((next, line)) = allowed(alloc, shape, &draft, text, count, without_end(line))
+        else {
             return Err(ReadFault::BadLine { line: number });
         };
         shape = next;
-        draft = grown;
+        draft = grown(draft, alloc, &line);
         rest = below;
         count += 1;
     }
@@ -95,23 +96,23 @@ fn ended(rest: &str, shape: Shape, draft: Option<Draft>, number: u64) -> Result<
     }
 }
 
-/// Where one stands after one more line, if it may stand there.
-fn step(
+/// One more line, and where one stands after it, if it may stand there.
+fn allowed<'a>(
     alloc: Global,
     shape: Shape,
-    draft: Option<Draft>,
+    draft: &Option<Draft>,
     text: &str,
     count: usize,
-    line: &str,
-) -> Option<(Shape, Option<Draft>)>
-    ensures { (d : Draft) → IsAfter (take count (pieces_at 10 text.now)) draft d → MatchOption result (next_line (at shape d) (line_in line.now) ≡ None)
-        (λ s. (e : Draft) × (next_line (at shape d) (line_in line.now) ≡ Some (at s.0 e)) × drafted s.1 e
-        × (e.playlist.ranges ≡ d.playlist.ranges ++ ranges_in (line_in line.now))) }
+    line: &'a str,
+) -> Option<(Shape, Line<'a>)>
+    ensures { (d : Draft) → IsAfter (take count (pieces_at 10 text.now)) draft.now d → MatchOption result (next_line (at shape d) (line_in line.now) ≡ None)
+        (λ s. (next_line (at shape d) (line_in line.now) ≡ Some (at s.0 (put (meant s.1) d)))
+        × ((put (meant s.1) d).playlist.ranges ≡ d.playlist.ranges ++ ranges_in (line_in line.now))) }
 {
     let line = Line::read(alloc, line)?;
-    let is_new = is_new(alloc, &draft, text, count, &line);
+    let is_new = is_new(alloc, draft, text, count, &line);
     let shape = shape.next(&line, is_new)?;
-    Some((shape, grown(draft, alloc, &line)))
+    Some((shape, line))
 }
 
 /// The draft with a line more, while memory is found.
