@@ -1,8 +1,8 @@
 #!/usr/bin/env bash
-# Proves every crate from nothing, runs the crates' tests, and then each row of tests/rows: as `rt try --cases` builds the
-# program, with checks, and on the proved program, as each compiler of the toolchain builds it. Beside these run, on the proved program, devices that give
-# and take a few bytes at a time, large inputs, mutated playlists, mutated records, the bytes of connections cut in every way, and mutated heads; and then,
-# by themselves, the server with real sockets, and its records. The last line is the sum.
+# Proves every crate from nothing and runs the crates' tests. Beside that, each row of tests/rows runs as `rt try --cases` builds the program, with checks and
+# from the sources alone. Then each row runs on the proved program, as each compiler of the toolchain builds it; beside these, on the proved program, devices
+# that give and take a few bytes at a time, large inputs, mutated playlists, mutated records, the bytes of connections cut in every way, and mutated heads;
+# and then, by themselves, the server with real sockets, and its records. The last line is the sum.
 set -u
 cd "$(dirname "${BASH_SOURCE[0]}")/.." || exit 2
 room=$(mktemp -d) || exit 2
@@ -29,8 +29,8 @@ add() {
     fi
 }
 
-# alone WORDS..: runs a command with nothing beside it.
-alone() {
+# show WORDS..: runs a command, and shows what it says as it comes.
+show() {
     echo "== $*"
     "$@" 2>&1 | tee "$room/log"
     add "${PIPESTATUS[0]}" "$room/log" "$@"
@@ -58,8 +58,8 @@ finish() {
     commands=()
 }
 
-alone rt ci
 start tests/try_rows.sh
+show rt ci
 for name in mutated_playlists mutated_records connections mutated_heads short_devices large rows; do
     start "tests/$name.sh" "$program"
 done
@@ -68,7 +68,7 @@ if [ -e "$by_rattle" ]; then
 fi
 finish
 for name in serve record; do
-    alone "tests/$name.sh" "$program"
+    show "tests/$name.sh" "$program"
 done
 echo "$passed passed, $failed failed"
 [ "$failed" = 0 ]
