@@ -7,7 +7,6 @@ use Rattle.std.specs.Result.{is_ok}
 use Rattle.std.specs.Str.{is_utf8, IsUtf8}
 use Rattle.ll_attr.specs.Attributes.{attributes_in, attributes_of, attribute_in, attribute_spelling, spelling, value_spelling, value_by, value_in, parts_outside, is_attribute_name, is_name_byte, is_bare, is_bare_byte, is_quoted_byte, is_equals}
 use Rattle.ll_attr.specs.Reading.{name_of, is_named}
-use Rattle.ll_attr.specs.Words.{pieces_at}
 use Rattle.ll_attr.specs.declared.attributes.Attribute.{Attribute}
 use Rattle.ll_attr.specs.declared.attributes.AttrValue.{AttrValue}
 use Rattle.ll_attr.specs.declared.attributes.AttrValue.TheVariants.{Quoted, Bare}
