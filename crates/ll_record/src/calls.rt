@@ -1,21 +1,28 @@
 //! Items, requests and readings, each with its line.
-ghost use Rattle.std.specs.Prelude.{◌≡◌, ◌≢◌, ◌+◌, ◌<◌, ◌≤◌, ◌^◌, ◌++◌, ◌∷◌, [], List, IfErr, IfOk, IsErrOf, None, OnErr, OnOk, Some, true, false, ◌||◌};
+ghost use Rattle.std.specs.Prelude.{◌≡◌, ◌≢◌, ◌+◌, ◌*◌, ◌<◌, ◌≤◌, ◌^◌, ◌++◌, ◌∷◌, [], List, IfErr, IfOk, IsErrOf, None, OnErr, OnOk, Some, length, string_bytes, true, false, ◌||◌};
+ghost use Rattle.ll_entry.specs.Lines.{IsSpelled, entry_line};
+ghost use Rattle.ll_entry.specs.declared.entry.Recorded.TheVariants as recorded;
 ghost use Rattle.ll_item.specs.Items.{rendition_of};
+ghost use Rattle.ll_item.specs.Settings.{Configuration};
+ghost use Rattle.ll_record.specs.Kept.{spare};
 ghost use Rattle.ll_record.specs.Recording.{GoesOn, IsRecorded, is_record_full, of_channel, record_refusal};
 ghost use Rattle.ll_room.specs.Answers.{asked, new_tickets, others};
 ghost use Rattle.ll_room.specs.Full.{event_end, is_full};
 ghost use Rattle.ll_room.specs.Home.{tickets};
 ghost use Rattle.ll_room.specs.declared.stamped.Stamp.TheVariants as stamp;
+ghost use Rattle.ll_spelling.specs.Lines.{HasAttributes};
 ghost use Rattle.ll_verdict.specs.Events.{Event, Ask, Clock, Publish};
 ghost use Rattle.ll_verdict.specs.Verdict.{at_once, held};
 
 use crate::fault::ReadingFault;
+use crate::lines::Lines;
 use crate::recorder::{RECORD_END, Recorder};
 use ll_directive::Want;
 use ll_entry::{ask_line, clock_line, publish_line};
 use ll_item::Item;
-use ll_room::{AskFault, Asked, LAST_TIME, Stamped};
-use ll_verdict::PublishFault;
+use ll_room::{AskFault, Asked, LAST_TIME, Room, Stamped};
+use ll_verdict::{Outcome, PublishFault};
+use std::alloc::{AllocError, Global};
 
 impl Recorder {
     /// Accepts an item, as [`ll_room::Room::publish`] does, or answers the first rule that refuses it; that the record is full comes
@@ -46,16 +53,12 @@ impl Recorder {
             return Err(PublishFault::RecordFull);
         }
         room.settings().within_limits();
-        let Ok(line) = publish_line(*alloc, room.settings(), &item) else {
-            return Err(PublishFault::Memory);
-        };
-        let line = line.as_str();
-        let Ok(()) = lines.reserve(line.len(), room.open_requests()) else {
+        let Ok(line) = item_line(*alloc, room, lines, &item) else {
             return Err(PublishFault::Memory);
         };
         match room.accept(item) {
             Ok(count) => {
-                lines.put(line);
+                lines.put(line.as_str());
                 *calls += 1;
                 Ok(count)
             }
@@ -89,16 +92,12 @@ impl Recorder {
         }
         room.settings().within_limits();
         let outcome = room.outcome(&want);
-        let Ok(line) = ask_line(*alloc, room.asks() + 1, &want, outcome) else {
-            return Err(AskFault::Memory);
-        };
-        let line = line.as_str();
-        let Ok(()) = lines.reserve(line.len(), room.open_requests() + 1) else {
+        let Ok(line) = request_line(*alloc, room, lines, &want, outcome) else {
             return Err(AskFault::Memory);
         };
         match room.ask(want) {
             Ok(asked) => {
-                lines.put(line);
+                lines.put(line.as_str());
                 *calls += 1;
                 Ok(asked)
             }
@@ -146,4 +145,42 @@ impl Recorder {
             Err(_) => unreachable!(),
         }
     }
+}
+
+/// The line of an item, once memory for it in the record is found too.
+fn item_line(
+    alloc: Global,
+    room: &Room,
+    lines: &mut Lines,
+    item: &Item,
+) -> Result<String, AllocError>
+    ensures text { IfOk result (λ t. string_bytes t ≡ entry_line room.now.settings (recorded.Publish item.now)) }
+    ensures spelled { OnOk result (HasAttributes item.now) }
+    ensures free { IfOk result (λ t. length (string_bytes t) + 1 + spare * length room.now.slots ≤ lines.new.free) }
+    ensures no_less { lines.old.free ≤ lines.new.free }
+    ensures lines { lines.new.lines ≡ lines.old.lines }
+{
+    let line = publish_line(alloc, room.settings(), item)?;
+    lines.reserve(line.len(), room.open_requests())?;
+    Ok(line)
+}
+
+/// The line of a request, of which this is what it gets at once, once memory is found for it in the record too, and for the last line
+/// of one more open request.
+fn request_line(
+    alloc: Global,
+    room: &Room,
+    lines: &mut Lines,
+    want: &Want,
+    outcome: Option<Outcome>,
+) -> Result<String, AllocError>
+    ensures text { (c : Configuration) → IfOk result (λ t. string_bytes t ≡ entry_line c (recorded.Ask (room.now.asks + 1) want.now outcome)) }
+    ensures spelled { (c : Configuration) → OnOk result (IsSpelled c (recorded.Ask (room.now.asks + 1) (of_channel c want.now) outcome)) }
+    ensures free { IfOk result (λ t. length (string_bytes t) + 1 + spare * (length room.now.slots + 1) ≤ lines.new.free) }
+    ensures no_less { lines.old.free ≤ lines.new.free }
+    ensures lines { lines.new.lines ≡ lines.old.lines }
+{
+    let line = ask_line(alloc, room.asks() + 1, want, outcome)?;
+    lines.reserve(line.len(), room.open_requests() + 1)?;
+    Ok(line)
 }

@@ -1,6 +1,6 @@
-use Rattle.std.proofs.Common.{◌≡◌, ◌+◌, ◌++◌, ◌∷◌, [], List, None, true, ap, ap₂, ◌∙◌, subst, refl, sym, length}
+use Rattle.std.proofs.Common.{◌≡◌, ◌+◌, ◌++◌, ◌∷◌, [], List, None, true, ap, ap₂, ◌∙◌, subst, refl, sym, length, string_bytes}
 use Rattle.std.specs.Str.{is_utf8}
-use Rattle.ll_entry.specs.Lines.{IsSpelled, entry_line}
+use Rattle.ll_entry.specs.Lines.{entry_line}
 use Rattle.ll_entry.specs.declared.entry.Recorded.{Recorded}
 use Rattle.ll_entry.specs.declared.entry.Recorded.TheVariants as recorded
 use Rattle.ll_item.specs.Settings.{limit_broken}
@@ -13,43 +13,39 @@ use Rattle.ll_record.specs.Recording.{IsRecorded, Recording, of_channel}
 use Rattle.ll_record.specs.contracts.recorder.Recorder.{the_view}
 use Rattle.ll_record.proofs.recorder.Recorder.ask.Goals as goal
 
-abbrev after : goal.After-drop-line-in-Ok-ask → Recording
+abbrev after : goal.After-drop-line → Recording
 after c = record { room = c.ask.new.self; at = c.self.inside.at; lines = c.put.new.self.lines; calls = c.self.inside.calls + 1 }
 
-abbrev entry : goal.After-drop-line-in-Ok-ask → Recorded
+abbrev entry : goal.After-drop-line → Recorded
 entry c = recorded.Ask (c.self.inside.room.asks + 1) (of_channel c.self.inside.room.settings c.args.want) c.outcome-outcome.result
 
-line-is : (c : goal.After-drop-line-in-Ok-ask) → c.as_str-line.result.now ≡ entry_line c.self.inside.room.settings (entry c)
-line-is c =
-    c.as_str-line.ensures.value ∙ c.in-Ok.ensures.text c.self.inside.room.settings
-    ∙ ap (λ n. entry_line c.self.inside.room.settings (recorded.Ask (n + 1) (of_channel c.self.inside.room.settings c.args.want) c.outcome-outcome.result)) c.asks.ensures.value
+line-is : (c : goal.After-drop-line) → c.as_str.result.now ≡ entry_line c.self.inside.room.settings (entry c)
+line-is c = c.as_str.ensures.value ∙ c.in-Ok.ensures.text c.self.inside.room.settings
 
-told : (c : goal.After-drop-line-in-Ok-ask) → IsTold (the_view c.self.inside) (after c) (entry c)
+told : (c : goal.After-drop-line) → IsTold (the_view c.self.inside) (after c) (entry c)
 told c = record {
   within = subst (λ s. limit_broken s ≡ None) c.settings.ensures c.within_limits.ensures;
   utf8 = subst (λ t. is_utf8 t ≡ true) (line-is c) c.put.ensures.text;
   next = record {
     room = c.ask.ensures.same;
     at = refl;
-    lines = c.put.ensures.lines ∙ ap₂ (λ lines line. lines ++ with_end line) c.reserve.ensures.lines (line-is c);
+    lines = c.put.ensures.lines ∙ ap₂ (λ lines line. lines ++ with_end line) c.request_line.ensures.lines (line-is c);
     calls = refl;
   };
 }
 
-next : (c : goal.After-drop-line-in-Ok-ask) (events : List Event) → IsRecorded (the_view c.self.inside) events
+next : (c : goal.After-drop-line) (events : List Event) → IsRecorded (the_view c.self.inside) events
     → IsRecorded (after c) (events ++ Ask (of_channel c.self.inside.room.settings c.args.want) ∷ [])
 next c =
     ask-step (the_view c.self.inside) (after c) c.args.want c.outcome-outcome.result (told c) (sym c.is_full.ensures ∙ c.if-is_full.false)
-    (subst (λ n. IsSpelled c.self.inside.room.settings (recorded.Ask (n + 1) (of_channel c.self.inside.room.settings c.args.want) c.outcome-outcome.result)) c.asks.ensures.value
-    (c.in-Ok.ensures.spelled c.self.inside.room.settings))
-    c.outcome-outcome.ensures c.in-Ok-ask.ensures.asked
+    (c.in-Ok.ensures.spelled c.self.inside.room.settings) c.outcome-outcome.ensures c.in-Ok-ask.ensures.asked
 
 pub invariant_of-self-in-Ok-ask : goal.invariant_of-self-in-Ok-ask
 invariant_of-self-in-Ok-ask c =
     kept-after (the_view c.self.inside) (after c) (Ask (of_channel c.self.inside.room.settings c.args.want)) c.self.inside.lines.free c.put.new.self.free c.self.invariant (next c)
     (spare-more c.self.inside.room c.ask.new.self (new_tickets c.in-Ok-ask.asked) c.put.new.self.free c.in-Ok-ask.ensures.opened (one-new c.in-Ok-ask.asked)
-    (spare-left-more (length c.self.inside.room.slots) (length c.as_str-line.result.now) (length c.as_str-line.result.now) c.open_requests.result c.reserve.new.self.free c.put.new.self.free
-    refl c.open_requests.ensures.value c.in-Ok-reserve.ensures.free c.put.ensures.free))
+    (spare-left-more (length c.self.inside.room.slots) (length (string_bytes c.in-Ok.line)) (length c.as_str.result.now) (length c.self.inside.room.slots) c.request_line.new.lines.free c.put.new.self.free
+    (ap length (sym c.as_str.ensures.value)) refl c.in-Ok.ensures.free c.put.ensures.free))
 
 pub returns-in-Ok-ask-clause-asked : goal.returns-in-Ok-ask-clause-asked
 returns-in-Ok-ask-clause-asked c =
