@@ -1,5 +1,11 @@
-//! Tests of `ll_wire`. They stand here so that it isn't proved a second time for its tests.
+//! Tests of `ll_wire`, `ll_session` and `ll_publish`. They stand here so that none of these is proved a second time for its tests.
 #![tactic(auto)]
 
+#[cfg(test)]
+mod feed_tests;
+#[cfg(test)]
+mod reply_tests;
+#[cfg(test)]
+mod session_tests;
 #[cfg(test)]
 mod wire_tests;
