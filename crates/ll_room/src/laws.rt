@@ -2,7 +2,7 @@
 ghost use Rattle.std.specs.Prelude.{◌≡◌, false, true};
 ghost use Rattle.ll_room.specs.Full.{is_full};
 
-/// A channel is full from its event of number 2^60 on, and not before.
+/// A channel that has taken 2^60 events is full; one that has taken one less is not.
 pub fn event_limit_law()
     ensures reached { is_full 1152921504606846976 ≡ true }
     ensures before { is_full 1152921504606846975 ≡ false }
