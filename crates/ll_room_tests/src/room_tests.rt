@@ -87,18 +87,31 @@ fn put(rt: &impl Abort, shelf: &mut Shelf, parked: Parked) -> u64 {
     }
 }
 
+/// Of a request that waits in room 1, after room 0 took it for another's: its channel and its number.
+fn stranger(rt: &impl Abort, alloc: Global, zero: &mut Room, one: &mut Room) -> (u64, u64) {
+    let parked = held(rt, alloc, one, FIRST_PART);
+    let parked = strange(rt, zero, parked);
+    let parked = kept(rt, zero, parked);
+    let parked = kept(rt, one, parked);
+    let is = (parked.channel(), parked.ticket());
+    close(rt, one, parked);
+    is
+}
+
+/// A request that isn't returned to a room: it is another's, or is open.
+fn kept(rt: &impl Abort, room: &Room, parked: Parked) -> Parked {
+    match parked.return_to(room) {
+        Ok(()) => panic!(rt; "it was returned"),
+        Err(parked) => parked,
+    }
+}
+
 #[test]
 fn strangers_come_back(rt: HostRuntime) -> Result<(), Fail> {
     let mut zero = room(rt.alloc(), 0)?;
     let mut one = room(rt.alloc(), 1)?;
-    let parked = held(&rt, rt.alloc(), &mut one, FIRST_PART);
-    let parked = strange(&rt, &mut zero, parked);
-    let parked = parked
-        .return_to(&zero)
-        .expect_err(&rt, "it isn't of this room");
-    let parked = parked.return_to(&one).expect_err(&rt, "it is open");
-    assert_eq!(rt; (parked.channel(), parked.ticket()), (1, 1));
-    close(&rt, &mut one, parked);
+    let is = stranger(&rt, rt.alloc(), &mut zero, &mut one);
+    assert_eq!(rt; is, (1, 1));
     Ok(())
 }
 
@@ -113,27 +126,48 @@ fn requests_that_are_not_open_are_given_back(rt: HostRuntime) -> Result<(), Fail
     }
 }
 
-#[test]
-fn shelves_keep_requests(rt: HostRuntime) -> Result<(), Fail> {
-    let mut room = room(rt.alloc(), 0)?;
-    let mut shelf = Shelf::new(rt.alloc());
-    let first = held(&rt, rt.alloc(), &mut room, FIRST_PART);
-    let second = held(&rt, rt.alloc(), &mut room, FIRST_PART);
-    let first = put(&rt, &mut shelf, first);
-    let second = put(&rt, &mut shelf, second);
-    let parked = shelf.take(second).expect(&rt, "it is there");
-    assert_eq!(rt; parked.ticket(), 2);
-    close(&rt, &mut room, parked);
+/// Takes a request off a shelf, and gives it up: its number.
+fn take_off(rt: &impl Abort, shelf: &mut Shelf, room: &mut Room, place: u64) -> u64 {
+    let Some(parked) = shelf.take(place) else {
+        panic!(rt; "it is not there");
+    };
+    let ticket = parked.ticket();
+    close(rt, room, parked);
+    ticket
+}
+
+/// A shelf that isn't empty.
+fn unfinished(rt: &impl Abort, shelf: Shelf) -> Shelf {
+    match shelf.finish() {
+        Ok(()) => panic!(rt; "nothing is left"),
+        Err(shelf) => shelf,
+    }
+}
+
+/// Puts two requests on a shelf and takes the second one off, which can't be done twice, and then the first: the numbers of the two.
+fn shelved(rt: &impl Abort, alloc: Global, room: &mut Room) -> (u64, u64) {
+    let mut shelf = Shelf::new(alloc);
+    let first = held(rt, alloc, room, FIRST_PART);
+    let first = put(rt, &mut shelf, first);
+    let second = held(rt, alloc, room, FIRST_PART);
+    let second = put(rt, &mut shelf, second);
+    let taken_first = take_off(rt, &mut shelf, room, second);
     if let Some(_parked) = shelf.take(second) {
         panic!(rt; "it was taken twice");
     }
-    let mut shelf = shelf.finish().expect_err(&rt, "one is left");
-    let parked = shelf.take(first).expect(&rt, "it is there");
-    assert_eq!(rt; parked.ticket(), 1);
-    close(&rt, &mut room, parked);
-    if let Err(_shelf) = shelf.finish() {
-        panic!(rt; "nothing is left");
+    let mut shelf = unfinished(rt, shelf);
+    let taken_then = take_off(rt, &mut shelf, room, first);
+    match shelf.finish() {
+        Ok(()) => (taken_first, taken_then),
+        Err(_shelf) => panic!(rt; "one is left"),
     }
+}
+
+#[test]
+fn shelves_keep_requests(rt: HostRuntime) -> Result<(), Fail> {
+    let mut room = room(rt.alloc(), 0)?;
+    let numbers = shelved(&rt, rt.alloc(), &mut room);
+    assert_eq!(rt; numbers, (2, 1));
     Ok(())
 }
 
@@ -145,29 +179,38 @@ fn number(reply: &Reply) -> Option<u64> {
     }
 }
 
+/// Of a reply's text, how many items the channel had accepted: as its value is lent, and as it is given.
+fn numbers(reply: Stamped<Reply>) -> (Option<u64>, Option<u64>) {
+    let lent = number(reply.get());
+    (lent, number(&reply.into_inner()))
+}
+
+/// A part more, and a request that is answered at once: the count that each is told, lent and given.
+fn publish_and_ask(rt: &impl Abort, alloc: Global, room: &mut Room) -> [u64; 4] {
+    let accepted = publish(rt, alloc, room);
+    let (lent, given) = (*accepted.get(), accepted.into_inner());
+    let (text_lent, text_given) = numbers(answered(rt, alloc, room, NOW));
+    [lent, given, text_lent.unwrap_or(0), text_given.unwrap_or(0)]
+}
+
 #[test]
 fn values_come_with_their_events(rt: HostRuntime) -> Result<(), Fail> {
     let mut room = room(rt.alloc(), 0)?;
     let parked = held(&rt, rt.alloc(), &mut room, FIRST_PART);
-    assert_eq!(rt; room.next_ready(), None);
-    for count in [1, 2, 3] {
-        let accepted = publish(&rt, rt.alloc(), &mut room);
-        assert_eq!(rt; (*accepted.get(), accepted.into_inner()), (count, count));
-        let reply = answered(&rt, rt.alloc(), &mut room, NOW);
-        assert_eq!(rt;
-            (number(reply.get()), number(&reply.into_inner())),
-            (Some(count), Some(count))
-        );
-    }
+    let before = room.next_ready();
+    let one = publish_and_ask(&rt, rt.alloc(), &mut room);
+    let two = publish_and_ask(&rt, rt.alloc(), &mut room);
+    let three = publish_and_ask(&rt, rt.alloc(), &mut room);
+    let (ready, count, asks) = (room.next_ready(), room.count(), room.asks());
+    let held = numbers(collect(&rt, &mut room, parked));
+    let after = room.next_ready();
+    drop(room);
     assert_eq!(rt;
-        (room.next_ready(), room.count(), room.asks()),
-        (Some(1), 3, 4)
+        [one, two, three],
+        [[1, 1, 1, 1], [2, 2, 2, 2], [3, 3, 3, 3]]
     );
-    let reply = collect(&rt, &mut room, parked);
-    assert_eq!(rt;
-        (number(reply.get()), number(&reply.into_inner())),
-        (Some(1), Some(1))
-    );
-    assert_eq!(rt; room.next_ready(), None);
+    assert_eq!(rt; (before, ready, after), (None, Some(1), None));
+    assert_eq!(rt; (count, asks), (3, 4));
+    assert_eq!(rt; held, (Some(1), Some(1)));
     Ok(())
 }
