@@ -105,8 +105,8 @@ fn collect(keeper: &mut Keeper, ask: u64, outcome: Outcome) -> Result<(), CheckK
     if !keeper.room().is_open(ask) {
         return Err(CheckKind::Refused);
     }
-    let reply = keeper.collect(ask);
-    if is_same(Some(outcome), outcome_in(&reply)) {
+    let told = outcome_in(&keeper.collect(ask));
+    if is_same(Some(outcome), told) {
         Ok(())
     } else {
         Err(CheckKind::WrongReply)
