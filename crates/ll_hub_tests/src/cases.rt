@@ -1,12 +1,13 @@
 //! Hubs, and calls of them.
 ghost use Rattle.std.specs.Prelude.{◌≡◌};
 
+use crate::rows::{number, push, push_three};
 use ll_directive::read_target;
-use ll_hub::{Blanks, Claim, Clock, Hub, HubAsked, HubFault, Ledgers, Pass};
+use ll_hub::{Blanks, Claim, Clock, Hub, HubAsked, HubFault, Ledgers, Pass, Totals};
 use ll_item::{Item, Settings};
 use ll_room::Stamped;
 use ll_verdict::Reply;
-use std::alloc::Global;
+use std::alloc::{AllocError, Global};
 use std::process::Abort;
 use std::sync::Wait;
 use std::sync::atomic::{AtomicU64, Ordering};
@@ -138,6 +139,18 @@ pub(crate) fn publish<L: Ledgers, R: Wait + Abort>(
         .map(Stamped::into_inner)
 }
 
+/// Publishes what a line announces, which is accepted: how many items the channel has accepted with it.
+pub(crate) fn published<L: Ledgers, R: Wait + Abort>(
+    rt: &R,
+    alloc: Global,
+    hub: &Hub<L>,
+    pass: &mut Pass<L>,
+    channel: usize,
+    line: &str,
+) -> u64 {
+    publish(rt, alloc, hub, pass, channel, line).expect(rt, "an item that is accepted")
+}
+
 /// Asks for a target.
 pub(crate) fn ask<L: Ledgers, C: Clock, R: Wait + Abort>(
     rt: &R,
@@ -152,8 +165,8 @@ pub(crate) fn ask<L: Ledgers, C: Clock, R: Wait + Abort>(
     hub.ask(rt, clock, pass, channel, want)
 }
 
-/// A request that is answered at once.
-pub(crate) fn answered<L: Ledgers, C: Clock, R: Wait + Abort>(
+/// The reply to a request; nothing, where it is refused, or held, and then it is given up.
+pub(crate) fn reply<L: Ledgers, C: Clock, R: Wait + Abort>(
     rt: &R,
     alloc: Global,
     hub: &Hub<L>,
@@ -161,11 +174,30 @@ pub(crate) fn answered<L: Ledgers, C: Clock, R: Wait + Abort>(
     pass: &mut Pass<L>,
     channel: usize,
     target: &str,
-) -> Reply {
+) -> Option<Reply> {
     match ask(rt, alloc, hub, clock, pass, channel, target) {
-        Ok(HubAsked::Now(reply)) => reply.into_inner(),
-        Ok(HubAsked::Held(_claim)) => panic!(rt; "{target} is held"),
-        Err(fault) => panic!(rt; "{target}: {fault}"),
+        Ok(HubAsked::Now(reply)) => Some(reply.into_inner()),
+        Ok(HubAsked::Held(claim)) => {
+            hub.close(rt, claim);
+            None
+        }
+        Err(_fault) => None,
+    }
+}
+
+/// How many items there are at the playlist that a request gets at once; 0 where it gets none.
+pub(crate) fn asked<L: Ledgers, C: Clock, R: Wait + Abort>(
+    rt: &R,
+    alloc: Global,
+    hub: &Hub<L>,
+    clock: &C,
+    pass: &mut Pass<L>,
+    channel: usize,
+    target: &str,
+) -> u64 {
+    match reply(rt, alloc, hub, clock, pass, channel, target) {
+        Some(Reply::Text(page)) => page.number(),
+        _ => 0,
     }
 }
 
@@ -180,50 +212,98 @@ pub(crate) fn held<L: Ledgers, C: Clock, R: Wait + Abort>(
     target: &str,
 ) -> Claim {
     match ask(rt, alloc, hub, clock, pass, channel, target) {
-        Ok(HubAsked::Now(_reply)) => panic!(rt; "{target} is answered at once"),
         Ok(HubAsked::Held(claim)) => claim,
-        Err(fault) => panic!(rt; "{target}: {fault}"),
+        _ => panic!(rt; "{target} isn't held"),
     }
 }
 
-/// How many items there were at a playlist; 0 of another reply.
-pub(crate) fn number(reply: &Reply) -> u64 {
-    match reply {
-        Reply::Text(page) => page.number(),
-        _ => 0,
+/// What a held request gets in the end: how many items there are at a playlist and its last line, or the name of another reply.
+pub(crate) fn awaited<L: Ledgers, R: Wait + Abort>(
+    rt: &R,
+    alloc: Global,
+    hub: &Hub<L>,
+    pass: &mut Pass<L>,
+    claim: Claim,
+) -> String {
+    let reply = hub.wait(rt, pass, claim).expect(rt, "a reply");
+    told(alloc, reply.get()).expect(rt, "a text")
+}
+
+/// How many items there are at a playlist and its last line, or the name of another reply.
+fn told(alloc: Global, reply: &Reply) -> Result<String, AllocError> {
+    let name = match reply {
+        Reply::Text(page) => return told_page(alloc, page.number(), page.text()),
+        Reply::NotFound => "NotFound",
+        Reply::TooFar => "TooFar",
+        Reply::Busy => "Busy",
+        Reply::Timeout => "Timeout",
+    };
+    String::from_str(alloc, name)
+}
+
+/// A number of items, and the last line of a playlist.
+fn told_page(alloc: Global, number: u64, text: &str) -> Result<String, AllocError> {
+    let last = text.lines().last().unwrap_or("");
+    format!(in alloc; "{number} {last}")
+}
+
+/// Gives a request up: tells whether the hub held it.
+pub(crate) fn close<L: Ledgers, R: Wait>(rt: &R, hub: &Hub<L>, claim: Claim) -> &'static str {
+    if hub.close(rt, claim) {
+        "closed, "
+    } else {
+        "strange, "
     }
 }
 
-/// How many items there were at a playlist and its last line, or the name of another reply.
-pub(crate) fn told(alloc: Global, reply: &Reply) -> Option<String> {
-    match reply {
-        Reply::Text(page) => {
-            let last = page.text().lines().last().unwrap_or("");
-            format!(in alloc; "{} {last}", page.number()).ok()
-        }
-        Reply::NotFound => String::from_str(alloc, "NotFound").ok(),
-        Reply::TooFar => String::from_str(alloc, "TooFar").ok(),
-        Reply::Busy => String::from_str(alloc, "Busy").ok(),
-        Reply::Timeout => String::from_str(alloc, "Timeout").ok(),
+/// Takes what comes to a channel: a part, or a reading of the clock in milliseconds.
+pub(crate) fn take<L: Ledgers, R: Wait + Abort>(
+    rt: &R,
+    alloc: Global,
+    hub: &Hub<L>,
+    pass: &mut Pass<L>,
+    event: &str,
+) {
+    if event == "part" {
+        published(rt, alloc, hub, pass, 0, PART);
+        return;
+    }
+    let ms = number(rt, event);
+    hub.tick(rt, ms).expect(rt, "a reading");
+}
+
+/// The name of a fault that is expected.
+pub(crate) fn fault_name(fault: Option<HubFault>) -> &'static str {
+    match fault {
+        None => "no fault",
+        Some(HubFault::UnknownChannel) => "UnknownChannel",
+        Some(HubFault::Stranger) => "Stranger",
+        Some(HubFault::Short) => "Short",
+        Some(_) => "another fault",
     }
 }
 
 /// Spends a hub and these passes: of each channel how many items were accepted, how many requests made, and how many of them held at
-/// the end.
+/// the end; or why that isn't told.
 pub(crate) fn finished<L: Ledgers>(
     rt: &impl Abort,
     alloc: Global,
     hub: Hub<L>,
     passes: Vec<Pass<L>>,
 ) -> String {
-    let totals = hub.finish(passes).expect(rt, "totals");
     let mut text = String::new(alloc);
-    for total in &totals.channels {
-        let (publishes, asks, held) = (total.publishes, total.asks, total.held);
-        let told = format!(in alloc; "{publishes} {asks} {held};").expect(rt, "a text");
-        text.push_str(told.as_str()).expect(rt, "a text");
+    match hub.finish(passes) {
+        Ok(totals) => push_totals(rt, &mut text, &totals),
+        Err(fault) => push(rt, &mut text, fault_name(Some(fault))),
     }
     text
+}
+
+/// Appends the totals of each channel.
+fn push_totals(rt: &impl Abort, text: &mut String, totals: &Totals) {
+    for total in &totals.channels {
+        push_three(rt, text, total.publishes, total.asks, total.held);
+    }
 }
 
 /// Spends a hub that gave one pass: what [`finished`] tells.

@@ -2,169 +2,117 @@
 ghost use Rattle.std.specs.Prelude.{◌≡◌};
 
 use crate::cases::{
-    FIRST, NOW, PART, SECOND, SEGMENT, Stopped, answered, finished, finished_with, held,
-    hub_of_one, number, publish, seat, told,
+    FIRST, NOW, SEGMENT, Stopped, asked, awaited, close, fault_name, finished, finished_with, held,
+    hub_of_one, published, seat, take,
 };
-use ll_hub::{Blanks, Hub, HubFault, Ledgers, Pass};
+use crate::rows::{Row, number, push, push_three, same};
+use ll_hub::{Blanks, Hub, Ledgers, Pass};
 use std::alloc::Global;
 use std::marker::Brand;
 use std::process::Abort;
 use std::sync::Wait;
 
-/// Publishes and asks by turns.
-fn publish_and_ask<L: Ledgers, R: Wait + Abort>(rt: &R, alloc: Global, blanks: Blanks)
+/// Publishes and then asks: appends the count of the one, the number of the other, and how many items the pass has seen.
+fn turn<L: Ledgers, R: Wait + Abort>(
+    rt: &R,
+    alloc: Global,
+    hub: &Hub<L>,
+    pass: &mut Pass<L>,
+    text: &mut String,
+) {
+    let count = published(rt, alloc, hub, pass, 0, SEGMENT);
+    let number = asked(rt, alloc, hub, &Stopped, pass, 0, NOW);
+    let seen = pass.seen(0).unwrap_or(0);
+    push_three(rt, text, count, number, seen);
+}
+
+/// Publishes and asks by turns: what each turn tells, and the totals.
+fn publish_and_ask<L: Ledgers, R: Wait + Abort>(rt: &R, alloc: Global, blanks: Blanks) -> String
     requires names { blanks ≡ L.names }
     requires channels { L.channels ≡ 1 }
 {
     let hub: Hub<L> = hub_of_one(rt, alloc, blanks);
     let mut pass = seat(rt, &hub);
-    for turn in 1..9 {
-        let count = publish(rt, alloc, &hub, &mut pass, 0, SEGMENT);
-        let reply = answered(rt, alloc, &hub, &Stopped, &mut pass, 0, NOW);
-        assert_eq!(rt;
-            (count, number(&reply), pass.seen(0)),
-            (Ok(turn), turn, Some(turn))
-        );
+    let mut text = String::new(alloc);
+    for _ in 0..8 {
+        turn(rt, alloc, &hub, &mut pass, &mut text);
     }
-    assert_eq!(rt; finished_with(rt, alloc, hub, pass).as_str(), "8 8 0;");
+    let totals = finished_with(rt, alloc, hub, pass);
+    push(rt, &mut text, totals.as_str());
+    text
 }
+
+/// What eight turns tell.
+const TURNS: &str = "1 1 1;2 2 2;3 3 3;4 4 4;5 5 5;6 6 6;7 7 7;8 8 8;8 8 0;";
 
 /// An answer is no older than what its caller published before.
 #[test]
 fn ask_after_publish_has_it(rt: HostRuntime) {
-    publish_and_ask::<Brand, HostRuntime>(&rt, rt.alloc(), Blanks::new());
+    let told = publish_and_ask::<Brand, HostRuntime>(&rt, rt.alloc(), Blanks::new());
+    same(&rt, "8 turns", told.as_str(), TURNS);
 }
 
-/// What comes to a channel.
-#[derive(Clone, Copy)]
-enum Event {
-    /// A part.
-    Part,
-    /// A reading of the clock, in milliseconds.
-    Tick(u64),
-}
-
-/// What a request waits for.
-#[derive(Clone, Copy)]
-enum Awaited {
-    /// The first part.
-    First,
-    /// The second part.
-    Second,
-}
-
-impl Awaited {
-    /// The target of the request.
-    fn target(self) -> &'static str {
-        match self {
-            Awaited::First => FIRST,
-            Awaited::Second => SECOND,
-        }
-    }
-}
-
-/// Takes one event.
-fn take<L: Ledgers, R: Wait + Abort>(
+/// Takes events, one after another.
+fn take_each<L: Ledgers, R: Wait + Abort>(
     rt: &R,
     alloc: Global,
     hub: &Hub<L>,
     pass: &mut Pass<L>,
-    event: Event,
+    events: &str,
 ) {
-    let taken = match event {
-        Event::Part => publish(rt, alloc, hub, pass, 0, PART).is_ok(),
-        Event::Tick(ms) => hub.tick(rt, ms).is_ok(),
-    };
-    assert!(rt; taken);
+    for event in events.split_whitespace() {
+        take(rt, alloc, hub, pass, event);
+    }
 }
 
-/// What a request gets that is held after some events, and waits for after others.
+/// What a request gets that is held after the events of the first column, and waits for after those of the third; and the totals.
 fn waited<L: Ledgers, R: Wait + Abort>(
     rt: &R,
     alloc: Global,
     blanks: Blanks,
-    before: &[Event],
-    awaited: Awaited,
-    after: &[Event],
+    row: Row<'_>,
 ) -> String
     requires names { blanks ≡ L.names }
     requires channels { L.channels ≡ 1 }
 {
     let hub: Hub<L> = hub_of_one(rt, alloc, blanks);
     let mut pass = seat(rt, &hub);
-    for event in before {
-        take(rt, alloc, &hub, &mut pass, *event);
-    }
-    let claim = held(rt, alloc, &hub, &Stopped, &mut pass, 0, awaited.target());
-    for event in after {
-        take(rt, alloc, &hub, &mut pass, *event);
-    }
-    let reply = hub.wait(rt, &mut pass, claim).expect(rt, "a reply");
-    finished_with(rt, alloc, hub, pass);
-    told(alloc, reply.get()).expect(rt, "a text")
+    take_each(rt, alloc, &hub, &mut pass, row.column(0));
+    let claim = held(rt, alloc, &hub, &Stopped, &mut pass, 0, row.column(1));
+    take_each(rt, alloc, &hub, &mut pass, row.column(2));
+    let mut text = awaited(rt, alloc, &hub, &mut pass, claim);
+    let totals = finished_with(rt, alloc, hub, pass);
+    push(rt, &mut text, " ");
+    push(rt, &mut text, totals.as_str());
+    text
 }
 
-const HELD: [(&[Event], Awaited, &[Event], &str); 6] = [
-    (
-        &[],
-        Awaited::First,
-        &[Event::Part],
-        "1 #EXT-X-PRELOAD-HINT:TYPE=PART,URI=\"s0.1.m4s\"",
-    ),
-    (
-        &[Event::Part],
-        Awaited::Second,
-        &[Event::Part],
-        "2 #EXT-X-PRELOAD-HINT:TYPE=PART,URI=\"s0.2.m4s\"",
-    ),
-    (
-        &[],
-        Awaited::First,
-        &[Event::Part, Event::Part, Event::Tick(12_000)],
-        "1 #EXT-X-PRELOAD-HINT:TYPE=PART,URI=\"s0.1.m4s\"",
-    ),
-    (
-        &[Event::Part],
-        Awaited::Second,
-        &[Event::Tick(12_000)],
-        "Timeout",
-    ),
-    (
-        &[Event::Part],
-        Awaited::Second,
-        &[Event::Tick(12_000), Event::Part],
-        "Timeout",
-    ),
-    (
-        &[Event::Part],
-        Awaited::Second,
-        &[Event::Tick(11_999), Event::Tick(0), Event::Part],
-        "2 #EXT-X-PRELOAD-HINT:TYPE=PART,URI=\"s0.2.m4s\"",
-    ),
-];
+/// What comes before a request, its target, what comes after it, and what it gets.
+const HELD: &str =
+    " | /cam/hi/live.m3u8?_HLS_msn=0&_HLS_part=0 | part => 1 #EXT-X-PRELOAD-HINT:TYPE=PART,URI=\"s0.1.m4s\" 1 1 0;
+part | /cam/hi/live.m3u8?_HLS_msn=0&_HLS_part=1 | part => 2 #EXT-X-PRELOAD-HINT:TYPE=PART,URI=\"s0.2.m4s\" 2 1 0;
+ | /cam/hi/live.m3u8?_HLS_msn=0&_HLS_part=0 | part part 12000 => 1 #EXT-X-PRELOAD-HINT:TYPE=PART,URI=\"s0.1.m4s\" 2 1 0;
+part | /cam/hi/live.m3u8?_HLS_msn=0&_HLS_part=1 | 12000 => Timeout 1 1 0;
+part | /cam/hi/live.m3u8?_HLS_msn=0&_HLS_part=1 | 12000 part => Timeout 2 1 0;
+part | /cam/hi/live.m3u8?_HLS_msn=0&_HLS_part=1 | 11999 0 part => 2 #EXT-X-PRELOAD-HINT:TYPE=PART,URI=\"s0.2.m4s\" 2 1 0;";
 
 #[test]
 fn held_requests_get_what_comes_first(rt: HostRuntime) {
-    for (before, awaited, after, expected) in HELD {
-        let found = waited::<Brand, HostRuntime>(
-            &rt,
-            rt.alloc(),
-            Blanks::new(),
-            before,
-            awaited,
-            after,
-        );
-        assert_eq!(rt; found.as_str(), expected);
+    for line in HELD.lines() {
+        let row = Row { line };
+        let told = waited::<Brand, HostRuntime>(&rt, rt.alloc(), Blanks::new(), row);
+        row.compare(&rt, told.as_str());
     }
 }
 
-/// Holds three requests of a hub. Gives so many of them up, and the others in another hub, which doesn't hold them.
+/// Holds three requests of a hub. Gives so many of them up, and the others in another hub, which doesn't hold them: how each was given
+/// up, and the totals of the other hub and of the first.
 fn give_up<L: Ledgers, M: Ledgers, R: Wait + Abort>(
     rt: &R,
     alloc: Global,
     blanks: Blanks,
     others: Blanks,
-    given_up: usize,
+    row: Row<'_>,
 ) -> String
     requires names { blanks ≡ L.names }
     requires channels { L.channels ≡ 1 }
@@ -174,43 +122,48 @@ fn give_up<L: Ledgers, M: Ledgers, R: Wait + Abort>(
     let hub: Hub<L> = hub_of_one(rt, alloc, blanks);
     let other: Hub<M> = hub_of_one(rt, alloc, others);
     let mut pass = seat(rt, &hub);
+    let given_up = number(rt, row.input());
+    let mut text = String::new(alloc);
     for place in 0..3 {
         let claim = held(rt, alloc, &hub, &Stopped, &mut pass, 0, FIRST);
         let closed = if place < given_up {
-            hub.close(rt, claim)
+            close(rt, &hub, claim)
         } else {
-            other.close(rt, claim)
+            close(rt, &other, claim)
         };
-        assert_eq!(rt; closed, place < given_up);
+        push(rt, &mut text, closed);
     }
-    assert_eq!(rt;
-        finished(rt, alloc, other, Vec::new(alloc)).as_str(),
-        "0 0 0;"
-    );
-    finished_with(rt, alloc, hub, pass)
+    let theirs = finished(rt, alloc, other, Vec::new(alloc));
+    push(rt, &mut text, theirs.as_str());
+    let totals = finished_with(rt, alloc, hub, pass);
+    push(rt, &mut text, totals.as_str());
+    text
 }
+
+/// How many requests are given up, and what is told.
+const GIVEN_UP: &str = "0 => strange, strange, strange, 0 0 0;0 3 3;
+1 => closed, strange, strange, 0 0 0;0 3 2;
+2 => closed, closed, strange, 0 0 0;0 3 1;
+3 => closed, closed, closed, 0 0 0;0 3 0;";
 
 /// A request that is given up gets no reply. What is still held at the end is told, and closed.
 #[test]
 fn finish_tells_what_is_held(rt: HostRuntime) {
-    for (given_up, expected) in [(0, "0 3 3;"), (1, "0 3 2;"), (2, "0 3 1;"), (3, "0 3 0;")] {
-        let found = give_up::<Brand, Brand, HostRuntime>(
+    for line in GIVEN_UP.lines() {
+        let row = Row { line };
+        let told = give_up::<Brand, Brand, HostRuntime>(
             &rt,
             rt.alloc(),
             Blanks::new(),
             Blanks::new(),
-            given_up,
+            row,
         );
-        assert_eq!(rt; found.as_str(), expected);
+        row.compare(&rt, told.as_str());
     }
 }
 
 /// Takes all passes that a hub gives, lets them go, and asks for one more: why that is refused, and why the hub tells no totals.
-fn take_all<L: Ledgers, R: Wait + Abort>(
-    rt: &R,
-    alloc: Global,
-    blanks: Blanks,
-) -> (Option<HubFault>, Option<HubFault>)
+fn take_all<L: Ledgers, R: Wait + Abort>(rt: &R, alloc: Global, blanks: Blanks) -> String
     requires names { blanks ≡ L.names }
     requires channels { L.channels ≡ 1 }
 {
@@ -218,12 +171,15 @@ fn take_all<L: Ledgers, R: Wait + Abort>(
     for _ in 0..65_536 {
         seat(rt, &hub);
     }
-    let refused = hub.seat(rt).err();
-    (refused, hub.finish(Vec::new(alloc)).err())
+    let refused = fault_name(hub.seat(rt).err());
+    let mut text = finished(rt, alloc, hub, Vec::new(alloc));
+    push(rt, &mut text, " ");
+    push(rt, &mut text, refused);
+    text
 }
 
 #[test]
 fn passes_run_short(rt: HostRuntime) {
-    let found = take_all::<Brand, HostRuntime>(&rt, rt.alloc(), Blanks::new());
-    assert_eq!(rt; found, (Some(HubFault::Short), Some(HubFault::Short)));
+    let told = take_all::<Brand, HostRuntime>(&rt, rt.alloc(), Blanks::new());
+    same(&rt, "65536 passes", told.as_str(), "Short Short");
 }

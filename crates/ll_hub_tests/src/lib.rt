@@ -12,6 +12,8 @@ mod link_tests;
 #[cfg(test)]
 mod record_tests;
 #[cfg(test)]
+mod rows;
+#[cfg(test)]
 mod socket_tests;
 #[cfg(test)]
 mod thread_tests;

@@ -2,9 +2,10 @@
 ghost use Rattle.std.specs.Prelude.{◌≡◌};
 
 use crate::cases::{
-    SEGMENT, Stopped, Waiting, comes_to, finished, finished_with, hub_of_one, publish, seat,
+    SEGMENT, Stopped, Waiting, comes_to, finished, finished_with, hub_of_one, published, seat,
 };
-use crate::wires::{ANSWER, Dropped, GET, GET_FIRST, LINE, Open, Plan, SOUND, Wire};
+use crate::rows::{push, same, same_number, three};
+use crate::wires::{ANSWER, Dropped, GET, GET_FIRST, LINE, Open, Plan, SOUND, Wire, text_of};
 use ll_hub::{Blanks, Hub, Ledgers, Pass};
 use ll_link::{LinkFault, Role, serve_link};
 use std::alloc::Global;
@@ -15,9 +16,6 @@ use std::sync::atomic::AtomicU64;
 use std::thread;
 use std::thread::Threads;
 
-/// What a publisher is answered after one segment.
-const REPLIES: [&[u8]; 2] = [b"ok 2\n", b"ok 3\n"];
-
 /// What a connection came to, what was sent, and the totals of its hub.
 #[derive(Drop)]
 struct Served {
@@ -26,33 +24,61 @@ struct Served {
     totals: String,
 }
 
-/// Two texts, one after the other.
-fn joined(rt: &impl Abort, alloc: Global, texts: [&[u8]; 2]) -> Vec<u8> {
-    let mut all = Vec::new(alloc);
-    for text in texts {
-        all.extend_from_slice(text).expect(rt, "a text");
+/// The name of what a connection came to.
+fn name(end: Result<u64, LinkFault>) -> &'static str {
+    match end {
+        Ok(1) => "one answer",
+        Ok(2) => "two answers",
+        Ok(_) => "another number of answers",
+        Err(LinkFault::Read) => "Read",
+        Err(LinkFault::Write) => "Write",
+        Err(_) => "another fault",
     }
-    all
 }
 
-/// Two requests of one role, and the answers to them.
+/// Two requests of one role, and the answers to them after one segment.
 #[derive(Drop)]
 struct Talk {
     role: Role,
     bytes: Vec<u8>,
-    answers: Vec<u8>,
+    answers: String,
 }
 
 /// Two requests of this role, and the answers to them after one segment.
 fn two_requests(rt: &impl Abort, alloc: Global, role: Role) -> Talk {
-    let (bytes, answers) = match role {
-        Role::Player => ([GET, GET], [ANSWER, ANSWER]),
-        Role::Publisher => ([LINE, LINE], REPLIES),
+    let (bytes, first, second) = match role {
+        Role::Player => (GET, ANSWER, ANSWER),
+        Role::Publisher => (LINE, "ok 2\n", "ok 3\n"),
     };
+    let mut answers = String::new(alloc);
+    push(rt, &mut answers, first);
+    push(rt, &mut answers, second);
     Talk {
         role,
-        bytes: joined(rt, alloc, bytes),
-        answers: joined(rt, alloc, answers),
+        bytes: bytes.repeat(alloc, 2).expect(rt, "two requests"),
+        answers,
+    }
+}
+
+impl Talk {
+    /// How many requests lie in the first bytes, so many of them, of what is asked.
+    fn requests(&self, bytes: usize) -> usize {
+        let half = self.bytes.len() / 2;
+        bytes.min(self.bytes.len()).checked_div(half).unwrap_or(0)
+    }
+
+    /// How many bytes one answer has.
+    fn answer(&self) -> usize {
+        self.answers.len() / 2
+    }
+
+    /// The totals of a hub, where so many of the requests were made.
+    fn totals(&self, rt: &impl Abort, alloc: Global, requests: usize) -> String {
+        let requests = requests as u64;
+        match self.role {
+            Role::Player => three(rt, alloc, 1, requests, 0),
+            Role::Publisher => three(rt, alloc, requests.saturating_add(1), 0, 0),
+        }
     }
 }
 
@@ -61,8 +87,7 @@ fn serve<L: Ledgers, R: Wait + Abort>(
     rt: &R,
     alloc: Global,
     blanks: Blanks,
-    role: Role,
-    bytes: &[u8],
+    talk: &Talk,
     plan: Plan,
 ) -> Served
     requires names { blanks ≡ L.names }
@@ -70,10 +95,10 @@ fn serve<L: Ledgers, R: Wait + Abort>(
 {
     let hub: Hub<L> = hub_of_one(rt, alloc, blanks);
     let mut pass = seat(rt, &hub);
-    assert!(rt; publish(rt, alloc, &hub, &mut pass, 0, SEGMENT).is_ok());
-    let mut wire = Wire::new(alloc, bytes, plan);
+    published(rt, alloc, &hub, &mut pass, 0, SEGMENT);
+    let mut wire = Wire::new(alloc, &talk.bytes, plan);
     let result = serve_link(
-        rt, alloc, role, &mut wire, &Stopped, &Open, &Dropped, &hub, &mut pass,
+        rt, alloc, talk.role, &mut wire, &Stopped, &Open, &Dropped, &hub, &mut pass,
     );
     Served {
         result,
@@ -82,121 +107,172 @@ fn serve<L: Ledgers, R: Wait + Abort>(
     }
 }
 
-/// How many of the two equal halves of a text lie in its first bytes.
-fn halves(text: &[u8], count: usize) -> usize {
-    let half = text.len() / 2;
-    count.min(text.len()).checked_div(half).unwrap_or(0)
+/// What must come of a connection: how it ends, how many requests are made, and how many bytes of their answers are sent.
+#[derive(Clone, Copy)]
+struct Wanted {
+    result: Result<u64, LinkFault>,
+    requests: usize,
+    sent: usize,
 }
 
-/// A connection of this plan comes to this result, after so many requests, of whose answers so many bytes were sent. Nothing of it is
-/// held afterwards.
-fn check<R: Wait + Abort>(
-    rt: &R,
-    alloc: Global,
-    talk: &Talk,
-    plan: Plan,
-    wanted: (Result<u64, LinkFault>, usize, usize),
-) {
-    let (result, requests, sent) = wanted;
-    let found = serve::<Brand, R>(rt, alloc, Blanks::new(), talk.role, &talk.bytes, plan);
-    assert_eq!(rt; found.result, result, "{:?}: {plan:?}", talk.role);
-    let sent = talk.answers.get(..sent).unwrap_or(&talk.answers);
-    assert!(rt; found.sent.as_slice() == sent, "{:?}: {plan:?}", talk.role);
-    let (publishes, asks) = match talk.role {
-        Role::Player => (1, requests),
-        Role::Publisher => (requests.saturating_add(1), 0),
+/// A connection of this plan comes to what is wanted. Nothing of it is held afterwards.
+fn check<R: Wait + Abort>(rt: &R, alloc: Global, talk: &Talk, plan: Plan, wanted: Wanted) {
+    let found = serve::<Brand, R>(rt, alloc, Blanks::new(), talk, plan);
+    same(rt, "the end", name(found.result), name(wanted.result));
+    let sent = talk.answers.get(..wanted.sent).unwrap_or(&talk.answers);
+    same(rt, "the answers", text_of(&found.sent), sent);
+    let totals = talk.totals(rt, alloc, wanted.requests);
+    same(rt, "the totals", found.totals.as_str(), totals.as_str());
+}
+
+/// A connection of this plan gets both answers.
+fn check_whole<R: Wait + Abort>(rt: &R, alloc: Global, talk: &Talk, plan: Plan) {
+    let wanted = Wanted {
+        result: Ok(2),
+        requests: 2,
+        sent: talk.answers.len(),
     };
-    let totals = format!(in alloc; "{publishes} {asks} 0;").expect(rt, "a text");
-    assert_eq!(rt;
-        found.totals.as_str(),
-        totals.as_str(),
-        "{:?}: {plan:?}",
-        talk.role
+    check(rt, alloc, talk, plan, wanted);
+}
+
+/// A connection that gives so many bytes a read gets the answers to what came before a read that fails, whichever that is.
+fn fail_each_read<R: Wait + Abort>(rt: &R, alloc: Global, talk: &Talk, step: usize) {
+    let all = talk.bytes.len().div_ceil(step).saturating_add(1);
+    for reads in 0..all {
+        let requests = talk.requests(reads.saturating_mul(step));
+        let wanted = Wanted {
+            result: Err(LinkFault::Read),
+            requests,
+            sent: talk.answer().saturating_mul(requests),
+        };
+        check(
+            rt,
+            alloc,
+            talk,
+            Plan {
+                step,
+                reads,
+                ..SOUND
+            },
+            wanted,
+        );
+    }
+    check_whole(
+        rt,
+        alloc,
+        talk,
+        Plan {
+            step,
+            reads: all,
+            ..SOUND
+        },
     );
+}
+
+/// Lets each read of two requests fail.
+fn fail_reads<R: Wait + Abort>(rt: &R, alloc: Global, role: Role) {
+    let talk = two_requests(rt, alloc, role);
+    fail_each_read(rt, alloc, &talk, 1);
+    fail_each_read(rt, alloc, &talk, 7);
+    fail_each_read(rt, alloc, &talk, 100);
 }
 
 /// A connection whose read fails got the answers to what came before.
 #[test]
 fn failed_reads_are_told(rt: HostRuntime) {
-    let alloc = rt.alloc();
-    for role in [Role::Player, Role::Publisher] {
-        let talk = two_requests(&rt, alloc, role);
-        for step in [1, 7, 100] {
-            let all = talk.bytes.len().div_ceil(step).saturating_add(1);
-            for reads in 0..all {
-                let plan = Plan {
-                    step,
-                    reads,
-                    ..SOUND
-                };
-                let requests = halves(&talk.bytes, reads.saturating_mul(step));
-                let sent = (talk.answers.len() / 2).saturating_mul(requests);
-                let wanted = (Err(LinkFault::Read), requests, sent);
-                check(&rt, alloc, &talk, plan, wanted);
-            }
-            let plan = Plan {
-                step,
-                reads: all,
+    fail_reads(&rt, rt.alloc(), Role::Player);
+    fail_reads(&rt, rt.alloc(), Role::Publisher);
+}
+
+/// A connection that takes so many bytes a write gets what was written before a write that fails, whichever that is.
+fn fail_each_write<R: Wait + Abort>(rt: &R, alloc: Global, talk: &Talk, taken: usize) {
+    let each = talk.answer().div_ceil(taken);
+    for writes in 0..each.saturating_mul(2) {
+        let answers = writes.checked_div(each).unwrap_or(0);
+        let rest = writes.saturating_sub(each.saturating_mul(answers));
+        let whole = talk.answer().saturating_mul(answers);
+        let wanted = Wanted {
+            result: Err(LinkFault::Write),
+            requests: answers.saturating_add(1),
+            sent: whole.saturating_add(taken.saturating_mul(rest)),
+        };
+        check(
+            rt,
+            alloc,
+            talk,
+            Plan {
+                taken,
+                writes,
                 ..SOUND
-            };
-            check(&rt, alloc, &talk, plan, (Ok(2), 2, talk.answers.len()));
-        }
+            },
+            wanted,
+        );
     }
+}
+
+/// Lets each write of two answers fail.
+fn fail_writes<R: Wait + Abort>(rt: &R, alloc: Global, role: Role) {
+    let talk = two_requests(rt, alloc, role);
+    fail_each_write(rt, alloc, &talk, 2);
+    fail_each_write(rt, alloc, &talk, 100);
+    fail_each_write(rt, alloc, &talk, 1_000);
 }
 
 /// A connection whose write fails got what was written before. One request more was made than was answered.
 #[test]
 fn failed_writes_are_told(rt: HostRuntime) {
-    let alloc = rt.alloc();
-    for role in [Role::Player, Role::Publisher] {
-        let talk = two_requests(&rt, alloc, role);
-        let half = talk.answers.len() / 2;
-        for taken in [2, 100, 1_000] {
-            let each = half.div_ceil(taken);
-            for writes in 0..each.saturating_mul(2) {
-                let plan = Plan {
-                    taken,
-                    writes,
-                    ..SOUND
-                };
-                let answers = writes.checked_div(each).unwrap_or(0);
-                let rest = writes.saturating_sub(each.saturating_mul(answers));
-                let sent = half
-                    .saturating_mul(answers)
-                    .saturating_add(taken.saturating_mul(rest));
-                let wanted = (Err(LinkFault::Write), answers.saturating_add(1), sent);
-                check(&rt, alloc, &talk, plan, wanted);
-            }
-        }
-    }
+    fail_writes(&rt, rt.alloc(), Role::Player);
+    fail_writes(&rt, rt.alloc(), Role::Publisher);
+}
+
+/// A connection gets both answers that takes so many bytes a write, and one byte alone after so many writes.
+fn write_short<R: Wait + Abort>(rt: &R, alloc: Global, talk: &Talk, taken: usize, whole: usize) {
+    check_whole(
+        rt,
+        alloc,
+        talk,
+        Plan {
+            taken,
+            whole,
+            ..SOUND
+        },
+    );
+}
+
+/// Takes a part of an answer at a time.
+fn write_parts<R: Wait + Abort>(rt: &R, alloc: Global, role: Role) {
+    let talk = two_requests(rt, alloc, role);
+    write_short(rt, alloc, &talk, 1, 9);
+    write_short(rt, alloc, &talk, 2, 9);
+    write_short(rt, alloc, &talk, 3, 1);
+    write_short(rt, alloc, &talk, 1_000, 0);
+    write_short(rt, alloc, &talk, 1_000, 1);
+    write_short(rt, alloc, &talk, 1_000, 2);
 }
 
 /// Where a write takes a part of an answer, the rest is written after it.
 #[test]
 fn short_writes_leave_nothing_out(rt: HostRuntime) {
-    let alloc = rt.alloc();
-    for role in [Role::Player, Role::Publisher] {
-        let talk = two_requests(&rt, alloc, role);
-        for (taken, whole) in [(1, 9), (2, 9), (3, 1), (1_000, 0), (1_000, 1), (1_000, 2)] {
-            let plan = Plan {
-                taken,
-                whole,
-                ..SOUND
-            };
-            check(&rt, alloc, &talk, plan, (Ok(2), 2, talk.answers.len()));
-        }
-    }
+    write_parts(&rt, rt.alloc(), Role::Player);
+    write_parts(&rt, rt.alloc(), Role::Publisher);
+}
+
+/// Takes nothing of an answer.
+fn write_nothing<R: Wait + Abort>(rt: &R, alloc: Global, role: Role) {
+    let talk = two_requests(rt, alloc, role);
+    let wanted = Wanted {
+        result: Err(LinkFault::Write),
+        requests: 1,
+        sent: 0,
+    };
+    check(rt, alloc, &talk, Plan { taken: 0, ..SOUND }, wanted);
 }
 
 /// A device that takes nothing of an answer fails.
 #[test]
 fn writes_that_take_nothing_fail(rt: HostRuntime) {
-    let alloc = rt.alloc();
-    for role in [Role::Player, Role::Publisher] {
-        let talk = two_requests(&rt, alloc, role);
-        let plan = Plan { taken: 0, ..SOUND };
-        check(&rt, alloc, &talk, plan, (Err(LinkFault::Write), 1, 0));
-    }
+    write_nothing(&rt, rt.alloc(), Role::Player);
+    write_nothing(&rt, rt.alloc(), Role::Publisher);
 }
 
 /// Publishes a segment, once a request was made.
@@ -208,7 +284,8 @@ fn publish_after<L: Ledgers, R: Wait + Abort>(
 ) -> Pass<L> {
     let mut pass = seat(rt, hub);
     comes_to(asked, 1);
-    assert_eq!(rt; publish(rt, alloc, hub, &mut pass, 0, SEGMENT), Ok(1));
+    let count = published(rt, alloc, hub, &mut pass, 0, SEGMENT);
+    same_number(rt, "the segment", count, 1);
     pass
 }
 
@@ -249,17 +326,23 @@ fn serve_held<L: Ledgers + Send + Sync, R: Threads + Wait + Abort + Sync>(
     }
 }
 
+/// A player whose request is held comes to this end, and is sent this, where so many writes go well.
+fn check_held<R: Threads + Wait + Abort + Sync>(
+    rt: &R,
+    alloc: Global,
+    writes: usize,
+    end: Result<u64, LinkFault>,
+    sent: &str,
+) {
+    let found = serve_held::<Brand, R>(rt, alloc, Blanks::new(), writes);
+    same(rt, "the end", name(found.result), name(end));
+    same(rt, "the answer", text_of(&found.sent), sent);
+    same(rt, "the totals", found.totals.as_str(), "1 1 0;");
+}
+
 /// A connection whose request was held isn't held any more, whether or not its answer could be sent.
 #[test]
 fn held_requests_are_spent(rt: HostRuntime) {
-    for (writes, result, sent) in [
-        (0, Err(LinkFault::Write), b"".as_slice()),
-        (1, Ok(1), ANSWER),
-    ] {
-        let found = serve_held::<Brand, HostRuntime>(&rt, rt.alloc(), Blanks::new(), writes);
-        assert_eq!(rt;
-            (found.result, found.sent.as_slice(), found.totals.as_str()),
-            (result, sent, "1 1 0;")
-        );
-    }
+    check_held(&rt, rt.alloc(), 0, Err(LinkFault::Write), "");
+    check_held(&rt, rt.alloc(), 1, Ok(1), ANSWER);
 }

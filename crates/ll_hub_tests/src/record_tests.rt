@@ -2,11 +2,12 @@
 ghost use Rattle.std.specs.Prelude.{◌≡◌};
 
 use crate::cases::{
-    DOOR, NOW, SEGMENT, Stopped, add_one, answered, finished, finished_with, hub_of_one,
-    hub_of_two, publish, seat, settings,
+    DOOR, NOW, SEGMENT, Stopped, add_one, finished, finished_with, hub_of_one, hub_of_two,
+    published, reply, seat, settings,
 };
-use crate::wires::{ANSWER, GET, LINE, Open, SOUND, Wire};
-use ll_check::{CheckFault, check};
+use crate::rows::{Row, number, push, same, same_number};
+use crate::wires::{ANSWER, GET, LINE, Open, SOUND, Wire, text_of};
+use ll_check::check;
 use ll_directive::read_target;
 use ll_hub::{Blanks, Hub, Ledgers, Pass, Sink};
 use ll_item::Item;
@@ -19,8 +20,8 @@ use std::marker::Brand;
 use std::process::Abort;
 use std::sync::atomic::{AtomicU64, Ordering};
 use std::sync::{Mutex, Wait};
+use std::thread;
 use std::thread::Threads;
-use std::{str, thread};
 
 /// A sink that counts its chunks, and keeps their bytes one after another.
 #[derive(Drop)]
@@ -44,11 +45,17 @@ impl<'a, R: Wait> Kept<'a, R> {
     fn chunks(&self) -> u64 {
         self.chunks.load(Ordering::SeqCst)
     }
+}
 
-    /// How many entries its chunks have, where they are right.
-    fn checked(&self, alloc: Global) -> Result<u64, CheckFault> {
-        check(alloc, &self.bytes.lock(self.rt))
-    }
+/// How many entries the chunks of a sink have, which are right.
+fn entries<R: Wait + Abort>(rt: &R, alloc: Global, sink: &Kept<'_, R>) -> u64 {
+    let bytes = sink.bytes.lock(rt);
+    check(alloc, &bytes).expect(rt, "chunks that are right")
+}
+
+/// Hands the record of a hub's first channel to a sink.
+fn hand_out<L: Ledgers, R: Wait + Abort>(rt: &R, hub: &Hub<L>, sink: &Kept<'_, R>) {
+    hub.rotate_to(rt, 0, sink).expect(rt, "a chunk");
 }
 
 impl<R: Wait> Sink for Kept<'_, R> {
@@ -68,9 +75,9 @@ fn call<L: Ledgers, R: Wait + Abort>(
     number: u64,
 ) {
     if number % 3 == 0 {
-        answered(rt, alloc, hub, &Stopped, pass, 0, NOW);
+        reply(rt, alloc, hub, &Stopped, pass, 0, NOW).expect(rt, "a reply");
     } else {
-        assert!(rt; publish(rt, alloc, hub, pass, 0, SEGMENT).is_ok());
+        published(rt, alloc, hub, pass, 0, SEGMENT);
     }
 }
 
@@ -85,19 +92,19 @@ fn call_and_hand_out<L: Ledgers, R: Wait + Abort>(
     for number in 1..151 {
         call(rt, alloc, hub, &mut pass, number);
         if number % 10 == 0 {
-            assert!(rt; hub.rotate_to(rt, 0, sink).is_ok());
+            hand_out(rt, hub, sink);
         }
     }
     pass
 }
 
-/// Publishes and asks by three threads that hand the record out meanwhile: how many chunks there are with one at the end, how many
-/// entries they have, and the totals.
+/// Publishes and asks by three threads that hand the record out meanwhile. With one at the end there are 46 chunks, which have 600
+/// entries: the totals.
 fn record_by_three<L: Ledgers + Send + Sync, R: Threads + Wait + Abort + Sync>(
     rt: &R,
     alloc: Global,
     blanks: Blanks,
-) -> (u64, Result<u64, CheckFault>, String)
+) -> String
     requires names { blanks ≡ L.names }
     requires channels { L.channels ≡ 1 }
 {
@@ -109,67 +116,90 @@ fn record_by_three<L: Ledgers + Send + Sync, R: Threads + Wait + Abort + Sync>(
         3,
         &|_place| call_and_hand_out(rt, alloc, &hub, &sink),
     );
-    assert!(rt; hub.rotate_to(rt, 0, &sink).is_ok());
-    let passes = passes.expect(rt, "three threads");
-    (
-        sink.chunks(),
-        sink.checked(alloc),
-        finished(rt, alloc, hub, passes),
-    )
+    hand_out(rt, &hub, &sink);
+    same_number(rt, "the chunks", sink.chunks(), 46);
+    same_number(rt, "the entries", entries(rt, alloc, &sink), 600);
+    finished(rt, alloc, hub, passes.expect(rt, "three threads"))
 }
 
 /// The chunks that a channel hands out while threads call it are a faithful chain of all its items, readings and requests.
 #[test]
 fn hub_chunks_are_right(rt: HostRuntime) {
-    let (chunks, entries, totals) = record_by_three::<Brand, HostRuntime>(
-        &rt,
-        rt.alloc(),
-        Blanks::new(),
-    );
-    assert_eq!(rt;
-        (chunks, entries, totals.as_str()),
-        (46, Ok(600), "300 150 0;")
-    );
+    let totals = record_by_three::<Brand, HostRuntime>(&rt, rt.alloc(), Blanks::new());
+    same(&rt, "the totals", totals.as_str(), "300 150 0;");
 }
 
-/// What a connection was sent, how many chunks its sink took, and how many entries they have with those that were left at the end.
-#[derive(Drop)]
-struct Served {
-    sent: Vec<u8>,
-    chunks: u64,
-    entries: Result<u64, CheckFault>,
+/// Tells a hub so many readings of the clock.
+fn tick_each<L: Ledgers, R: Wait + Abort>(rt: &R, hub: &Hub<L>, readings: u64) {
+    for ms in 0..readings {
+        hub.tick(rt, ms).expect(rt, "a reading");
+    }
 }
 
-/// Serves a connection on a hub of one channel, in whose record are a segment and so many readings of the clock.
+/// Serves one request of this role, which gets its answer, and hands what is full to a sink.
+fn serve_one<L: Ledgers, R: Wait + Abort>(
+    rt: &R,
+    alloc: Global,
+    hub: &Hub<L>,
+    pass: &mut Pass<L>,
+    sink: &Kept<'_, R>,
+    role: Role,
+) {
+    let (bytes, answer) = match role {
+        Role::Player => (GET, ANSWER),
+        Role::Publisher => (LINE, "ok 2\n"),
+    };
+    let mut wire = Wire::new(alloc, bytes, SOUND);
+    let _ = serve_link(rt, alloc, role, &mut wire, &Stopped, &Open, sink, hub, pass);
+    same(rt, "the answer", text_of(&wire.into_sent()), answer);
+}
+
+/// Serves a connection on a hub of one channel, in whose record are a segment and so many readings of the clock. Its sink takes so many
+/// chunks, which have so many entries with those that are left at the end: the totals.
 fn serve_after<L: Ledgers, R: Wait + Abort>(
     rt: &R,
     alloc: Global,
     blanks: Blanks,
-    readings: u64,
     role: Role,
-    bytes: &[u8],
-) -> Served
+    row: Row<'_>,
+) -> String
     requires names { blanks ≡ L.names }
     requires channels { L.channels ≡ 1 }
 {
     let hub: Hub<L> = hub_of_one(rt, alloc, blanks);
     let mut pass = seat(rt, &hub);
-    assert_eq!(rt; publish(rt, alloc, &hub, &mut pass, 0, SEGMENT), Ok(1));
-    for ms in 0..readings {
-        assert!(rt; hub.tick(rt, ms).is_ok());
-    }
-    let mut wire = Wire::new(alloc, bytes, SOUND);
+    let first = published(rt, alloc, &hub, &mut pass, 0, SEGMENT);
+    same_number(rt, row.line, first, 1);
+    tick_each(rt, &hub, number(rt, row.column(0)));
     let sink = Kept::new(rt, alloc);
-    let _ = serve_link(
-        rt, alloc, role, &mut wire, &Stopped, &Open, &sink, &hub, &mut pass,
+    serve_one(rt, alloc, &hub, &mut pass, &sink, role);
+    same_number(rt, row.line, sink.chunks(), number(rt, row.column(1)));
+    hand_out(rt, &hub, &sink);
+    same_number(
+        rt,
+        row.line,
+        entries(rt, alloc, &sink),
+        number(rt, row.column(2)),
     );
-    let chunks = sink.chunks();
-    assert!(rt; hub.rotate_to(rt, 0, &sink).is_ok());
-    finished_with(rt, alloc, hub, pass);
-    Served {
-        sent: wire.into_sent(),
-        chunks,
-        entries: sink.checked(alloc),
+    finished_with(rt, alloc, hub, pass)
+}
+
+/// What an item meets: how many readings there are, how many chunks the sink takes and how many entries they have in the end, and the
+/// totals.
+const FULL_OF_ITEMS: &str = "65534 | 0 | 65536 => 2 0 0;
+65535 | 1 | 65537 => 2 0 0;";
+
+/// What a request meets.
+const FULL_OF_REQUESTS: &str = "65533 | 0 | 65536 => 1 1 0;
+65534 | 1 | 65538 => 1 1 0;
+65535 | 1 | 65538 => 1 1 0;";
+
+/// A connection of this role comes to what each row of a table says.
+fn fill_records<R: Wait + Abort>(rt: &R, alloc: Global, role: Role, table: &str) {
+    for line in table.lines() {
+        let row = Row { line };
+        let totals = serve_after::<Brand, R>(rt, alloc, Blanks::new(), role, row);
+        row.compare(rt, totals.as_str());
     }
 }
 
@@ -177,41 +207,8 @@ fn serve_after<L: Ledgers, R: Wait + Abort>(
 /// reading that was made before the record was full stays in it.
 #[test]
 fn full_records_are_handed_out(rt: HostRuntime) {
-    for (role, bytes, readings, sent, chunks, entries) in [
-        (
-            Role::Publisher,
-            LINE,
-            65_534,
-            b"ok 2\n".as_slice(),
-            0,
-            65_536,
-        ),
-        (
-            Role::Publisher,
-            LINE,
-            65_535,
-            b"ok 2\n".as_slice(),
-            1,
-            65_537,
-        ),
-        (Role::Player, GET, 65_533, ANSWER, 0, 65_536),
-        (Role::Player, GET, 65_534, ANSWER, 1, 65_538),
-        (Role::Player, GET, 65_535, ANSWER, 1, 65_538),
-    ] {
-        let found = serve_after::<Brand, HostRuntime>(
-            &rt,
-            rt.alloc(),
-            Blanks::new(),
-            readings,
-            role,
-            bytes,
-        );
-        assert_eq!(rt;
-            (found.sent.as_slice(), found.chunks, found.entries),
-            (sent, chunks, Ok(entries)),
-            "{role:?}, {readings} readings"
-        );
-    }
+    fill_records(&rt, rt.alloc(), Role::Publisher, FULL_OF_ITEMS);
+    fill_records(&rt, rt.alloc(), Role::Player, FULL_OF_REQUESTS);
 }
 
 /// A request of the second channel that waits for nothing.
@@ -234,53 +231,56 @@ end hi
 ";
 
 /// The playlist of a reply; nothing of another one.
-fn playlist(reply: &Reply) -> Option<&str> {
+fn playlist(reply: &Option<Reply>) -> &str {
     match reply {
-        Reply::Text(page) => Some(page.text()),
-        _ => None,
+        Some(Reply::Text(page)) => page.text(),
+        _ => "",
     }
 }
 
 /// What the second channel answers after an item, where it is kept without a hub.
-fn kept_answer(rt: &impl Abort, alloc: Global, keeper: &mut Keeper, line: &str) -> Option<Reply> {
+fn kept_reply(alloc: Global, keeper: &mut Keeper, line: &str) -> Option<Reply> {
     let item = Item::read(alloc, keeper.room().settings(), line).ok()?;
     keeper.publish(item).ok()?;
-    let want = read_target(alloc, DOOR_NOW.as_bytes()).expect(rt, "a target");
-    let answer = keeper.ask(want).ok()??;
-    Some(answer.into_inner())
+    let want = read_target(alloc, DOOR_NOW.as_bytes()).ok()?;
+    let reply = keeper.ask(want).ok()??;
+    Some(reply.into_inner())
 }
 
-/// The items in a channel's record, which is handed out, and how many entries that has.
-fn recorded<L: Ledgers, R: Wait + Abort>(
+/// Publishes an item in the second channel, which answers after it as it does without a hub.
+fn publish_in_both<L: Ledgers, R: Wait + Abort>(
     rt: &R,
     alloc: Global,
     hub: &Hub<L>,
-    channel: usize,
-) -> (String, u64) {
-    let chunk = hub.rotate(rt, channel).expect(rt, "a chunk");
-    let text = str::from_utf8(chunk.bytes()).unwrap_or("");
+    pass: &mut Pass<L>,
+    keeper: &mut Keeper,
+    line: &str,
+) {
+    published(rt, alloc, hub, pass, 1, line);
+    let found = reply(rt, alloc, hub, &Stopped, pass, 1, DOOR_NOW);
+    let expected = kept_reply(alloc, keeper, line);
+    same(rt, line, playlist(&found), playlist(&expected));
+}
+
+/// The record of a channel, which is handed out.
+fn chunk<L: Ledgers, R: Wait + Abort>(rt: &R, hub: &Hub<L>, channel: usize) -> Chunk {
+    hub.rotate(rt, channel).expect(rt, "a chunk")
+}
+
+/// The items in a record.
+fn items(rt: &impl Abort, alloc: Global, record: &str) -> String {
     let mut items = String::new(alloc);
-    for line in text.lines() {
+    for line in record.lines() {
         if let Some(item) = line.strip_prefix("P ") {
-            push_line(rt, &mut items, item);
+            push(rt, &mut items, item);
+            push(rt, &mut items, "\n");
         }
     }
-    (items, chunk.entries())
+    items
 }
 
-/// Adds a line to a text.
-fn push_line(rt: &impl Abort, text: &mut String, line: &str) {
-    text.push_str(line).expect(rt, "a text");
-    text.push_str("\n").expect(rt, "a text");
-}
-
-/// Publishes an item of each form in the second of two channels, which answers after each as it does without a hub: the items in the
-/// second channel's record, and how many entries the first one's has.
-fn publish_in_second<L: Ledgers, R: Wait + Abort>(
-    rt: &R,
-    alloc: Global,
-    blanks: Blanks,
-) -> (String, u64)
+/// Publishes an item of each form in the second of two channels. They are in its record, and nothing is in the first one's: the totals.
+fn publish_in_second<L: Ledgers, R: Wait + Abort>(rt: &R, alloc: Global, blanks: Blanks) -> String
     requires names { blanks ≡ L.names }
     requires channels { L.channels ≡ 2 }
 {
@@ -288,24 +288,17 @@ fn publish_in_second<L: Ledgers, R: Wait + Abort>(
     let mut pass = seat(rt, &hub);
     let mut keeper = Keeper::new(alloc, 1, settings(rt, alloc, DOOR)).expect(rt, "a keeper");
     for line in ITEMS.lines() {
-        assert!(rt; publish(rt, alloc, &hub, &mut pass, 1, line).is_ok());
-        let found = answered(rt, alloc, &hub, &Stopped, &mut pass, 1, DOOR_NOW);
-        let expected = kept_answer(rt, alloc, &mut keeper, line);
-        assert_eq!(rt;
-            playlist(&found),
-            expected.as_ref().and_then(playlist),
-            "{line}"
-        );
+        publish_in_both(rt, alloc, &hub, &mut pass, &mut keeper, line);
     }
-    let (_none, first) = recorded(rt, alloc, &hub, 0);
-    let (second, _all) = recorded(rt, alloc, &hub, 1);
-    finished_with(rt, alloc, hub, pass);
-    (second, first)
+    same_number(rt, "the first record", chunk(rt, &hub, 0).entries(), 0);
+    let second = items(rt, alloc, text_of(chunk(rt, &hub, 1).bytes()));
+    same(rt, "the second record", second.as_str(), ITEMS);
+    finished_with(rt, alloc, hub, pass)
 }
 
 /// What is published in one channel is answered and recorded there, and nothing of it in another.
 #[test]
 fn publishes_reach_their_channel(rt: HostRuntime) {
-    let (items, others) = publish_in_second::<Brand, HostRuntime>(&rt, rt.alloc(), Blanks::new());
-    assert_eq!(rt; (items.as_str(), others), (ITEMS, 0));
+    let totals = publish_in_second::<Brand, HostRuntime>(&rt, rt.alloc(), Blanks::new());
+    same(&rt, "the totals", totals.as_str(), "0 0 0;13 13 0;");
 }

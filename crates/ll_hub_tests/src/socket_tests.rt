@@ -2,7 +2,8 @@
 ghost use Rattle.std.specs.Prelude.{◌≡◌, None, if◌then◌else◌};
 
 use crate::cases::{Stopped, finished, hub_of_one};
-use crate::wires::{ANSWER, Dropped, GET, LINE, Open};
+use crate::rows::same;
+use crate::wires::{ANSWER, Dropped, GET, LINE, Open, text_of};
 use ll_device::{Failed, Writer};
 use ll_hub::{Blanks, Hub, Ledgers, Pass};
 use ll_link::{Link, Role, Source, serve_links};
@@ -104,33 +105,64 @@ impl Source for Door {
     }
 }
 
-/// What comes back of these bytes until the other side ends.
-fn exchanged<R: Net<Listener = TcpListener, Stream = TcpStream>>(
+/// A connection to this address.
+fn connect<R: Net<Listener = TcpListener, Stream = TcpStream>>(
     rt: &R,
-    alloc: Global,
     address: SocketAddr,
-    bytes: &[u8],
-) -> io::Result<Vec<u8>> {
+) -> io::Result<TcpStream> {
     let stream = TcpStream::connect(rt, address)?;
     stream.set_read_timeout(Some(Duration::from_secs(LIMIT)))?;
-    let mut socket = &stream;
+    Ok(stream)
+}
+
+/// Sends these bytes, and no more.
+fn send(stream: &TcpStream, bytes: &[u8]) -> io::Result<()> {
+    let mut socket = stream;
     socket.write_all(bytes)?;
-    stream.shutdown(Shutdown::Write)?;
+    stream.shutdown(Shutdown::Write)
+}
+
+/// What comes until the other side ends.
+fn receive(alloc: Global, stream: &TcpStream) -> io::Result<Vec<u8>> {
+    let mut socket = stream;
     let mut all = Vec::new(alloc);
     socket.read_to_end(&mut all)?;
     Ok(all)
 }
 
-/// A publisher announces a segment, and then a player asks: what each of them is sent.
-fn talk<R: Net<Listener = TcpListener, Stream = TcpStream>>(
+/// What comes back of these bytes until the other side ends.
+fn exchange<R: Net<Listener = TcpListener, Stream = TcpStream>>(
+    rt: &R,
+    alloc: Global,
+    address: SocketAddr,
+    bytes: &[u8],
+) -> io::Result<Vec<u8>> {
+    let stream = connect(rt, address)?;
+    send(&stream, bytes)?;
+    receive(alloc, &stream)
+}
+
+/// These bytes get this answer.
+fn check_exchange<R: Net<Listener = TcpListener, Stream = TcpStream> + Abort>(
+    rt: &R,
+    alloc: Global,
+    address: SocketAddr,
+    bytes: &[u8],
+    answer: &str,
+) {
+    let found = exchange(rt, alloc, address, bytes).expect(rt, "an answer");
+    same(rt, "an exchange", text_of(&found), answer);
+}
+
+/// A publisher announces a segment, and then a player asks: each of them gets its answer.
+fn talk<R: Net<Listener = TcpListener, Stream = TcpStream> + Abort>(
     rt: &R,
     alloc: Global,
     publishers: SocketAddr,
     players: SocketAddr,
-) -> (Option<Vec<u8>>, Option<Vec<u8>>) {
-    let published = exchanged(rt, alloc, publishers, LINE);
-    let played = exchanged(rt, alloc, players, GET);
-    (published.ok(), played.ok())
+) {
+    check_exchange(rt, alloc, publishers, LINE, "ok 1\n");
+    check_exchange(rt, alloc, players, GET, ANSWER);
 }
 
 /// Serves those who come in by a door with one worker: its pass, where memory was found.
@@ -166,15 +198,7 @@ fn serve_both<L: Ledgers + Send + Sync, R: Threads + Wait + Abort + Sync>(
     passes
 }
 
-/// What a publisher and a player were sent, and the totals of their hub.
-#[derive(Drop)]
-struct Talked {
-    published: Option<Vec<u8>>,
-    played: Option<Vec<u8>>,
-    totals: String,
-}
-
-/// Serves one publisher and one player, while they talk.
+/// Serves one publisher and one player, while they talk: the totals.
 fn serve_sockets<
     L: Ledgers + Send + Sync,
     R: Net<Listener = TcpListener, Stream = TcpStream> + Threads + Wait + Abort + Sync,
@@ -184,42 +208,31 @@ fn serve_sockets<
     blanks: Blanks,
     publishers: &mut Door,
     players: &mut Door,
-) -> io::Result<Talked>
+) -> io::Result<String>
     requires names { blanks ≡ L.names }
     requires channels { L.channels ≡ 1 }
 {
     let (lines, requests) = (publishers.address()?, players.address()?);
     let hub: Hub<L> = hub_of_one(rt, alloc, blanks);
-    let ((published, played), passes) = thread::join(
+    let ((), passes) = thread::join(
         rt,
         || talk(rt, alloc, lines, requests),
         || serve_both(rt, alloc, &hub, publishers, players),
     );
-    Ok(Talked {
-        published,
-        played,
-        totals: finished(rt, alloc, hub, passes),
-    })
+    Ok(finished(rt, alloc, hub, passes))
 }
 
 /// What a publisher announces over one connection, a player gets over another.
 #[test]
 fn sockets_are_served(rt: HostRuntime) -> Result<(), Fail> {
     let (mut publishers, mut players) = (Door::open(&rt)?, Door::open(&rt)?);
-    let found = serve_sockets::<Brand, HostRuntime>(
+    let totals = serve_sockets::<Brand, HostRuntime>(
         &rt,
         rt.alloc(),
         Blanks::new(),
         &mut publishers,
         &mut players,
     )?;
-    assert_eq!(rt;
-        (
-            found.published.as_deref(),
-            found.played.as_deref(),
-            found.totals.as_str()
-        ),
-        (Some(b"ok 1\n".as_slice()), Some(ANSWER), "1 1 0;")
-    );
+    same(&rt, "the totals", totals.as_str(), "1 1 0;");
     Ok(())
 }

@@ -2,10 +2,11 @@
 ghost use Rattle.std.specs.Prelude.{◌≡◌};
 
 use crate::cases::{
-    FIRST, NOW, PART, SEGMENT, Stopped, Waiting, add_one, answered, comes_to, finished, held,
-    hub_of_one, hub_of_two, number, publish, seat, told,
+    FIRST, NOW, PART, SEGMENT, Stopped, Waiting, add_one, asked, awaited, comes_to, finished, held,
+    hub_of_one, hub_of_two, published, seat, take,
 };
-use ll_hub::{Blanks, Hub, HubFault, Ledgers, Pass};
+use crate::rows::{Row, same, same_number};
+use ll_hub::{Blanks, Hub, Ledgers, Pass};
 use std::alloc::Global;
 use std::marker::Brand;
 use std::process::Abort;
@@ -24,172 +25,178 @@ fn ask_second<L: Ledgers, R: Wait + Abort>(
 ) -> Pass<L> {
     let mut pass = seat(rt, hub);
     comes_to(&clock.readings, 1);
-    let reply = answered(rt, alloc, hub, &Stopped, &mut pass, 1, NOW);
-    assert_eq!(rt; number(&reply), 1);
+    let number = asked(rt, alloc, hub, &Stopped, &mut pass, 1, NOW);
+    same_number(rt, "the second channel", number, 1);
     add_one(&clock.came);
     pass
 }
 
-/// Asks each of two channels, the second while the first is locked.
+/// Publishes a part in a channel, which had none.
+fn publish_first<L: Ledgers, R: Wait + Abort>(
+    rt: &R,
+    alloc: Global,
+    hub: &Hub<L>,
+    pass: &mut Pass<L>,
+    channel: usize,
+) {
+    let count = published(rt, alloc, hub, pass, channel, PART);
+    same_number(rt, "a part", count, 1);
+}
+
+/// Asks each of two channels, the second while the first is locked: the totals.
 fn ask_both<L: Ledgers + Send + Sync, R: Threads + Wait + Abort + Sync>(
     rt: &R,
     alloc: Global,
     blanks: Blanks,
-)
+) -> String
     requires names { blanks ≡ L.names }
     requires channels { L.channels ≡ 2 }
 {
     let hub: Hub<L> = hub_of_two(rt, alloc, blanks);
     let mut pass = seat(rt, &hub);
-    for channel in 0..2 {
-        assert_eq!(rt; publish(rt, alloc, &hub, &mut pass, channel, PART), Ok(1));
-    }
+    publish_first(rt, alloc, &hub, &mut pass, 0);
+    publish_first(rt, alloc, &hub, &mut pass, 1);
     let clock = Waiting::new(0);
-    let (reply, other) = thread::join(
+    let (number, other) = thread::join(
         rt,
-        || answered(rt, alloc, &hub, &clock, &mut pass, 0, NOW),
+        || asked(rt, alloc, &hub, &clock, &mut pass, 0, NOW),
         || ask_second(rt, alloc, &hub, &clock),
     );
-    assert_eq!(rt; (number(&reply), clock.met.load(Ordering::SeqCst)), (1, 1));
+    same_number(rt, "the first channel", number, 1);
+    same_number(rt, "the clock", clock.met.load(Ordering::SeqCst), 1);
     let passes = vec![in alloc; pass, other].expect(rt, "passes");
-    assert_eq!(rt; finished(rt, alloc, hub, passes).as_str(), "1 1 0;1 1 0;");
+    finished(rt, alloc, hub, passes)
 }
 
 /// While one channel is locked, another answers.
 #[test]
 fn channels_share_no_lock(rt: HostRuntime) {
-    ask_both::<Brand, HostRuntime>(&rt, rt.alloc(), Blanks::new());
+    let totals = ask_both::<Brand, HostRuntime>(&rt, rt.alloc(), Blanks::new());
+    same(&rt, "the totals", totals.as_str(), "1 1 0;1 1 0;");
 }
 
-/// Publishes 100 items and asks 50 times by one pass, where each count is more than those before, and each answer has what was
-/// published before.
+/// Publishes two items and then asks, where each count is more than those before, and the answer has what was published before: how many
+/// items there are at the answer.
+fn publish_two_and_ask<L: Ledgers, R: Wait + Abort>(
+    rt: &R,
+    alloc: Global,
+    hub: &Hub<L>,
+    pass: &mut Pass<L>,
+    last: u64,
+) -> u64 {
+    let first = published(rt, alloc, hub, pass, 0, SEGMENT);
+    let second = published(rt, alloc, hub, pass, 0, SEGMENT);
+    let found = asked(rt, alloc, hub, &Stopped, pass, 0, NOW);
+    assert!(rt; last < first && first < second && second <= found);
+    found
+}
+
+/// Publishes 100 items and asks 50 times by one pass.
 fn publish_and_ask<L: Ledgers, R: Wait + Abort>(rt: &R, alloc: Global, hub: &Hub<L>) -> Pass<L> {
     let mut pass = seat(rt, hub);
     let mut last = 0;
     for _ in 0..50 {
-        let first = publish(rt, alloc, hub, &mut pass, 0, SEGMENT).unwrap_or(0);
-        let second = publish(rt, alloc, hub, &mut pass, 0, SEGMENT).unwrap_or(0);
-        let found = number(&answered(rt, alloc, hub, &Stopped, &mut pass, 0, NOW));
-        assert!(rt; last < first && first < second && second <= found);
-        last = found;
+        last = publish_two_and_ask(rt, alloc, hub, &mut pass, last);
     }
     pass
 }
 
-/// Publishes and asks by three threads, and loses so many of their passes: the totals of the one channel.
+/// Publishes and asks by three threads, and loses a pass of theirs or none: the totals.
 fn count_by_three<L: Ledgers + Send + Sync, R: Threads + Wait + Abort + Sync>(
     rt: &R,
     alloc: Global,
     blanks: Blanks,
-    lost: usize,
-) -> Result<(u64, u64), HubFault>
+    is_one_lost: bool,
+) -> String
     requires names { blanks ≡ L.names }
     requires channels { L.channels ≡ 1 }
 {
     let hub: Hub<L> = hub_of_one(rt, alloc, blanks);
     let passes = thread::map_indices(rt, alloc, 3, &|_place| publish_and_ask(rt, alloc, &hub));
     let mut passes = passes.expect(rt, "three threads");
-    for _ in 0..lost {
+    if is_one_lost {
         passes.pop();
     }
-    let totals = hub.finish(passes)?;
-    let total = totals.channels.first().expect(rt, "a total");
-    Ok((total.publishes, total.asks))
+    finished(rt, alloc, hub, passes)
 }
 
 /// The channels' totals are what the passes have counted; without one of the passes they aren't told.
 #[test]
 fn totals_are_exact(rt: HostRuntime) {
-    for (lost, expected) in [(0, Ok((300, 150))), (1, Err(HubFault::Short))] {
-        let found = count_by_three::<Brand, HostRuntime>(&rt, rt.alloc(), Blanks::new(), lost);
-        assert_eq!(rt; found, expected);
-    }
+    let totals = count_by_three::<Brand, HostRuntime>(&rt, rt.alloc(), Blanks::new(), false);
+    same(&rt, "all passes", totals.as_str(), "300 150 0;");
+    let totals = count_by_three::<Brand, HostRuntime>(&rt, rt.alloc(), Blanks::new(), true);
+    same(&rt, "a pass is lost", totals.as_str(), "Short");
 }
 
-/// What a request for the first part gets, which is held, and the pass.
+/// Waits for the first part, and gets what is expected.
 fn wait_for_first<L: Ledgers, R: Wait + Abort>(
     rt: &R,
     alloc: Global,
     hub: &Hub<L>,
     clock: &Waiting,
-) -> (String, Pass<L>) {
+    expected: &str,
+) -> Pass<L> {
     let mut pass = seat(rt, hub);
     let claim = held(rt, alloc, hub, clock, &mut pass, 0, FIRST);
-    let reply = hub.wait(rt, &mut pass, claim).expect(rt, "a reply");
-    (told(alloc, reply.get()).expect(rt, "a text"), pass)
+    let told = awaited(rt, alloc, hub, &mut pass, claim);
+    same(rt, "the first part", told.as_str(), expected);
+    pass
 }
 
-/// What ends three threads' waiting.
-#[derive(Clone, Copy)]
-enum Event {
-    Part,
-    Tick,
-}
-
-impl Event {
-    /// What each of them gets.
-    fn reply(self) -> &'static str {
-        match self {
-            Event::Part => "1 #EXT-X-PRELOAD-HINT:TYPE=PART,URI=\"s0.1.m4s\"",
-            Event::Tick => "Timeout",
-        }
-    }
-}
-
-/// Once three requests were made, waits a little, and then publishes a part or tells a late time.
+/// Once three requests were made, waits a little, and then takes what ends their waiting.
 fn end_waiting<L: Ledgers, R: Wait + time::Clock + Abort>(
     rt: &R,
     alloc: Global,
     hub: &Hub<L>,
     asked: &AtomicU64,
-    event: Event,
+    event: &str,
 ) -> Pass<L> {
     let mut pass = seat(rt, hub);
     comes_to(asked, 3);
     thread::sleep(rt, Duration::from_millis(20));
-    let ended = match event {
-        Event::Part => publish(rt, alloc, hub, &mut pass, 0, PART).is_ok(),
-        Event::Tick => hub.tick(rt, 12_000).is_ok(),
-    };
-    assert!(rt; ended);
+    take(rt, alloc, hub, &mut pass, event);
     pass
 }
 
-/// Lets three threads wait until an event, and each of them then gets its reply: the totals.
+/// Lets three threads wait until the event of the first column, and each of them then gets the reply of the second: the totals.
 fn wake_three<L: Ledgers + Send + Sync, R: Threads + Wait + time::Clock + Abort + Sync>(
     rt: &R,
     alloc: Global,
     blanks: Blanks,
-    event: Event,
+    row: Row<'_>,
 ) -> String
     requires names { blanks ≡ L.names }
     requires channels { L.channels ≡ 1 }
 {
     let hub: Hub<L> = hub_of_one(rt, alloc, blanks);
     let clock = Waiting::new(1);
+    let (event, expected) = (row.column(0), row.column(1));
     let (waited, ended) = thread::join(
         rt,
         || thread::map_indices(
             rt,
             alloc,
             3,
-            &|_place| wait_for_first(rt, alloc, &hub, &clock),
+            &|_place| wait_for_first(rt, alloc, &hub, &clock, expected),
         ),
         || end_waiting(rt, alloc, &hub, &clock.readings, event),
     );
-    let mut passes = vec![in alloc; ended].expect(rt, "passes");
-    for (text, pass) in waited.expect(rt, "three threads") {
-        assert_eq!(rt; text.as_str(), event.reply());
-        passes.push(pass).expect(rt, "passes");
-    }
+    let mut passes = waited.expect(rt, "three threads");
+    passes.push(ended).expect(rt, "passes");
     finished(rt, alloc, hub, passes)
 }
+
+/// What ends three threads' waiting, what each of them gets, and the totals.
+const WOKEN: &str = "part | 1 #EXT-X-PRELOAD-HINT:TYPE=PART,URI=\"s0.1.m4s\" => 1 3 0;
+12000 | Timeout => 0 3 0;";
 
 /// A reply that becomes ready wakes all who wait for one.
 #[test]
 fn waiting_threads_are_woken(rt: HostRuntime) {
-    for (event, totals) in [(Event::Part, "1 3 0;"), (Event::Tick, "0 3 0;")] {
-        let found = wake_three::<Brand, HostRuntime>(&rt, rt.alloc(), Blanks::new(), event);
-        assert_eq!(rt; found.as_str(), totals);
+    for line in WOKEN.lines() {
+        let row = Row { line };
+        let totals = wake_three::<Brand, HostRuntime>(&rt, rt.alloc(), Blanks::new(), row);
+        row.compare(&rt, totals.as_str());
     }
 }

@@ -6,6 +6,7 @@ use ll_hub::Sink;
 use ll_link::{Gate, Link};
 use ll_record::Chunk;
 use std::alloc::Global;
+use std::str;
 
 /// What a publisher announces: a segment of one part.
 pub(crate) const LINE: &[u8] = b"cam part hi 1000000 if\n";
@@ -18,8 +19,8 @@ pub(crate) const GET_FIRST: &[u8] =
     b"GET /cam/hi/live.m3u8?_HLS_msn=0&_HLS_part=0 HTTP/1.1\r\nHost: h\r\n\r\n";
 
 /// The answer, where one segment of one part was published.
-pub(crate) const ANSWER: &[u8] =
-    b"HTTP/1.1 200 OK\r\nContent-Type: application/vnd.apple.mpegurl\r\nContent-Length: 442\r\n\
+pub(crate) const ANSWER: &str =
+    "HTTP/1.1 200 OK\r\nContent-Type: application/vnd.apple.mpegurl\r\nContent-Length: 442\r\n\
 Cache-Control: no-cache\r\nConnection: keep-alive\r\n\r\n\
 #EXTM3U\n#EXT-X-VERSION:9\n#EXT-X-TARGETDURATION:4\n\
 #EXT-X-SERVER-CONTROL:CAN-BLOCK-RELOAD=YES,PART-HOLD-BACK=3.000000,CAN-SKIP-UNTIL=24.000000\n\
@@ -27,6 +28,11 @@ Cache-Control: no-cache\r\nConnection: keep-alive\r\n\r\n\
 #EXT-X-MAP:URI=\"init0.mp4\"\n#EXT-X-PROGRAM-DATE-TIME:1970-01-01T00:00:00.000Z\n\
 #EXT-X-PART:DURATION=1.000000,URI=\"s0.0.m4s\",INDEPENDENT=YES\n#EXTINF:1.000000,\ns0.m4s\n\
 #EXT-X-PRELOAD-HINT:TYPE=PART,URI=\"s1.0.m4s\"\n";
+
+/// What was sent, as a text.
+pub(crate) fn text_of(bytes: &[u8]) -> &str {
+    str::from_utf8(bytes).unwrap_or("bytes that are no text")
+}
 
 /// A gate that is open.
 #[derive(Clone, Copy)]
@@ -45,7 +51,7 @@ impl Sink for Dropped {
 }
 
 /// How a connection gives and takes its bytes.
-#[derive(Clone, Copy, Debug)]
+#[derive(Clone, Copy)]
 pub(crate) struct Plan {
     /// How many bytes a read gives at most.
     pub(crate) step: usize,

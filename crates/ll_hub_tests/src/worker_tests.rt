@@ -1,8 +1,9 @@
 //! Workers and the connections that they serve.
 ghost use Rattle.std.specs.Prelude.{◌≡◌, ◌≤◌, None};
 
-use crate::cases::{SEGMENT, Stopped, add_one, comes_to, finished, hub_of_one, publish, seat};
-use crate::wires::{ANSWER, Dropped, GET, Open};
+use crate::cases::{SEGMENT, Stopped, add_one, comes_to, finished, hub_of_one, published, seat};
+use crate::rows::{same, same_number};
+use crate::wires::{ANSWER, Dropped, GET, Open, text_of};
 use ll_device::{Failed, Writer};
 use ll_hub::{Blanks, Hub, Ledgers, Pass};
 use ll_link::{Gate, Link, Role, Source, serve_links};
@@ -78,9 +79,17 @@ fn boxes(rt: &impl Abort, alloc: Global, count: usize) -> Vec<Mutex<Vec<u8>>> {
     all
 }
 
-/// Whether each box has the answer, and nothing else.
-fn are_answered<R: Wait>(rt: &R, boxes: &[Mutex<Vec<u8>>]) -> bool {
-    boxes.iter().all(|sent| sent.lock(rt).as_slice() == ANSWER)
+/// A box has the answer, and nothing else.
+fn check_box<R: Wait + Abort>(rt: &R, sent: &Mutex<Vec<u8>>) {
+    let bytes = sent.lock(rt);
+    same(rt, "a box", text_of(&bytes), ANSWER);
+}
+
+/// Each box has the answer, and nothing else.
+fn check_boxes<R: Wait + Abort>(rt: &R, boxes: &[Mutex<Vec<u8>>]) {
+    for sent in boxes {
+        check_box(rt, sent);
+    }
 }
 
 /// Keeps the first answer that reaches it until another was sent and an item published after it, or the turns are over.
@@ -152,24 +161,32 @@ fn publish_after<L: Ledgers, R: Wait + Abort>(
 ) -> Pass<L> {
     let mut pass = seat(rt, hub);
     comes_to(&latch.writes, 1);
-    assert_eq!(rt; publish(rt, alloc, hub, &mut pass, 0, SEGMENT), Ok(2));
+    let count = published(rt, alloc, hub, &mut pass, 0, SEGMENT);
+    same_number(rt, "the second segment", count, 2);
     add_one(&latch.published);
     pass
 }
 
-/// Publishes a segment, and serves two connections by two workers while another segment is published: whether both were answered,
-/// whether the first answer was kept meanwhile, and the totals.
+/// Publishes the first segment of a hub.
+fn publish_first<L: Ledgers, R: Wait + Abort>(rt: &R, alloc: Global, hub: &Hub<L>) -> Pass<L> {
+    let mut pass = seat(rt, hub);
+    let count = published(rt, alloc, hub, &mut pass, 0, SEGMENT);
+    same_number(rt, "the first segment", count, 1);
+    pass
+}
+
+/// Publishes a segment, and serves two connections by two workers while another segment is published. Both are answered, and the first
+/// answer is kept meanwhile: the totals.
 fn serve_by_two<L: Ledgers + Send + Sync, R: Threads + Wait + Abort + Sync>(
     rt: &R,
     alloc: Global,
     blanks: Blanks,
-) -> (bool, u64, String)
+) -> String
     requires names { blanks ≡ L.names }
     requires channels { L.channels ≡ 1 }
 {
     let hub: Hub<L> = hub_of_one(rt, alloc, blanks);
-    let mut pass = seat(rt, &hub);
-    assert_eq!(rt; publish(rt, alloc, &hub, &mut pass, 0, SEGMENT), Ok(1));
+    let pass = publish_first(rt, alloc, &hub);
     let boxes = boxes(rt, alloc, 2);
     let latch = Latch::new();
     let (mut passes, publisher) = thread::join(
@@ -179,75 +196,66 @@ fn serve_by_two<L: Ledgers + Send + Sync, R: Threads + Wait + Abort + Sync>(
     );
     passes.push(pass).expect(rt, "passes");
     passes.push(publisher).expect(rt, "passes");
-    (
-        are_answered(rt, &boxes),
-        latch.met.load(Ordering::SeqCst),
-        finished(rt, alloc, hub, passes),
-    )
+    check_boxes(rt, &boxes);
+    same_number(rt, "the latch", latch.met.load(Ordering::SeqCst), 1);
+    finished(rt, alloc, hub, passes)
 }
 
 /// While one connection is kept, another gets its answer, and an item is published.
 #[test]
 fn connections_share_no_worker(rt: HostRuntime) {
-    let (answered, met, totals) = serve_by_two::<Brand, HostRuntime>(
-        &rt,
-        rt.alloc(),
-        Blanks::new(),
-    );
-    assert_eq!(rt; (answered, met, totals.as_str()), (true, 1, "2 2 0;"));
+    let totals = serve_by_two::<Brand, HostRuntime>(&rt, rt.alloc(), Blanks::new());
+    same(&rt, "the totals", totals.as_str(), "2 2 0;");
 }
 
-/// Publishes a segment, and serves so many connections by so many workers: how many of their passes come back, whether each connection
-/// was answered, and the totals.
+/// Publishes a segment, and serves so many connections by so many workers. All their passes come back, and each connection is answered:
+/// the totals.
 fn serve_all<L: Ledgers + Send + Sync, R: Threads + Wait + Abort + Sync>(
     rt: &R,
     alloc: Global,
     blanks: Blanks,
     workers: usize,
     links: usize,
-) -> (usize, bool, String)
+) -> String
     requires names { blanks ≡ L.names }
     requires channels { L.channels ≡ 1 }
     requires some { 1 ≤ workers }
     requires most { workers ≤ 4096 }
 {
     let hub: Hub<L> = hub_of_one(rt, alloc, blanks);
-    let mut pass = seat(rt, &hub);
-    assert_eq!(rt; publish(rt, alloc, &hub, &mut pass, 0, SEGMENT), Ok(1));
+    let pass = publish_first(rt, alloc, &hub);
     let boxes = boxes(rt, alloc, links);
     let writes = AtomicU64::new(0);
     let mut passes = serve_boxes(rt, alloc, &hub, workers, &Open, &boxes, &writes);
-    let returned = passes.len();
+    same_number(rt, "the passes", passes.len() as u64, workers as u64);
     passes.push(pass).expect(rt, "passes");
-    (
-        returned,
-        are_answered(rt, &boxes),
-        finished(rt, alloc, hub, passes),
-    )
+    check_boxes(rt, &boxes);
+    finished(rt, alloc, hub, passes)
+}
+
+/// So many connections are served by so many workers.
+fn check_all<R: Threads + Wait + Abort + Sync>(
+    rt: &R,
+    alloc: Global,
+    workers: usize,
+    links: usize,
+    totals: &str,
+)
+    requires some { 1 ≤ workers }
+    requires most { workers ≤ 4096 }
+{
+    let found = serve_all::<Brand, R>(rt, alloc, Blanks::new(), workers, links);
+    same(rt, "the totals", found.as_str(), totals);
 }
 
 /// Each connection is served and each worker's pass comes back, whether there are more connections than workers, or fewer, or none.
 #[test]
 fn drops_no_link(rt: HostRuntime) {
-    for (workers, links, totals) in [
-        (1, 0, "1 0 0;"),
-        (2, 0, "1 0 0;"),
-        (1, 5, "1 5 0;"),
-        (2, 1, "1 1 0;"),
-        (2, 2, "1 2 0;"),
-        (3, 20, "1 20 0;"),
-    ] {
-        let (passes, answered, found) = serve_all::<Brand, HostRuntime>(
-            &rt,
-            rt.alloc(),
-            Blanks::new(),
-            workers,
-            links,
-        );
-        assert_eq!(rt;
-            (passes, answered, found.as_str()),
-            (workers, true, totals),
-            "{workers} workers, {links} links"
-        );
-    }
+    let alloc = rt.alloc();
+    check_all(&rt, alloc, 1, 0, "1 0 0;");
+    check_all(&rt, alloc, 2, 0, "1 0 0;");
+    check_all(&rt, alloc, 1, 5, "1 5 0;");
+    check_all(&rt, alloc, 2, 1, "1 1 0;");
+    check_all(&rt, alloc, 2, 2, "1 2 0;");
+    check_all(&rt, alloc, 3, 20, "1 20 0;");
 }
