@@ -21,7 +21,16 @@ module _ (n : ℕ) where
   step_then : (v : Visit) (more : List ℕ)
       → (step n (came n more v) ≡ came n more (step n v)) ⊎ (step n (came n more v) ≡ step n (came n more (step n v)))
   step_then v more =
-      grind (arith, nat_tests, (is_taken v.session.unread).more more, (taking-right v.session.unread).1, append-nil {A = ℕ}, append_assoc {A = List ℕ}, length-append {A = ℕ}, flat_map-append refusal)
+      grind (
+        arith,
+        nat_tests,
+        (is_taken v.session.unread).more more,
+        (taking-right v.session.unread).1,
+        append-nil {A = ℕ},
+        append_assoc {A = List ℕ},
+        length-append {A = ℕ},
+        flat_map-append refusal,
+      )
 
   -- a step before more bytes come changes nothing of what comes of all
   step_first : (v : Visit) (more : List ℕ) → hand_in n (came n more (step n v)) ≡ hand_in n (came n more v)
@@ -56,7 +65,8 @@ arrived-prefixed n piece before v = ap (hand_in n) (came-prefixed n before piece
 module _ (n : ℕ) (all : Connections) where
   -- answers are sent, and then those of another visit
   open_then : (x : Visit) (answers : List (List ℕ)) (s : Option SessionValue) (w : World)
-      → both (record { connections = with_session n s all; rooms = w; text = flat_map (sent_line n) answers ++ []; replies = length answers }) (turn n (with_session n s all) x)
+      → both (record { connections = with_session n s all; rooms = w; text = flat_map (sent_line n) answers ++ []; replies = length answers })
+      (turn n (with_session n s all) x)
       ≡ turn n all (prefixed answers x)
   open_then x answers s w =
       grind (arith, append-nil {A = ℕ}, append_assoc {A = ℕ}, length-append {A = List ℕ}, flat_map-append (sent_line n) answers, twice n s (left x.session) all)
@@ -66,7 +76,14 @@ module _ (n : ℕ) (all : Connections) where
   turn_then v second =
       let u : Visit = record { session = record v.session { answers = [] }; rooms = v.rooms } in
       rw (found n (left v.session) all)
-      (grind (arith, append-nil {A = ℕ}, append-nil {A = List ℕ}, shut_arrived n second v, arrived-prefixed n second v.session.answers u, open_then (arrived n second u) v.session.answers (left v.session) v.rooms))
+      (grind (
+        arith,
+        append-nil {A = ℕ},
+        append-nil {A = List ℕ},
+        shut_arrived n second v,
+        arrived-prefixed n second v.session.answers u,
+        open_then (arrived n second u) v.session.answers (left v.session) v.rooms,
+      ))
 
   turns_by : (w : World) (first second : List ℕ) (o : Option (Option SessionValue)) → session_of n all ≡ o
       → both (bytes_to n first all w o) (bytes n second (bytes_to n first all w o).connections (bytes_to n first all w o).rooms)

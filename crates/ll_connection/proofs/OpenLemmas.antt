@@ -23,8 +23,8 @@ use Rattle.ll_connection.specs.Visit.{Visit, asked, came, first_spoken, hand_in,
 use Rattle.ll_connection.specs.declared.sent.Sent.{Sent}
 
 -- what the rooms answered to a request, and kept
-pub is_asked : (n : ℕ) (want : WantValue) (w : World) (settings : List Configuration) (place : ℕ) (c : Configuration) (k : Kept) (said : Option rooms.Answer) → settings ≡ all_settings w
-    → channel_of_name settings 0 want.channel ≡ Some (place, c) → Leads k said (silent w) (ask (Connection n) place want (silent w))
+pub is_asked : (n : ℕ) (want : WantValue) (w : World) (settings : List Configuration) (place : ℕ) (c : Configuration) (k : Kept) (said : Option rooms.Answer)
+    → settings ≡ all_settings w → channel_of_name settings 0 want.channel ≡ Some (place, c) → Leads k said (silent w) (ask (Connection n) place want (silent w))
     → (k ≡ kept_world (asked n want w).rooms) × (first_spoken (answers_of said) ≡ (asked n want w).answer)
 is_asked n want w settings place c k said e found l = rw (← e, found) (l.stands, ap first_spoken (sym l.answers))
 
@@ -80,10 +80,14 @@ module _ (n : ℕ) where
   told_one (a ∷ answers) len now new after e text replies t =
       let whole : take len (a ++ concat answers) ≡ a = let same : len ≡ length a = cc in rw same (take-append_seam a (concat answers)) in
       told_then (a ∷ []) answers now new after
-      (record { text = text ∙ ap (λ x. now.text.items ++ sent_line n x) whole ∙ ap (λ x. now.text.items ++ x) (sym (append-nil (sent_line n a))); replies = λ le. replies }) t
+      (record {
+        text = text ∙ ap (λ x. now.text.items ++ sent_line n x) whole ∙ ap (λ x. now.text.items ++ x) (sym (append-nil (sent_line n a)));
+        replies = λ le. replies;
+      }) t
 
 -- the first answer is gone
-pub one_less : (first s t : SessionValue) → t ≡ record s { answers = drop 1 s.answers } → s ≡ record first { answers = s.answers } → t ≡ record first { answers = t.answers }
+pub one_less : (first s t : SessionValue) → t ≡ record s { answers = drop 1 s.answers } → s ≡ record first { answers = s.answers }
+    → t ≡ record first { answers = t.answers }
 one_less first s t e h = grind arith
 
 -- ---- one step after another
@@ -121,7 +125,8 @@ module _ (n : ℕ) where
       stands = i.rooms;
       settings = step_has settings n here g.settings;
       rest = λ after x y h. g.rest after x y
-          (rw (in_front s1 (step n here).rooms here (rw i.session), ← e) (told_first s1.answers now next after x y (hand_in n (record { session = s2; rooms = (step n here).rooms })) t h));
+          (rw (in_front s1 (step n here).rooms here (rw i.session), ← e)
+          (told_first s1.answers now next after x y (hand_in n (record { session = s2; rooms = (step n here).rooms })) t h));
     }
 
     -- it was the last one
