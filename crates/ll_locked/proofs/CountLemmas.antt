@@ -48,8 +48,8 @@ taken_one : (c : Configuration) (list : List Item) (i : Item) → refusal c list
 taken_one c list i free = ap (λ o. if is_none o then list ++ i ∷ [] else list) free
 
 -- an item that no rule refuses
-pub has-published : (r r2 : Recording) (es : List Event) (i : Item) → IsRecorded r es → record_refusal r es i ≡ None → IsRecorded r2 (es ++ Publish i ∷ []) → IsSame r.room r2.room
-    → HasPublished r.room r2.room
+pub has-published : (r r2 : Recording) (es : List Event) (i : Item) → IsRecorded r es → record_refusal r es i ≡ None → IsRecorded r2 (es ++ Publish i ∷ [])
+    → IsSame r.room r2.room → HasPublished r.room r2.room
 has-published r r2 es i recorded free more same =
     let c = r.room.settings in
     let allowed = none_before (refusal c (items c es) i) (full_by (is_full (length es))) (none_before (refusal_after c es i) (full_by (is_record_full r)) free) in

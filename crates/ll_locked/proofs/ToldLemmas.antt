@@ -124,8 +124,8 @@ pub record IsKept (h2 : Home) (p : Ticket) (c : Configuration) (want : WantValue
   pub found_it : found p.ticket h2.slots ≡ Some entry
   pub held : IsHeld c want seen entry
 
-pub asks-held : (h : Home) (r2 : Recording) (es : List Event) (place : ℕ) (c : Configuration) (seen : ℕ) (want : WantValue) (p : Ticket) → Stands h es → IsMet h place c seen
-    → IsMade h r2 es want (Held p) → IsKept r2.room p c want seen
+pub asks-held : (h : Home) (r2 : Recording) (es : List Event) (place : ℕ) (c : Configuration) (seen : ℕ) (want : WantValue) (p : Ticket) → Stands h es
+    → IsMet h place c seen → IsMade h r2 es want (Held p) → IsKept r2.room p c want seen
 asks-held h r2 es place c0 seen want p st met made =
     let c = h.settings in
     let h2 = r2.room in
@@ -159,8 +159,8 @@ pub held-entry : (h2 : Home) (p : Ticket) (c : Configuration) (want : WantValue)
 held-entry h2 p c want seen t entry k e is = let same : k.entry ≡ entry = cc in rw same at k.held
 
 -- the value of a request that is held lies beside the others
-pub kept-beside : (r r2 : Recording) (want : WantValue) (p : Ticket) (ps qs : List Ticket) (k : IsChannel r ps) → IsMade r.room r2 k.events want (Held p) → qs ≡ ps ++ p ∷ []
-    → IsChannel r2 qs
+pub kept-beside : (r r2 : Recording) (want : WantValue) (p : Ticket) (ps qs : List Ticket) (k : IsChannel r ps) → IsMade r.room r2 k.events want (Held p)
+    → qs ≡ ps ++ p ∷ [] → IsChannel r2 qs
 kept-beside r r2 want p ps qs k made is =
     let h = r.room in
     let w = waiting_by h want (at_once h.settings (held h.settings k.events) k.events want) p made.answer in
@@ -169,11 +169,13 @@ kept-beside r r2 want p ps qs k made is =
       recorded = made.recorded;
       each = is ∙ ap₂ (λ ps q. ps ++ q ∷ []) k.each (ap (λ n. ticket_at n p.ticket) w.channel) ∙ sym (map-append (ticket_at h.channel) (tickets h) (p.ticket ∷ []))
           ∙ ap₂ parked_for (sym made.same.channel) (sym made.opened);
-      distinct = subst AreDistinct (sym made.opened) (distinct_more p.ticket (tickets h) k.distinct (newest_is_new p.ticket (tickets h) (ap (less p.ticket) (sym made.opened) ∙ made.newest)));
+      distinct = subst AreDistinct (sym made.opened)
+          (distinct_more p.ticket (tickets h) k.distinct (newest_is_new p.ticket (tickets h) (ap (less p.ticket) (sym made.opened) ∙ made.newest)));
     }
 
 -- the open requests stay
-pub stays-beside : (r r2 : Recording) (es : List Event) (ps : List Ticket) → IsChannel r ps → IsRecorded r2 es → IsSame r.room r2.room → tickets r2.room ≡ tickets r.room → IsChannel r2 ps
+pub stays-beside : (r r2 : Recording) (es : List Event) (ps : List Ticket) → IsChannel r ps → IsRecorded r2 es → IsSame r.room r2.room → tickets r2.room ≡ tickets r.room
+    → IsChannel r2 ps
 stays-beside r r2 es ps k recorded same still = record {
   events = es;
   recorded = recorded;
@@ -270,8 +272,9 @@ handed h es entry st ready =
       };
     }
 
-pub tried : (h : Home) (place : ℕ) (c : Configuration) (e : Entry) (m : Mark Reply) (k : IsHanded h e) → Got m ≡ Got (room.collected_at h e.ticket k.answer) → h.channel ≡ place
-    → h.settings ≡ c → (m.room ≡ place) × (m.stamp ≡ stamp.Collect e.ticket) × IsDecided c e m.value
+-- what is handed out is its reply
+pub tried : (h : Home) (place : ℕ) (c : Configuration) (e : Entry) (m : Mark Reply) (k : IsHanded h e) → Got m ≡ Got (room.collected_at h e.ticket k.answer)
+    → h.channel ≡ place → h.settings ≡ c → (m.room ≡ place) × (m.stamp ≡ stamp.Collect e.ticket) × IsDecided c e m.value
 tried h place c e m k is here same =
     let value : m ≡ room.collected_at h e.ticket k.answer = cc in
     rw (value, ← here, ← same) (refl, refl, k.decided)

@@ -16,20 +16,24 @@ use Rattle.ll_locked.proofs.channel.Channel.ask.Goals.{In-Ok, After-ticket-ticke
 
 -- the recorder after the reading of the clock, and the values beside it
 clocked : (g : _) (c : In-Ok g) → IsChannel c.clock.new.self c.self.inside.parked.items
-clocked g c = stays-beside _ _ _ _ c.self.invariant (c.in-Ok.ensures.passed c.self.invariant.events c.self.invariant.recorded) c.in-Ok.ensures.goes_on.same c.in-Ok.ensures.still_open
+clocked g c =
+    stays-beside _ _ _ _ c.self.invariant (c.in-Ok.ensures.passed c.self.invariant.events c.self.invariant.recorded) c.in-Ok.ensures.goes_on.same c.in-Ok.ensures.still_open
 
+-- no more is counted by it
 counted : (g : _) (c : In-Ok g) → IsAsCounted c.self.inside.recorder.room c.clock.new.self.room
 counted g c =
-    as-counted _ _ c.self.invariant.events (Clock c.now.result) c.self.invariant.recorded.stands (c.in-Ok.ensures.passed c.self.invariant.events c.self.invariant.recorded).stands
-    c.in-Ok.ensures.goes_on.same refl refl
+    as-counted _ _ c.self.invariant.events (Clock c.now.result) c.self.invariant.recorded.stands
+    (c.in-Ok.ensures.passed c.self.invariant.events c.self.invariant.recorded).stands c.in-Ok.ensures.goes_on.same refl refl
 
+-- the room that was met is still met
 met : (g : _) (c : In-Ok g) → IsMet c.clock.new.self.room c.args.known.place c.args.known.settings.now c.args.known.seen
 met g c =
     still-met _ _ _ _ _ (counted g c) c.in-Ok.ensures.goes_on.same
     (subst (λ h. IsMet h c.args.known.place c.args.known.settings.now c.args.known.seen) (sym c.self.view_is) c.requires)
 
 -- the request is held
-made : (g : _) (c : After-ticket-ticket g) (k : IsChannel c.clock.new.self c.self.inside.parked.items) → IsMade c.clock.new.self.room c.ask.new.self k.events c.args.want (Held c.in-Ok-Held.parked)
+made : (g : _) (c : After-ticket-ticket g) (k : IsChannel c.clock.new.self c.self.inside.parked.items)
+    → IsMade c.clock.new.self.room c.ask.new.self k.events c.args.want (Held c.in-Ok-Held.parked)
 made g c k = subst (IsMade c.clock.new.self.room c.ask.new.self k.events c.args.want) c.in-Ok-Held.field-0-is (record {
   answer = c.in-Ok-Held.ensures.answer k.events k.recorded;
   recorded = c.in-Ok-Held.ensures.asked k.events k.recorded;
@@ -62,14 +66,16 @@ pub returns-in-Some-clause-asked : goal.returns-in-Some-clause-asked
 returns-in-Some-clause-asked g c =
     let at = goal.at.returns-in-Some-clause-asked g c in
     let k = clocked g at.In-Ok in
-    held-entry _ _ _ _ _ _ _ (asks-held _ _ _ _ _ _ _ _ k.recorded.stands (met g at.In-Ok) (made g at.After-ticket-ticket k)) c.ticket-ticket.ensures (sym c.in-Some.is ∙ c.opened.ensures)
+    held-entry _ _ _ _ _ _ _ (asks-held _ _ _ _ _ _ _ _ k.recorded.stands (met g at.In-Ok) (made g at.After-ticket-ticket k))
+    c.ticket-ticket.ensures (sym c.in-Some.is ∙ c.opened.ensures)
 
 pub returns-in-Some-clause-counted : goal.returns-in-Some-clause-counted
 returns-in-Some-clause-counted g c =
     let at = goal.at.returns-in-Some-clause-counted g c in
     let k = clocked g at.In-Ok in
     subst (λ h. HasAsked h c.ask.new.self.room) c.self.view_is
-    (has-asked _ _ _ _ (of_channel c.clock.new.self.room.settings c.args.want) (counted g at.In-Ok) k.recorded.stands (c.in-Ok-Held.ensures.asked k.events k.recorded).stands c.in-Ok-Held.ensures.goes_on.same)
+    (has-asked _ _ _ _ (of_channel c.clock.new.self.room.settings c.args.want) (counted g at.In-Ok) k.recorded.stands
+    (c.in-Ok-Held.ensures.asked k.events k.recorded).stands c.in-Ok-Held.ensures.goes_on.same)
 
 pub invariant_of-self-in-Ok-Now : goal.invariant_of-self-in-Ok-Now
 invariant_of-self-in-Ok-Now g c =
@@ -83,7 +89,8 @@ returns-in-Ok-Now-clause-counted g c =
     let at = goal.at.returns-in-Ok-Now-clause-counted g c in
     let k = clocked g at.In-Ok in
     subst (λ h. HasAsked h c.ask.new.self.room) c.self.view_is
-    (has-asked _ _ _ _ (of_channel c.clock.new.self.room.settings c.args.want) (counted g at.In-Ok) k.recorded.stands (c.in-Ok-Now.ensures.asked k.events k.recorded).stands c.in-Ok-Now.ensures.goes_on.same)
+    (has-asked _ _ _ _ (of_channel c.clock.new.self.room.settings c.args.want) (counted g at.In-Ok) k.recorded.stands
+    (c.in-Ok-Now.ensures.asked k.events k.recorded).stands c.in-Ok-Now.ensures.goes_on.same)
 
 pub returns-in-Err-ask-clause-uncounted : goal.returns-in-Err-ask-clause-uncounted
 returns-in-Err-ask-clause-uncounted g c =

@@ -6,7 +6,8 @@ use Rattle.ll_locked.proofs.channel.Channel.finish.Goals as goal
 pub loop-one-preserved : goal.loop-one-preserved
 loop-one-preserved c =
     let l = after-last c.loop-one.recorder.room c.close.new.self.room c.in-Some.one c.into_parked.result c.loop-one.parked.items c.pop.new.self.items c.close.result
-    c.loop-one.invariant.each c.loop-one.invariant.distinct c.in-Some.ensures.items c.into_parked.ensures c.close.ensures.answer c.close.ensures.fewer c.close.ensures.goes_on.same in
+    c.loop-one.invariant.each c.loop-one.invariant.distinct c.in-Some.ensures.items c.into_parked.ensures
+    c.close.ensures.answer c.close.ensures.fewer c.close.ensures.goes_on.same in
     record { each = l.0; distinct = l.1 }
 
 pub unreachable-requires : goal.unreachable-requires
