@@ -12,7 +12,7 @@ use Rattle.ll_wire.specs.declared.answer.Answer.{Answer}
 use Rattle.ll_wire.specs.declared.answer.Answer.TheVariants as player
 use Rattle.ll_world.specs.World.{World, all_settings, ask, close, repeat, silent}
 use Rattle.ll_connection.specs.Turn.{Connections, bytes, bytes_to, end, end_of, reply, reply_to, session_of}
-use Rattle.ll_connection.specs.Visit.{Visit, ask_in, asked, answered_by, arrived, came, close_if, hand_in, released, step, step_by}
+use Rattle.ll_connection.specs.Visit.{Visit, ask_in, asked, answered_by, arrived, came, close_if, hand_in, step, step_by}
 
 module _ (P : World → Type 0) (asks : (w : World) (o : Owner) (place : ℕ) (want : WantValue) → P w → P (silent (ask o place want (silent w))))
     (closes : (w : World) (o : Owner) → P w → P (close o w)) where

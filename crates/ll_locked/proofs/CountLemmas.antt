@@ -1,5 +1,5 @@
 -- What one more event changes of how many items a room has accepted and how many requests it had.
-use Rattle.std.proofs.Common.{◌≡◌, ℕ, ◌+◌, List, [], ◌∷◌, ◌++◌, None, if◌then◌else◌, is_none, refl, ap, ◌∙◌, sym, length}
+use Rattle.std.proofs.Common.{◌≡◌, ◌+◌, List, [], ◌∷◌, ◌++◌, Option, None, if◌then◌else◌, is_none, ap, ◌∙◌, sym, length, arith}
 use Rattle.std.proofs.lemmas.List.{length-append}
 use Rattle.ll_directive.specs.Targets.{WantValue}
 use Rattle.ll_item.specs.Settings.{Configuration}
@@ -7,11 +7,17 @@ use Rattle.ll_item.specs.declared.item.Item.{Item}
 use Rattle.ll_record.specs.Recording.{IsRecorded, Recording, is_record_full, record_refusal}
 use Rattle.ll_room.specs.Full.{full_by, is_full, refusal_after}
 use Rattle.ll_room.specs.Home.{Home, IsSame, Stands}
-use Rattle.ll_verdict.specs.Accepted.{refusal}
+use Rattle.ll_verdict.specs.Accepted.{first_refusal, refusal}
+use Rattle.ll_verdict.specs.declared.fault.PublishFault.{PublishFault}
 use Rattle.ll_verdict.proofs.StepLemmas.{asks-snoc, items-snoc}
-use Rattle.ll_verdict.specs.Events.{Event, Ask, Clock, Publish, counted, items, taken}
-use Rattle.ll_locked.proofs.ToldLemmas.{asks-is, count-is, none_before}
+use Rattle.ll_verdict.specs.Events.{Event, Ask, Publish, asks, counted, items, taken}
 use Rattle.ll_locked.specs.Section.{HasAsked, HasPublished, IsAsCounted}
+
+pub count-is : (h : Home) (es : List Event) → Stands h es → h.count ≡ length (items h.settings es)
+count-is h es st = ap (λ (h : Home). h.count) st
+
+pub asks-is : (h : Home) (es : List Event) → Stands h es → h.asks ≡ asks es
+asks-is h es st = ap (λ (h : Home). h.asks) st
 
 items-after : (h h2 : Home) (es : List Event) (e : Event) → Stands h2 (es ++ e ∷ []) → IsSame h h2 → h2.count ≡ length (taken h.settings (items h.settings es) e)
 items-after h h2 es e st2 same =
@@ -29,21 +35,21 @@ as-counted h h2 es e st st2 same no_item no_request = record {
 }
 
 -- a request after a reading of the clock
-pub has-asked : (h h1 h2 : Home) (es : List Event) (ms : ℕ) (w : WantValue) → Stands h es → Stands h1 (es ++ Clock ms ∷ []) → Stands h2 ((es ++ Clock ms ∷ []) ++ Ask w ∷ [])
-    → IsSame h h1 → IsSame h1 h2 → HasAsked h h2
-has-asked h h1 h2 es ms w st st1 st2 same more =
-    let clocked = as-counted h h1 es (Clock ms) st st1 same refl refl in
-    record {
-      publishes = items-after h1 h2 (es ++ Clock ms ∷ []) (Ask w) st2 more ∙ sym (count-is h1 (es ++ Clock ms ∷ []) st1) ∙ clocked.publishes;
-      asks = asks-after h1 h2 (es ++ Clock ms ∷ []) (Ask w) st1 st2 ∙ ap (λ n. n + 1) clocked.asks;
-    }
+pub has-asked : (h h1 h2 : Home) (es : List Event) (w : WantValue) → IsAsCounted h h1 → Stands h1 es → Stands h2 (es ++ Ask w ∷ []) → IsSame h1 h2 → HasAsked h h2
+has-asked h h1 h2 es w clocked st1 st2 same = record {
+  publishes = items-after h1 h2 es (Ask w) st2 same ∙ sym (count-is h1 es st1) ∙ clocked.publishes;
+  asks = asks-after h1 h2 es (Ask w) st1 st2 ∙ ap (λ n. n + 1) clocked.asks;
+}
+
+pub none_before : (a b : Option PublishFault) → first_refusal a b ≡ None → a ≡ None
+none_before a b h = grind arith
 
 taken_one : (c : Configuration) (list : List Item) (i : Item) → refusal c list i ≡ None → taken c list (Publish i) ≡ list ++ i ∷ []
 taken_one c list i free = ap (λ o. if is_none o then list ++ i ∷ [] else list) free
 
 -- an item that no rule refuses
-pub has-published : (r r2 : Recording) (es : List Event) (i : Item) → IsRecorded r es → record_refusal r es i ≡ None → IsRecorded r2 (es ++ Publish i ∷ []) → IsSame r.room r2.room
-    → HasPublished r.room r2.room
+pub has-published : (r r2 : Recording) (es : List Event) (i : Item) → IsRecorded r es → record_refusal r es i ≡ None → IsRecorded r2 (es ++ Publish i ∷ [])
+    → IsSame r.room r2.room → HasPublished r.room r2.room
 has-published r r2 es i recorded free more same =
     let c = r.room.settings in
     let allowed = none_before (refusal c (items c es) i) (full_by (is_full (length es))) (none_before (refusal_after c es i) (full_by (is_record_full r)) free) in

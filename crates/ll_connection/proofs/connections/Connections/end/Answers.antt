@@ -15,5 +15,7 @@ pub returns : goal.returns
 returns c w e =
     let all = c.args.self.now in
     let found = open_is (session_of c.args.number all) c.in-Some.session (sym c.in-Some.ensures.session) in
-    let is = ap (end_of c.args.number all w) (sym found) in
-    (c.in-Some.ensures.left ∙ there c.args.number (Some c.in-Some.session) all found ∙ ap (λ (t : Turn). t.connections) is, (c.close.ensures.closed w e).stands ∙ ap (λ (t : Turn). kept_world t.rooms) is)
+    let is = ap (end_of c.args.number all w) (sym found) in (
+      c.in-Some.ensures.left ∙ there c.args.number (Some c.in-Some.session) all found ∙ ap (λ (t : Turn). t.connections) is,
+      (c.close.ensures.closed w e).stands ∙ ap (λ (t : Turn). kept_world t.rooms) is,
+    )

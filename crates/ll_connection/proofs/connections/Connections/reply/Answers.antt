@@ -1,5 +1,4 @@
 use Rattle.std.proofs.Common.{ap, sym}
-use Rattle.ll_connection.specs.Turn as turn
 use Rattle.ll_connection.specs.Turn.{reply_to, session_of}
 use Rattle.ll_connection.specs.Visit.{released}
 use Rattle.ll_connection.proofs.TurnLemmas.{none_replied, open_is, still_turn, turned}
@@ -9,16 +8,13 @@ pub returns-in_default : goal.returns-in_default
 returns-in_default c w e d =
     let all = c.args.self.now in
     let none = sym c.in_default.ensures.session in
-    still_turn c.args.number all c.take.new.self c.args.rooms.now c.nothing.result w (turn.reply c.args.number c.args.reply all w)
-    c.in_default.ensures.left none e c.nothing.ensures.text c.nothing.ensures.replies
+    still_turn c.args.number all _ _ c.nothing.result w _ c.in_default.ensures.left none e c.nothing.ensures.text c.nothing.ensures.replies
     (none_replied c.args.number c.args.reply all w (session_of c.args.number all) none)
 
 pub returns : goal.returns
 returns c w e d =
     let all = c.args.self.now in
-    turned c.args.number c.release.new.self.number all c.take.new.self c.put_back.new.self
-    (released c.args.number c.args.reply (record { session = c.in-Some.session; rooms = w })) c.release.new.self.session c.release.new.rooms
-    c.nothing-sent.result c.release.new.sent c.in_ok-sent.sent (turn.reply c.args.number c.args.reply all w)
+    turned c.args.number _ all _ _ (released c.args.number c.args.reply (record { session = c.in-Some.session; rooms = w })) _ _ c.nothing-sent.result _ _ _
     c.in-Ok.ensures.number c.in-Some.ensures.left c.nothing-sent.ensures.text c.nothing-sent.ensures.replies (c.in-Ok.ensures.released w e d)
     c.in_ok-sent.ensures.kept c.in_ok-sent.ensures.text c.in_ok-sent.ensures.replies
     (ap (reply_to c.args.number c.args.reply all w) (sym (open_is (session_of c.args.number all) c.in-Some.session (sym c.in-Some.ensures.session))))

@@ -1,6 +1,7 @@
 use Rattle.std.proofs.Common.{[], ◌<◌, ap, length, subst, sym, ◌∙◌}
 use Rattle.ll_session.specs.Talk.{SessionValue, fed, replied}
-use Rattle.ll_connection.proofs.OpenLemmas.{fewer, none_still, waits_still}
+use Rattle.ll_connection.proofs.OpenLemmas.{none_still, waits_still}
+use Rattle.ll_connection.proofs.StepLemmas.{fewer}
 use Rattle.ll_connection.proofs.open.Open.step.Goals as goal
 
 pub returns-in_default-clause-last : goal.returns-in_default-clause-last

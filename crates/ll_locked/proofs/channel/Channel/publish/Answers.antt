@@ -12,8 +12,7 @@ invariant_of-self c = subst (λ r. IsChannel r c.self.inside.parked.items) (sym 
 pub invariant_of-self-2 : goal.invariant_of-self-2
 invariant_of-self-2 c =
     let told = c.in-Ok.ensures.accepted c.self.invariant.events c.self.invariant.recorded in
-    stays-beside c.self.inside.recorder c.publish.new.self _ c.self.inside.parked.items told.1 c.in-Ok.ensures.goes_on.same c.in-Ok.ensures.still_open
-    c.self.invariant.each c.self.invariant.distinct
+    stays-beside c.self.inside.recorder c.publish.new.self _ c.self.inside.parked.items c.self.invariant told.1 c.in-Ok.ensures.goes_on.same c.in-Ok.ensures.still_open
 
 pub returns-clause-accepted : goal.returns-clause-accepted
 returns-clause-accepted c =
