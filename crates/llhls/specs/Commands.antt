@@ -15,12 +15,24 @@ pub data Call : Type 0 where
   -- serve the channels that a settings file tells
   Serve : List ℕ → Call
 
+-- the command of this name that names no file
+abbrev pub alone : List ℕ → Result Call Fault
+alone name = if bytes_eq name (codes "replay") then Ok Replay else Err Usage
+
+-- the command of this name that names a file
+abbrev pub with_file : List ℕ → List ℕ → Result Call Fault
+with_file name file =
+    if bytes_eq name (codes "check") then Ok (Check file) else if bytes_eq name (codes "serve") then Ok (Serve file) else Err Usage
+
+-- the command of this name that names two files
+abbrev pub with_files : List ℕ → List ℕ → List ℕ → Result Call Fault
+with_files name base delta = if bytes_eq name (codes "apply") then Ok (Apply base delta) else Err Usage
+
 -- the first word names the program; words of no such form are wrong usage
 abbrev pub command_of : List (List ℕ) → Result Call Fault
-command_of (program ∷ name ∷ []) = if bytes_eq name (codes "replay") then Ok Replay else Err Usage
-command_of (program ∷ name ∷ file ∷ []) =
-    if bytes_eq name (codes "check") then Ok (Check file) else if bytes_eq name (codes "serve") then Ok (Serve file) else Err Usage
-command_of (program ∷ name ∷ base ∷ delta ∷ []) = if bytes_eq name (codes "apply") then Ok (Apply base delta) else Err Usage
+command_of (program ∷ name ∷ []) = alone name
+command_of (program ∷ name ∷ file ∷ []) = with_file name file
+command_of (program ∷ name ∷ base ∷ delta ∷ []) = with_files name base delta
 command_of other = Err Usage
 
 abbrev pub call_of : Command → Call

@@ -1,5 +1,6 @@
 ghost use Rattle.std.specs.Prelude.{◌≡◌, IfOk, MatchResult, Ok, Err, map, string_bytes};
 ghost use Rattle.std.specs.Vec.Iter.{into_iter_items};
+ghost use Rattle.llhls.specs.Commands as spec;
 ghost use Rattle.llhls.specs.Commands.{call_of, command_of};
 
 use crate::fault::{Fault, fault_of};
@@ -24,13 +25,45 @@ impl<'a> Command<'a> {
         ensures { MatchResult result (λ c. command_of words.now ≡ Ok (call_of c)) (λ f. command_of words.now ≡ Err f) }
     {
         match words {
-            [_program, name] if name.as_str() == "replay" => Ok(Command::Replay),
-            [_program, name, record] if name.as_str() == "check" => Ok(Command::Check(record)),
-            [_program, name, settings] if name.as_str() == "serve" => Ok(Command::Serve(settings)),
-            [_program, name, base, delta] if name.as_str() == "apply" => {
-                Ok(Command::Apply { base, delta })
-            }
+            [_program, name] => Command::alone(name),
+            [_program, name, file] => Command::with_file(name, file),
+            [_program, name, base, delta] => Command::with_files(name, base, delta),
             _ => Err(Fault::Usage),
+        }
+    }
+
+    /// The command of this name that names no file.
+    fn alone(name: &Text) -> Result<Command<'a>, Fault>
+        ensures { MatchResult result (λ c. spec.alone name.now ≡ Ok (call_of c)) (λ f. spec.alone name.now ≡ Err f) }
+    {
+        if name.as_str() == "replay" {
+            Ok(Command::Replay)
+        } else {
+            Err(Fault::Usage)
+        }
+    }
+
+    /// The command of this name that names one file.
+    fn with_file(name: &Text, file: &'a Text) -> Result<Command<'a>, Fault>
+        ensures { MatchResult result (λ c. spec.with_file name.now file.now ≡ Ok (call_of c)) (λ f. spec.with_file name.now file.now ≡ Err f) }
+    {
+        if name.as_str() == "check" {
+            Ok(Command::Check(file))
+        } else if name.as_str() == "serve" {
+            Ok(Command::Serve(file))
+        } else {
+            Err(Fault::Usage)
+        }
+    }
+
+    /// The command of this name that names two files.
+    fn with_files(name: &Text, base: &'a Text, delta: &'a Text) -> Result<Command<'a>, Fault>
+        ensures { MatchResult result (λ c. spec.with_files name.now base.now delta.now ≡ Ok (call_of c)) (λ f. spec.with_files name.now base.now delta.now ≡ Err f) }
+    {
+        if name.as_str() == "apply" {
+            Ok(Command::Apply { base, delta })
+        } else {
+            Err(Fault::Usage)
         }
     }
 }

@@ -24,7 +24,7 @@ use crate::fault::{Fault, fault_of};
 use crate::serve::serve;
 use ll_apply::apply;
 use ll_check::{CheckFault, CheckKind, answer_line, check};
-use ll_device::{CountedReader, CountedWriter};
+use ll_device::{CountedReader, CountedWriter, Reader, Writer};
 use ll_replay::run;
 use std::alloc::{AllocError, Global};
 use std::io::Write;
@@ -100,7 +100,18 @@ fn replay<L: Ledger, M: Ledger>(rt: &HostRuntime, reads: Blank, writes: Blank) -
 {
     let mut source: CountedReader<io::Stdin, L> = CountedReader::new(rt.stdin(), reads);
     let mut sink: CountedWriter<io::Stdout, M> = CountedWriter::new(rt.stdout(), writes);
-    match run(rt.alloc(), &mut source, &mut sink) {
+    run_script(rt.alloc(), &mut source, &mut sink)
+}
+
+/// Runs the script that a reader gives; its answers go to a writer.
+fn run_script<R: Reader, W: Writer>(
+    alloc: Global,
+    source: &mut R,
+    sink: &mut W,
+) -> Result<(), Fault>
+    ensures { IfErr result (λ f. (fault : RunFault) × (f ≡ Fault.Replay fault)) }
+{
+    match run(alloc, source, sink) {
         Ok(_) => Ok(()),
         Err(fault) => Err(Fault::Replay(fault)),
     }
