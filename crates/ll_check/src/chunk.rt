@@ -169,7 +169,7 @@ pub(crate) fn read_entries<'a>(
         → IfErr result (λ f. f.kind ≢ CheckKind.Memory
         → checked_from (Inside keeper.old.settings) (chain_of keeper.old.settings events) (pieces_at 10 text.now) ≡ Err f) }
     ensures memory { (events : List Event) → Stands keeper.old events → IfErr result (λ f.
-        not_before f.entry (checked_from (Inside keeper.old.settings) (chain_of keeper.old.settings events) (parts_at 10 text.now)) ≡ true) }
+        not_before f.entry (checked_from (Inside keeper.old.settings) (chain_of keeper.old.settings events) (pieces_at 10 text.now)) ≡ true) }
     ensures shorter { IfOk result (λ rest. length rest.now < length text.now) }
 {
     let mut rest = text;
