@@ -21,16 +21,9 @@ module _ (n : ℕ) where
   step_then : (v : Visit) (more : List ℕ)
       → (step n (came n more v) ≡ came n more (step n v)) ⊎ (step n (came n more v) ≡ step n (came n more (step n v)))
   step_then v more =
-      grind (
-        arith,
-        nat_tests,
-        (is_taken v.session.unread).more more,
-        (taking-right v.session.unread).1,
-        append-nil {A = ℕ},
-        append_assoc {A = List ℕ},
-        length-append {A = ℕ},
-        flat_map-append refusal,
-      )
+      let longer = (is_taken v.session.unread).more more in
+      let right = (taking-right v.session.unread).1 in
+      grind (arith, nat_tests, longer, right, append-nil {A = ℕ}, append_assoc {A = List ℕ}, length-append {A = ℕ}, flat_map-append refusal)
 
   -- a step before more bytes come changes nothing of what comes of all
   step_first : (v : Visit) (more : List ℕ) → hand_in n (came n more (step n v)) ≡ hand_in n (came n more v)
@@ -75,15 +68,9 @@ module _ (n : ℕ) (all : Connections) where
   turn_then : (v : Visit) (second : List ℕ) → both (turn n all v) (bytes n second (turn n all v).connections v.rooms) ≡ turn n all (arrived n second v)
   turn_then v second =
       let u : Visit = record { session = record v.session { answers = [] }; rooms = v.rooms } in
+      let later = open_then (arrived n second u) v.session.answers (left v.session) v.rooms in
       rw (found n (left v.session) all)
-      (grind (
-        arith,
-        append-nil {A = ℕ},
-        append-nil {A = List ℕ},
-        shut_arrived n second v,
-        arrived-prefixed n second v.session.answers u,
-        open_then (arrived n second u) v.session.answers (left v.session) v.rooms,
-      ))
+      (grind (arith, append-nil {A = ℕ}, append-nil {A = List ℕ}, shut_arrived n second v, arrived-prefixed n second v.session.answers u, later))
 
   turns_by : (w : World) (first second : List ℕ) (o : Option (Option SessionValue)) → session_of n all ≡ o
       → both (bytes_to n first all w o) (bytes n second (bytes_to n first all w o).connections (bytes_to n first all w o).rooms)

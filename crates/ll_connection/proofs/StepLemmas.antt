@@ -1,7 +1,7 @@
 -- What a step makes of a visit, and that as many steps as there are bytes are enough. The facts for other files:
 --   is_taken                            what is taken from some bytes and from more, and what is left
 --   prefixed; came-, hand_in-prefixed   answers that were there before stay in front
---   still-shut, still-out, still        where no want is given, a further step changes nothing
+--   still-shut, still                   where no want is given, a further step changes nothing
 --   fewer                               where a want is given, fewer bytes are left
 --   hand_in-is, -step, -still           steps that are made before all others, or that change nothing
 use Rattle.std.proofs.Common.{◌≡◌, ℕ, zero, suc, ◌+◌, ◌<◌, ◌≤◌, ◌⊎◌, inl, inr, List, [], ◌++◌, Bool, true, false, Option, Some, None, refl, ap, ◌∙◌, sym, subst, arith, length, drop, append_assoc, append-nil}
@@ -88,9 +88,6 @@ module _ (n : ℕ) where
 
   pub still-shut : (v : Visit) → v.session.shut ≡ true → step n v ≡ v
   still-shut v is = rw is
-
-  pub still-out : (v : Visit) (keep : Bool) → v.session.out ≡ Some keep → step n v ≡ v
-  still-out v keep is = grind arith
 
   pub still : (v : Visit) → next_want v.session ≡ None → step n (step n v) ≡ step n v
   still v e = grind (arith, append-nil {A = List ℕ}, (is_taken v.session.unread).rests)
