@@ -13,7 +13,7 @@ use ll_hub::{Blanks, Hub, Ledgers, Pass, Sink};
 use ll_item::Item;
 use ll_link::{Role, serve_link};
 use ll_record::Chunk;
-use ll_room::{Keeper, Stamped};
+use ll_room::Keeper;
 use ll_verdict::Reply;
 use std::alloc::Global;
 use std::marker::Brand;
