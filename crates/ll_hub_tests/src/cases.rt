@@ -5,7 +5,6 @@ use crate::rows::{number, push, push_three};
 use ll_directive::read_target;
 use ll_hub::{Blanks, Claim, Clock, Hub, HubAsked, HubFault, Ledgers, Pass, Totals};
 use ll_item::{Item, Settings};
-use ll_room::Stamped;
 use ll_verdict::Reply;
 use std::alloc::{AllocError, Global};
 use std::process::Abort;
@@ -135,8 +134,8 @@ pub(crate) fn publish<L: Ledgers, R: Wait + Abort>(
 ) -> Result<u64, HubFault> {
     let settings = settings(rt, alloc, CAM);
     let item = Item::read(alloc, &settings, line).expect(rt, "an item");
-    hub.publish(rt, pass, channel, item)
-        .map(Stamped::into_inner)
+    let count = hub.publish(rt, pass, channel, item)?;
+    Ok(count.into_inner())
 }
 
 /// Publishes what a line announces, which is accepted: how many items the channel has accepted with it.
@@ -165,7 +164,7 @@ pub(crate) fn ask<L: Ledgers, C: Clock, R: Wait + Abort>(
     hub.ask(rt, clock, pass, channel, want)
 }
 
-/// The reply to a request; nothing, where it is refused, or held, and then it is given up.
+/// The reply to a request; nothing, where it is held, and then it is given up.
 pub(crate) fn reply<L: Ledgers, C: Clock, R: Wait + Abort>(
     rt: &R,
     alloc: Global,
@@ -174,14 +173,13 @@ pub(crate) fn reply<L: Ledgers, C: Clock, R: Wait + Abort>(
     pass: &mut Pass<L>,
     channel: usize,
     target: &str,
-) -> Option<Reply> {
-    match ask(rt, alloc, hub, clock, pass, channel, target) {
-        Ok(HubAsked::Now(reply)) => Some(reply.into_inner()),
-        Ok(HubAsked::Held(claim)) => {
+) -> Result<Option<Reply>, HubFault> {
+    match ask(rt, alloc, hub, clock, pass, channel, target)? {
+        HubAsked::Now(reply) => Ok(Some(reply.into_inner())),
+        HubAsked::Held(claim) => {
             hub.close(rt, claim);
-            None
+            Ok(None)
         }
-        Err(_fault) => None,
     }
 }
 
@@ -196,7 +194,7 @@ pub(crate) fn asked<L: Ledgers, C: Clock, R: Wait + Abort>(
     target: &str,
 ) -> u64 {
     match reply(rt, alloc, hub, clock, pass, channel, target) {
-        Some(Reply::Text(page)) => page.number(),
+        Ok(Some(Reply::Text(page))) => page.number(),
         _ => 0,
     }
 }
@@ -217,6 +215,16 @@ pub(crate) fn held<L: Ledgers, C: Clock, R: Wait + Abort>(
     }
 }
 
+/// The reply to a held request.
+fn collected<L: Ledgers, R: Wait + Abort>(
+    rt: &R,
+    hub: &Hub<L>,
+    pass: &mut Pass<L>,
+    claim: Claim,
+) -> Reply {
+    hub.wait(rt, pass, claim).expect(rt, "a reply").into_inner()
+}
+
 /// What a held request gets in the end: how many items there are at a playlist and its last line, or the name of another reply.
 pub(crate) fn awaited<L: Ledgers, R: Wait + Abort>(
     rt: &R,
@@ -225,8 +233,8 @@ pub(crate) fn awaited<L: Ledgers, R: Wait + Abort>(
     pass: &mut Pass<L>,
     claim: Claim,
 ) -> String {
-    let reply = hub.wait(rt, pass, claim).expect(rt, "a reply");
-    told(alloc, reply.get()).expect(rt, "a text")
+    let reply = collected(rt, hub, pass, claim);
+    told(alloc, &reply).expect(rt, "a text")
 }
 
 /// How many items there are at a playlist and its last line, or the name of another reply.
@@ -304,6 +312,18 @@ fn push_totals(rt: &impl Abort, text: &mut String, totals: &Totals) {
     for total in &totals.channels {
         push_three(rt, text, total.publishes, total.asks, total.held);
     }
+}
+
+/// Appends what [`finished`] tells of a hub that gave one pass.
+pub(crate) fn push_finished<L: Ledgers>(
+    rt: &impl Abort,
+    alloc: Global,
+    text: &mut String,
+    hub: Hub<L>,
+    pass: Pass<L>,
+) {
+    let totals = finished_with(rt, alloc, hub, pass);
+    push(rt, text, totals.as_str());
 }
 
 /// Spends a hub that gave one pass: what [`finished`] tells.

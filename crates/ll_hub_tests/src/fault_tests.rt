@@ -2,55 +2,63 @@
 ghost use Rattle.std.specs.Prelude.{◌≡◌};
 
 use crate::cases::{
-    FIRST, NOW, PART, Stopped, ask, close, fault_name, finished_with, held, hub_of_one, hub_of_two,
-    publish, seat,
+    FIRST, NOW, PART, Stopped, close, fault_name, finished_with, held, hub_of_one, hub_of_two,
+    publish, push_finished, reply, seat,
 };
 use crate::rows::{push, same, same_number};
-use ll_hub::{Blanks, Hub, HubAsked, HubFault, Ledgers, Pass};
+use ll_hub::{Blanks, Hub, Ledgers, Pass};
 use std::alloc::Global;
 use std::marker::Brand;
 use std::process::Abort;
 use std::sync::Wait;
 
-/// Why a request is refused, which is given up where it is held.
-fn refused<L: Ledgers, R: Wait + Abort>(
+/// Publishes in a channel that a hub doesn't have, and asks it: both are refused.
+fn call<L: Ledgers, R: Wait + Abort>(
     rt: &R,
     alloc: Global,
     hub: &Hub<L>,
     pass: &mut Pass<L>,
     channel: usize,
-) -> Option<HubFault> {
-    match ask(rt, alloc, hub, &Stopped, pass, channel, NOW) {
-        Ok(HubAsked::Now(_reply)) => None,
-        Ok(HubAsked::Held(claim)) => {
-            hub.close(rt, claim);
-            None
-        }
-        Err(fault) => Some(fault),
-    }
+) {
+    let published = publish(rt, alloc, hub, pass, channel, PART).err();
+    same(rt, "a part", fault_name(published), "UnknownChannel");
+    let asked = reply(rt, alloc, hub, &Stopped, pass, channel, NOW).err();
+    same(rt, "a request", fault_name(asked), "UnknownChannel");
 }
 
-/// Publishes in a channel that a hub doesn't have, and asks it: nothing happens.
-fn call_beyond<L: Ledgers, R: Wait + Abort>(rt: &R, alloc: Global, blanks: Blanks, channel: usize)
+/// A pass has seen nothing of a channel that its hub has.
+fn check_unseen<L: Ledgers>(rt: &impl Abort, pass: &Pass<L>, channel: usize) {
+    same_number(rt, "items", pass.seen(channel).unwrap_or(u64::MAX), 0);
+}
+
+/// Calls a channel that a hub doesn't have: nothing happens. Tells the totals.
+fn call_beyond<L: Ledgers, R: Wait + Abort>(
+    rt: &R,
+    alloc: Global,
+    blanks: Blanks,
+    channel: usize,
+) -> String
     requires names { blanks ≡ L.names }
     requires channels { L.channels ≡ 2 }
 {
     let hub: Hub<L> = hub_of_two(rt, alloc, blanks);
     let mut pass = seat(rt, &hub);
-    let published = publish(rt, alloc, &hub, &mut pass, channel, PART).err();
-    same(rt, "a part", fault_name(published), "UnknownChannel");
-    let asked = refused(rt, alloc, &hub, &mut pass, channel);
-    same(rt, "a request", fault_name(asked), "UnknownChannel");
-    same_number(rt, "the first", pass.seen(0).unwrap_or(u64::MAX), 0);
-    same_number(rt, "the second", pass.seen(1).unwrap_or(u64::MAX), 0);
-    let totals = finished_with(rt, alloc, hub, pass);
+    call(rt, alloc, &hub, &mut pass, channel);
+    check_unseen(rt, &pass, 0);
+    check_unseen(rt, &pass, 1);
+    finished_with(rt, alloc, hub, pass)
+}
+
+/// A channel that a hub doesn't have can't be called.
+fn check_beyond<R: Wait + Abort>(rt: &R, alloc: Global, channel: usize) {
+    let totals = call_beyond::<Brand, R>(rt, alloc, Blanks::new(), channel);
     same(rt, "the totals", totals.as_str(), "0 0 0;0 0 0;");
 }
 
 #[test]
 fn unknown_channels_are_refused(rt: HostRuntime) {
-    call_beyond::<Brand, HostRuntime>(&rt, rt.alloc(), Blanks::new(), 2);
-    call_beyond::<Brand, HostRuntime>(&rt, rt.alloc(), Blanks::new(), usize::MAX);
+    check_beyond(&rt, rt.alloc(), 2);
+    check_beyond(&rt, rt.alloc(), usize::MAX);
 }
 
 /// Holds two requests of a channel, and waits for one and gives the other up in another hub, which doesn't hold them: why the wait is
@@ -93,10 +101,8 @@ fn claim_elsewhere<L: Ledgers, M: Ledgers, R: Wait + Abort>(
     let mut pass = seat(rt, &hub);
     let mut text = String::new(alloc);
     let theirs = spend_elsewhere(rt, alloc, &hub, &mut pass, &other, channel, &mut text);
-    let others = finished_with(rt, alloc, other, theirs);
-    push(rt, &mut text, others.as_str());
-    let totals = finished_with(rt, alloc, hub, pass);
-    push(rt, &mut text, totals.as_str());
+    push_finished(rt, alloc, &mut text, other, theirs);
+    push_finished(rt, alloc, &mut text, hub, pass);
     text
 }
 

@@ -2,8 +2,8 @@
 ghost use Rattle.std.specs.Prelude.{◌≡◌};
 
 use crate::cases::{
-    FIRST, NOW, SEGMENT, Stopped, asked, awaited, close, fault_name, finished, finished_with, held,
-    hub_of_one, published, seat, take,
+    FIRST, NOW, SEGMENT, Stopped, asked, awaited, close, fault_name, finished, held, hub_of_one,
+    published, push_finished, seat, take,
 };
 use crate::rows::{Row, number, push, push_three, same};
 use ll_hub::{Blanks, Hub, Ledgers, Pass};
@@ -37,8 +37,7 @@ fn publish_and_ask<L: Ledgers, R: Wait + Abort>(rt: &R, alloc: Global, blanks: B
     for _ in 0..8 {
         turn(rt, alloc, &hub, &mut pass, &mut text);
     }
-    let totals = finished_with(rt, alloc, hub, pass);
-    push(rt, &mut text, totals.as_str());
+    push_finished(rt, alloc, &mut text, hub, pass);
     text
 }
 
@@ -65,7 +64,21 @@ fn take_each<L: Ledgers, R: Wait + Abort>(
     }
 }
 
-/// What a request gets that is held after the events of the first column, and waits for after those of the third; and the totals.
+/// What a request gets that is held after the events of the first column, and waits for after those of the third.
+fn wait<L: Ledgers, R: Wait + Abort>(
+    rt: &R,
+    alloc: Global,
+    hub: &Hub<L>,
+    pass: &mut Pass<L>,
+    row: Row<'_>,
+) -> String {
+    take_each(rt, alloc, hub, pass, row.column(0));
+    let claim = held(rt, alloc, hub, &Stopped, pass, 0, row.column(1));
+    take_each(rt, alloc, hub, pass, row.column(2));
+    awaited(rt, alloc, hub, pass, claim)
+}
+
+/// What a request gets that waits for what a row says, and the totals.
 fn waited<L: Ledgers, R: Wait + Abort>(
     rt: &R,
     alloc: Global,
@@ -77,13 +90,9 @@ fn waited<L: Ledgers, R: Wait + Abort>(
 {
     let hub: Hub<L> = hub_of_one(rt, alloc, blanks);
     let mut pass = seat(rt, &hub);
-    take_each(rt, alloc, &hub, &mut pass, row.column(0));
-    let claim = held(rt, alloc, &hub, &Stopped, &mut pass, 0, row.column(1));
-    take_each(rt, alloc, &hub, &mut pass, row.column(2));
-    let mut text = awaited(rt, alloc, &hub, &mut pass, claim);
-    let totals = finished_with(rt, alloc, hub, pass);
+    let mut text = wait(rt, alloc, &hub, &mut pass, row);
     push(rt, &mut text, " ");
-    push(rt, &mut text, totals.as_str());
+    push_finished(rt, alloc, &mut text, hub, pass);
     text
 }
 
@@ -105,8 +114,42 @@ fn held_requests_get_what_comes_first(rt: HostRuntime) {
     }
 }
 
-/// Holds three requests of a hub. Gives so many of them up, and the others in another hub, which doesn't hold them: how each was given
-/// up, and the totals of the other hub and of the first.
+/// Holds a request of a hub, and gives it up there, or in another hub, which doesn't hold it.
+fn hold_one<L: Ledgers, M: Ledgers, R: Wait + Abort>(
+    rt: &R,
+    alloc: Global,
+    hub: &Hub<L>,
+    pass: &mut Pass<L>,
+    other: &Hub<M>,
+    is_given_up: bool,
+) -> &'static str {
+    let claim = held(rt, alloc, hub, &Stopped, pass, 0, FIRST);
+    if is_given_up {
+        close(rt, hub, claim)
+    } else {
+        close(rt, other, claim)
+    }
+}
+
+/// Holds three requests of a hub. Gives so many of them up, and the others in another hub: how each was given up.
+fn hold_three<L: Ledgers, M: Ledgers, R: Wait + Abort>(
+    rt: &R,
+    alloc: Global,
+    hub: &Hub<L>,
+    pass: &mut Pass<L>,
+    other: &Hub<M>,
+    given_up: u64,
+) -> String {
+    let mut text = String::new(alloc);
+    for place in 0..3 {
+        let told = hold_one(rt, alloc, hub, pass, other, place < given_up);
+        push(rt, &mut text, told);
+    }
+    text
+}
+
+/// Holds three requests of a hub, and gives up as many as a row says, and the others in another hub: how each was given up, and the
+/// totals of the other hub and of the first.
 fn give_up<L: Ledgers, M: Ledgers, R: Wait + Abort>(
     rt: &R,
     alloc: Global,
@@ -123,20 +166,10 @@ fn give_up<L: Ledgers, M: Ledgers, R: Wait + Abort>(
     let other: Hub<M> = hub_of_one(rt, alloc, others);
     let mut pass = seat(rt, &hub);
     let given_up = number(rt, row.input());
-    let mut text = String::new(alloc);
-    for place in 0..3 {
-        let claim = held(rt, alloc, &hub, &Stopped, &mut pass, 0, FIRST);
-        let closed = if place < given_up {
-            close(rt, &hub, claim)
-        } else {
-            close(rt, &other, claim)
-        };
-        push(rt, &mut text, closed);
-    }
+    let mut text = hold_three(rt, alloc, &hub, &mut pass, &other, given_up);
     let theirs = finished(rt, alloc, other, Vec::new(alloc));
     push(rt, &mut text, theirs.as_str());
-    let totals = finished_with(rt, alloc, hub, pass);
-    push(rt, &mut text, totals.as_str());
+    push_finished(rt, alloc, &mut text, hub, pass);
     text
 }
 

@@ -1,5 +1,5 @@
 //! Connections that fail, or take a few bytes at a time.
-ghost use Rattle.std.specs.Prelude.{◌≡◌};
+ghost use Rattle.std.specs.Prelude.{◌≡◌, ◌≤◌};
 
 use crate::cases::{
     SEGMENT, Stopped, Waiting, comes_to, finished, finished_with, hub_of_one, published, seat,
@@ -136,7 +136,9 @@ fn check_whole<R: Wait + Abort>(rt: &R, alloc: Global, talk: &Talk, plan: Plan) 
 }
 
 /// A connection that gives so many bytes a read gets the answers to what came before a read that fails, whichever that is.
-fn fail_each_read<R: Wait + Abort>(rt: &R, alloc: Global, talk: &Talk, step: usize) {
+fn fail_each_read<R: Wait + Abort>(rt: &R, alloc: Global, talk: &Talk, step: usize)
+    requires { 1 ≤ step }
+{
     let all = talk.bytes.len().div_ceil(step).saturating_add(1);
     for reads in 0..all {
         let requests = talk.requests(reads.saturating_mul(step));
@@ -185,7 +187,9 @@ fn failed_reads_are_told(rt: HostRuntime) {
 }
 
 /// A connection that takes so many bytes a write gets what was written before a write that fails, whichever that is.
-fn fail_each_write<R: Wait + Abort>(rt: &R, alloc: Global, talk: &Talk, taken: usize) {
+fn fail_each_write<R: Wait + Abort>(rt: &R, alloc: Global, talk: &Talk, taken: usize)
+    requires { 1 ≤ taken }
+{
     let each = talk.answer().div_ceil(taken);
     for writes in 0..each.saturating_mul(2) {
         let answers = writes.checked_div(each).unwrap_or(0);

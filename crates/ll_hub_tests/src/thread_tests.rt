@@ -144,6 +144,18 @@ fn wait_for_first<L: Ledgers, R: Wait + Abort>(
     pass
 }
 
+/// Waits for the first part by three threads, each of which gets what is expected.
+fn wait_by_three<L: Ledgers + Send + Sync, R: Threads + Wait + Abort + Sync>(
+    rt: &R,
+    alloc: Global,
+    hub: &Hub<L>,
+    clock: &Waiting,
+    expected: &str,
+) -> Vec<Pass<L>> {
+    let wait = |_place| wait_for_first(rt, alloc, hub, clock, expected);
+    thread::map_indices(rt, alloc, 3, &wait).expect(rt, "three threads")
+}
+
 /// Once three requests were made, waits a little, and then takes what ends their waiting.
 fn end_waiting<L: Ledgers, R: Wait + time::Clock + Abort>(
     rt: &R,
@@ -171,18 +183,11 @@ fn wake_three<L: Ledgers + Send + Sync, R: Threads + Wait + time::Clock + Abort 
 {
     let hub: Hub<L> = hub_of_one(rt, alloc, blanks);
     let clock = Waiting::new(1);
-    let (event, expected) = (row.column(0), row.column(1));
-    let (waited, ended) = thread::join(
+    let (mut passes, ended) = thread::join(
         rt,
-        || thread::map_indices(
-            rt,
-            alloc,
-            3,
-            &|_place| wait_for_first(rt, alloc, &hub, &clock, expected),
-        ),
-        || end_waiting(rt, alloc, &hub, &clock.readings, event),
+        || wait_by_three(rt, alloc, &hub, &clock, row.column(1)),
+        || end_waiting(rt, alloc, &hub, &clock.readings, row.column(0)),
     );
-    let mut passes = waited.expect(rt, "three threads");
     passes.push(ended).expect(rt, "passes");
     finished(rt, alloc, hub, passes)
 }

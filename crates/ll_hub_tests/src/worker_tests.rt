@@ -152,19 +152,18 @@ fn serve_boxes<L: Ledgers + Send + Sync, G: Gate + Sync, R: Threads + Wait + Syn
     }
 }
 
-/// Publishes a segment, and counts it, once an answer was sent.
+/// Publishes a second segment, and counts it, once an answer was sent.
 fn publish_after<L: Ledgers, R: Wait + Abort>(
     rt: &R,
     alloc: Global,
     hub: &Hub<L>,
     latch: &Latch,
-) -> Pass<L> {
-    let mut pass = seat(rt, hub);
+    pass: &mut Pass<L>,
+) {
     comes_to(&latch.writes, 1);
-    let count = published(rt, alloc, hub, &mut pass, 0, SEGMENT);
+    let count = published(rt, alloc, hub, pass, 0, SEGMENT);
     same_number(rt, "the second segment", count, 2);
     add_one(&latch.published);
-    pass
 }
 
 /// Publishes the first segment of a hub.
@@ -186,16 +185,15 @@ fn serve_by_two<L: Ledgers + Send + Sync, R: Threads + Wait + Abort + Sync>(
     requires channels { L.channels ≡ 1 }
 {
     let hub: Hub<L> = hub_of_one(rt, alloc, blanks);
-    let pass = publish_first(rt, alloc, &hub);
+    let mut pass = publish_first(rt, alloc, &hub);
     let boxes = boxes(rt, alloc, 2);
     let latch = Latch::new();
-    let (mut passes, publisher) = thread::join(
+    let (mut passes, ()) = thread::join(
         rt,
         || serve_boxes(rt, alloc, &hub, 2, &latch, &boxes, &latch.writes),
-        || publish_after(rt, alloc, &hub, &latch),
+        || publish_after(rt, alloc, &hub, &latch, &mut pass),
     );
     passes.push(pass).expect(rt, "passes");
-    passes.push(publisher).expect(rt, "passes");
     check_boxes(rt, &boxes);
     same_number(rt, "the latch", latch.met.load(Ordering::SeqCst), 1);
     finished(rt, alloc, hub, passes)

@@ -1,4 +1,4 @@
-use Rattle.ll_hub_tests.proofs.fault_tests.unknown_channels_are_refused.Given as goal
+use Rattle.ll_hub_tests.proofs.fault_tests.check_beyond.Given as goal
 
 abbrev pub ghosts-call_beyond-L-Named : goal.ghosts-call_beyond-L-Named
 ghosts-call_beyond-L-Named g a = record { names = a.blanks }
