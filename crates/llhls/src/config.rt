@@ -1,8 +1,8 @@
 //! The settings of a server, a line each.
 ghost use Rattle.std.specs.Prelude.{◌≤◌, ◌<◌, IfOk, IsSome, length, vec_len};
 
-use crate::fault::Fault;
 use ll_attr::{Text, after, parse_number};
+use ll_command::Fault;
 use ll_item::{Settings, SettingsFault};
 use std::alloc::Global;
 use std::net::SocketAddrV4;

@@ -1,5 +1,5 @@
 //! Sockets as the links of players and publishers.
-use crate::fault::Fault;
+use ll_command::Fault;
 use ll_device::{Failed, Writer};
 use ll_link::{Link, Role, Source};
 use std::io::{Read, Write};

@@ -3,8 +3,8 @@ ghost use Rattle.std.specs.Prelude.{◌≡◌, ◌≤◌, length};
 
 use crate::config::{Config, Workers};
 use crate::door::Door;
-use crate::fault::Fault;
 use crate::record::Records;
+use ll_command::Fault;
 use ll_hub::{Blanks, Clock, Hub, HubFault, Ledgers, Pass, RoomFault, Sink};
 use ll_item::Settings;
 use ll_link::{Gate, Role, serve_links};

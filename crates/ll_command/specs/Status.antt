@@ -4,8 +4,8 @@ use Rattle.ll_apply.specs.declared.fault.ApplyFault.{ApplyFault}
 use Rattle.ll_apply.specs.declared.fault.ApplyFault.TheVariants as apply
 use Rattle.ll_replay.specs.declared.outcome.RunFault.{RunFault}
 use Rattle.ll_replay.specs.declared.outcome.RunFault.TheVariants as run
-use Rattle.llhls.specs.declared.fault.Fault.{Fault}
-use Rattle.llhls.specs.declared.fault.Fault.TheVariants.{Usage, Read, Write, Memory, Replay, BadLine, Listen, Clock, Apply}
+use Rattle.ll_command.specs.declared.fault.Fault.{Fault}
+use Rattle.ll_command.specs.declared.fault.Fault.TheVariants.{Usage, Read, Write, Memory, Replay, BadLine, Listen, Clock, Apply}
 
 -- of a script
 abbrev pub replay_status : RunFault → ℕ

@@ -1,9 +1,9 @@
 -- What the program's words ask it to do.
 use Rattle.std.specs.Prelude.{ℕ, List, [], ◌∷◌, Result, Ok, Err, bytes_eq, codes, if◌then◌else◌}
-use Rattle.llhls.specs.declared.command.Command.{Command}
-use Rattle.llhls.specs.declared.command.Command.TheVariants as command
-use Rattle.llhls.specs.declared.fault.Fault.{Fault}
-use Rattle.llhls.specs.declared.fault.Fault.TheVariants.{Usage}
+use Rattle.ll_command.specs.declared.command.Command.{Command}
+use Rattle.ll_command.specs.declared.command.Command.TheVariants as command
+use Rattle.ll_command.specs.declared.fault.Fault.{Fault}
+use Rattle.ll_command.specs.declared.fault.Fault.TheVariants.{Usage}
 
 pub data Call : Type 0 where
   -- run the script on standard input

@@ -1,18 +1,22 @@
-ghost use Rattle.std.specs.Prelude.{◌≡◌, IfOk, MatchResult, Ok, Err, map, string_bytes};
-ghost use Rattle.std.specs.Vec.Iter.{into_iter_items};
-ghost use Rattle.llhls.specs.Commands as spec;
-ghost use Rattle.llhls.specs.Commands.{call_of, command_of};
+//! The commands that the program obeys.
+ghost use Rattle.std.specs.Prelude.{◌≡◌, MatchResult, Ok, Err};
+ghost use Rattle.ll_command.specs.Commands as spec;
+ghost use Rattle.ll_command.specs.Commands.{call_of, command_of};
 
-use crate::fault::{Fault, fault_of};
+use crate::fault::Fault;
 use ll_attr::Text;
-use std::alloc::{AllocError, Global};
-use std::{env, io};
 
 /// What the program was called to do.
-pub(crate) enum Command<'a> {
+pub enum Command<'a> {
+    /// Nothing more: the script is on standard input.
     Replay,
-    /// The names of two files: the earlier playlist, and the delta update.
-    Apply { base: &'a Text, delta: &'a Text },
+    /// A delta update is to be applied.
+    Apply {
+        /// The name of the earlier playlist's file.
+        base: &'a Text,
+        /// The name of the delta update's file.
+        delta: &'a Text,
+    },
     /// The name of a file: the record of a channel.
     Check(&'a Text),
     /// The name of a file: the settings.
@@ -21,7 +25,7 @@ pub(crate) enum Command<'a> {
 
 impl<'a> Command<'a> {
     /// The command that the program's words spell, the first of which names the program.
-    pub(crate) fn of(words: &'a [Text]) -> Result<Command<'a>, Fault>
+    pub fn of(words: &'a [Text]) -> Result<Command<'a>, Fault>
         ensures { MatchResult result (λ c. command_of words.now ≡ Ok (call_of c)) (λ f. command_of words.now ≡ Err f) }
     {
         match words {
@@ -66,26 +70,4 @@ impl<'a> Command<'a> {
             Err(Fault::Usage)
         }
     }
-}
-
-/// The program's words. One that is no UTF-8 is wrong usage.
-pub(crate) fn words(rt: &HostRuntime) -> Result<Vec<Text>, Fault> {
-    match env::args(rt) {
-        Ok(args) => match texts(rt.alloc(), args) {
-            Ok(words) => Ok(words),
-            Err(AllocError) => Err(Fault::Memory),
-        },
-        Err(error) => Err(fault_of(error.kind(), Fault::Usage)),
-    }
-}
-
-/// Words as texts.
-fn texts(alloc: Global, args: env::Args) -> Result<Vec<Text>, AllocError>
-    ensures { IfOk result (λ words. words.items ≡ map string_bytes (into_iter_items args)) }
-{
-    let mut words = Vec::new(alloc);
-    for arg in args {
-        words.push(Text::from_string(arg))?;
-    }
-    Ok(words)
 }

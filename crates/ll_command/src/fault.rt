@@ -1,6 +1,6 @@
 ghost use Rattle.std.specs.Prelude.{◌≡◌, ◌≢◌};
-ghost use Rattle.llhls.specs.Status.{status_of};
-ghost use Rattle.llhls.specs.Status as spec;
+ghost use Rattle.ll_command.specs.Status.{status_of};
+ghost use Rattle.ll_command.specs.Status as spec;
 
 use ll_apply::ApplyFault;
 use ll_replay::RunFault;
@@ -9,7 +9,7 @@ use thiserror::Error;
 
 /// Why the program didn't do what it was called to do.
 #[derive(Clone, Copy, Debug, Error)]
-pub(crate) enum Fault {
+pub enum Fault {
     /// Wrong usage: it was called with other words.
     #[error("usage")]
     Usage,
@@ -41,7 +41,7 @@ pub(crate) enum Fault {
 
 impl Fault {
     /// The exit status: 2 for wrong usage, 3 for input to blame, 4 for any other.
-    pub(crate) fn status(self) -> u8
+    pub fn status(self) -> u8
         ensures { result ≡ status_of self }
     {
         match self {
@@ -55,7 +55,7 @@ impl Fault {
 }
 
 /// The fault of an error of std: out of memory is always told as such.
-pub(crate) fn fault_of(kind: ErrorKind, otherwise: Fault) -> Fault
+pub fn fault_of(kind: ErrorKind, otherwise: Fault) -> Fault
     ensures memory { kind ≡ ErrorKind.OutOfMemory → result ≡ Fault.Memory }
     ensures other { kind ≢ ErrorKind.OutOfMemory → result ≡ otherwise }
 {

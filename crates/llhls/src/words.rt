@@ -1,0 +1,29 @@
+ghost use Rattle.std.specs.Prelude.{◌≡◌, IfOk, map, string_bytes};
+ghost use Rattle.std.specs.Vec.Iter.{into_iter_items};
+
+use ll_attr::Text;
+use ll_command::{Fault, fault_of};
+use std::alloc::{AllocError, Global};
+use std::env;
+
+/// The program's words. One that is no UTF-8 is wrong usage.
+pub(crate) fn words(rt: &HostRuntime) -> Result<Vec<Text>, Fault> {
+    match env::args(rt) {
+        Ok(args) => match texts(rt.alloc(), args) {
+            Ok(words) => Ok(words),
+            Err(AllocError) => Err(Fault::Memory),
+        },
+        Err(error) => Err(fault_of(error.kind(), Fault::Usage)),
+    }
+}
+
+/// Words as texts.
+fn texts(alloc: Global, args: env::Args) -> Result<Vec<Text>, AllocError>
+    ensures { IfOk result (λ words. words.items ≡ map string_bytes (into_iter_items args)) }
+{
+    let mut words = Vec::new(alloc);
+    for arg in args {
+        words.push(Text::from_string(arg))?;
+    }
+    Ok(words)
+}
