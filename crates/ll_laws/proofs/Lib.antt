@@ -9,7 +9,6 @@ pub mod PageLemmas
 pub mod PlaylistLemmas
 pub mod RangeItems
 pub mod RangeLines
-pub mod RangeTexts
 pub mod ReadableProof
 pub mod RowLemmas
 pub mod SegmentLemmas

@@ -16,7 +16,8 @@ use Rattle.ll_line.specs.Formats.{largest_number, line}
 use Rattle.ll_line.specs.Line.{Line, ServerControl, Skipped, Map, Part, Duration, RenditionReport, Hint}
 use Rattle.ll_line.specs.Text.{line_text, text_of}
 use Rattle.ll_read.specs.Readable.{Each}
-use Rattle.ll_laws.proofs.TextLemmas.{is_plain, ArePlain, all-append, all-so, plain-decimal}
+use Rattle.ll_page.proofs.RangeTexts.{all-so}
+use Rattle.ll_laws.proofs.TextLemmas.{is_plain, ArePlain, all-append, plain-decimal}
 
 abbrev pub AreAscii : List ℕ → Type 0
 AreAscii text = list_all is_ascii text ≡ true

@@ -19,7 +19,7 @@ use Rattle.ll_line.specs.Formats.{attributes_text, is_attribute_list, text_or_no
 use Rattle.ll_line.specs.Line.{DateRange}
 use Rattle.ll_range.specs.Attributes.{is_id, are_allowed}
 use Rattle.ll_laws.proofs.LineLemmas.{IsSound, utf8-ascii}
-use Rattle.ll_laws.proofs.RangeTexts.{read-with_id, quotable-id}
+use Rattle.ll_page.proofs.RangeTexts.{read-with_id, quotable-id}
 use Rattle.ll_laws.proofs.TextLemmas.{some_test}
 use Rattle.ll_spelling.proofs.RangeLine.{list-line}
 

@@ -15,6 +15,7 @@ use Rattle.ll_line.specs.Uris.{segment_uri, part_uri, map_uri, report_uri}
 use Rattle.ll_format.specs.Words.{is_line_byte, is_one_line, is_quotable, is_uri, is_rest}
 use Rattle.ll_line.specs.Formats.{line}
 use Rattle.ll_line.specs.Line.{Uri}
+use Rattle.ll_page.proofs.RangeTexts.{all-so}
 
 abbrev pub is_plain : ℕ → Bool
 is_plain b = is_ascii b && is_quoted_byte b
@@ -25,12 +26,6 @@ ArePlain text = list_all is_plain text ≡ true
 -- what all bytes of two texts pass, all bytes of both together pass
 pub all-append : (p : ℕ → Bool) (a b : List ℕ) → list_all p a ≡ true → list_all p b ≡ true → list_all p (a ++ b) ≡ true
 all-append p a b h k = list_all-append p a b ∙ and_from (list_all p a) (list_all p b) h k
-
--- a test that follows from another for each byte does so for a text
-pub all-so : (p q : ℕ → Bool) → ((b : ℕ) → p b ≡ true → q b ≡ true) → (text : List ℕ) → list_all p text ≡ true → list_all q text ≡ true
-all-so p q f [] h = refl
-all-so p q f (b ∷ bs) h =
-    let both = and_parts (p b) (list_all p bs) h in and_from (q b) (list_all q bs) (f b both.0) (all-so p q f bs both.1)
 
 plain-append : (a b : List ℕ) → ArePlain a → ArePlain b → ArePlain (a ++ b)
 plain-append a b p q = all-append is_plain a b p q

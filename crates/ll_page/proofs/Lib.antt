@@ -1,6 +1,7 @@
 pub mod DeltaLemmas
 pub mod PlaceLemmas
 pub mod RangeLemmas
+pub mod RangeTexts
 pub mod RenditionLemmas
 pub mod SegmentLemmas
 pub mod Texts

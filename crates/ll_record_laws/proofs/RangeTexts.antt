@@ -2,7 +2,7 @@
 use Rattle.std.proofs.Common.{◌≡◌, ◌≢◌, ℕ, true, List, [], ◌∷◌, ◌++◌, refl, ap, ◌∙◌, append_assoc, codes, Ok}
 use Rattle.ll_attr.specs.Attributes.{attributes_in, spelling}
 use Rattle.ll_attr.specs.declared.attributes.Attribute.{Attribute}
-use Rattle.ll_laws.proofs.RangeTexts.{read-with_id}
+use Rattle.ll_page.proofs.RangeTexts.{read-with_id}
 use Rattle.ll_range.specs.Attributes.{are_allowed, is_id}
 use Rattle.ll_spelling.specs.Lines.{with_id}
 

@@ -1,6 +1,6 @@
 -- The text of a date range is read as an attribute list: its ID stands first, and no other attribute has that name.
 use Rattle.std.proofs.Common.{◌≡◌, ℕ, ◌==◌, ◌||◌, Bool, true, false, List, [], ◌∷◌, ◌++◌, refl, ap, sym, ◌∙◌, arith, bytes_eq, codes, Option, Some, None, Ok, if◌then◌else◌}
-use Rattle.std.proofs.lemmas.Bool.{and_parts, or_parts, or_from}
+use Rattle.std.proofs.lemmas.Bool.{and_parts, and_from, or_parts, or_from}
 use Rattle.std.proofs.lemmas.Bool.Decides.{nat_tests}
 use Rattle.std.proofs.lemmas.List.Elements.{All-from_recursion}
 use Rattle.std.proofs.lemmas.List.Folds.{list_any-append}
@@ -16,7 +16,12 @@ use Rattle.ll_attr.specs.declared.attributes.AttrValue.TheVariants.{Quoted}
 use Rattle.ll_attr.proofs.Spelled.{read_by, read_ok, then_ok}
 use Rattle.ll_line.specs.Formats.{attributes_text}
 use Rattle.ll_range.specs.Attributes.{is_id, is_id_byte, is_allowed, are_allowed}
-use Rattle.ll_laws.proofs.TextLemmas.{all-so}
+
+-- a test that follows from another for each byte does so for a text
+pub all-so : (p q : ℕ → Bool) → ((b : ℕ) → p b ≡ true → q b ≡ true) → (text : List ℕ) → list_all p text ≡ true → list_all q text ≡ true
+all-so p q f [] h = refl
+all-so p q f (b ∷ bs) h =
+    let both = and_parts (p b) (list_all p bs) h in and_from (q b) (list_all q bs) (f b both.0) (all-so p q f bs both.1)
 
 -- bytes of an ID may stand in quotes
 
