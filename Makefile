@@ -2,24 +2,32 @@
 HERE := $(dir $(lastword $(MAKEFILE_LIST)))
 PREFIX ?= /usr/local
 
-.PHONY: help run test install refused-memory bench
+.PHONY: help run build install test edits refused-memory bench
 
 help:
-	@echo 'make run              proves and builds the program, runs it on examples/first.script, and as a server'
+	@echo 'make run              runs the program on examples/first.script, and as a server, in a minute or two and before anything is proved'
+	@echo 'make build            proves and builds the program'
+	@echo 'make install          does that and copies it to PREFIX/bin, and its manual page to PREFIX/share/man (PREFIX=$(PREFIX))'
 	@echo 'make test             proves and tests everything from nothing'
-	@echo 'make install          builds the program and copies it to PREFIX/bin, and its manual page to PREFIX/share/man (PREFIX=$(PREFIX))'
+	@echo 'make edits            tries all deliberate bugs that the prover must refuse (CRATES="NAME .." those of some crates)'
 	@echo 'make refused-memory   refuses each allocation of the program in turn'
 	@echo 'make bench            measures speed and memory'
 
 run: kit
 	@$(HERE)tests/run.sh
 
-test: kit
-	@$(HERE)tests/all.sh
+build: kit
+	@$(HERE)tests/build.sh
 
 install: kit
 	@program=$$($(HERE)tests/program.sh) && mkdir -p "$(DESTDIR)$(PREFIX)/bin" && install -m 755 "$$program" "$(DESTDIR)$(PREFIX)/bin/llhls"
 	@install -D -m 644 "$(HERE)docs/llhls.1" "$(DESTDIR)$(PREFIX)/share/man/man1/llhls.1"
+
+test: kit
+	@$(HERE)tests/all.sh
+
+edits: kit
+	@$(HERE)tests/edits.sh $(CRATES)
 
 refused-memory: kit
 	@$(HERE)tests/refused_memory.sh

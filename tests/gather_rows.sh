@@ -1,5 +1,5 @@
 #!/usr/bin/env bash
-# Puts all rows into a folder: those of tests/rows, those of tests/connections with their bytes in one piece, the example of README.md,
+# Puts all rows into a folder: those of tests/rows, those of tests/connections with their bytes in one piece, the examples of README.md and of `make run`,
 # and those of long lines, which are made here.
 # A row is its script NAME, its output NAME.stdout, and NAME.args where it has words beside `replay`.
 # tests/endings says how a row ends that doesn't end with status 0.
@@ -14,6 +14,8 @@ for output in connections/*.stdout; do
 done
 cp ../examples/live.script "$to/live_example"
 cp ../examples/live.expected "$to/live_example.stdout"
+cp ../examples/held.script "$to/held_example"
+cp ../examples/held.expected "$to/held_example.stdout"
 
 settings='channel cam target=4 part=1000000 skip=24 window=36 renditions=hi first=0 start=0'
 part='pub cam part hi 1000000 if'

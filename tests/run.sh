@@ -1,23 +1,26 @@
 #!/usr/bin/env bash
-# Builds the proved program, runs it on the first example, and compares what it writes; then runs it as a server (tests/run_serve.sh).
-# The last line is the sum.
+# The main job on real input, in a minute or two and before anything is proved: `rt try` builds the program from the sources, with checks that stop it at a fault, and
+# runs it on the first example and, beside that, as a server (tests/run_serve.sh). The last line is the sum.
 set -u
 root=$(cd "$(dirname "${BASH_SOURCE[0]}")/.." && pwd) || exit 2
-output=$(mktemp) || exit 2
-trap 'rm -f "$output"' EXIT
+room=$(mktemp -d) || exit 2
+trap 'rm -rf "$room"' EXIT
 passed=0
 
-program=$(LLHLS='' "$root/tests/program.sh") || exit 1
-"$program" replay <"$root/examples/first.script" >"$output"
+echo 'This run checks the program and proves nothing: `make build` proves it, and `make test` proves and tests everything.'
+# The server is built beside the program that runs the script. Its last line is its own count.
+"$root/tests/run_serve.sh" >"$room/served" 2>&1 &
+"$root/tests/try.sh" replay <"$root/examples/first.script" >"$room/written" 2>"$room/said"
 status=$?
-cat "$output"
-if [ "$status" = 0 ] && cmp "$output" "$root/examples/first.expected"; then
+cat "$room/written"
+if [ "$status" = 0 ] && cmp "$room/written" "$root/examples/first.expected"; then
+    passed=$((passed + 1))
+else
+    tail -n 5 "$room/said"
+fi
+if wait $!; then
     passed=$((passed + 1))
 fi
-# Its last line is its own count.
-"$root/tests/run_serve.sh" "$program" | sed -u '$d'
-if [ "${PIPESTATUS[0]}" = 0 ]; then
-    passed=$((passed + 1))
-fi
+sed '$d' "$room/served"
 echo "$passed passed, $((2 - passed)) failed"
 [ "$passed" = 2 ]

@@ -1,14 +1,13 @@
 #!/usr/bin/env bash
-# run_serve.sh PROGRAM: starts `llhls serve` on loopback with examples/serve.settings, on two ports that are free in place of the two that stand there, with its record in a folder that is removed;
-# publishes the part of examples/first.script, holds a request for the next part, publishes that, shows what the player got, and stops the
-# server. The playlist is to be the one that `llhls replay` writes for the same events.
+# Starts `llhls serve` on loopback as `rt try` builds it, with examples/serve.settings but on two ports that are free and with its record in a folder that is removed; publishes the part of examples/first.script, holds a request for the next part, publishes that, shows what the player got, which is to be
+# examples/held.expected, and stops the server.
 set -u
 export LC_ALL=C
 root=$(cd "$(dirname "${BASH_SOURCE[0]}")/.." && pwd) || exit 2
-program=$(realpath -- "$1")
 room=$(mktemp -d) || exit 2
 server=
-trap '[ -z "$server" ] || kill "$server" 2>/dev/null; rm -rf "$room"' EXIT
+# (rt and the program that it starts are one group)
+trap '[ -z "$server" ] || kill -- "-$server" 2>/dev/null; rm -rf "$room"' EXIT
 
 fail() {
     echo "$*"
@@ -16,28 +15,32 @@ fail() {
     exit 1
 }
 
-if [ ! -x "$program" ]; then
-    fail "$1 is no program"
-fi
-sed -e 's/^\(listen\|publish\) 127\.0\.0\.1:[0-9]*$/\1 127.0.0.1:0/' -e "s|^record |&$room/|" "$root/examples/serve.settings" >"$room/settings"
-: >"$room/log"
-"$program" serve "$room/settings" 2>>"$room/log" &
+# is_open PORT: whether someone listens there.
+is_open() {
+    (exec 3<>"/dev/tcp/127.0.0.1/$1") 2>/dev/null
+}
+
+# (rt shows what the program says once it has ended, so the ports are chosen here and not by the system)
+port=$((20000 + RANDOM % 10000))
+while is_open "$port" || is_open $((port + 1)); do
+    port=$((port + 2))
+done
+publish_port=$((port + 1))
+sed -e "s/^listen .*/listen 127.0.0.1:$port/" -e "s/^publish .*/publish 127.0.0.1:$publish_port/" -e "s|^record |&$room/|" "$root/examples/serve.settings" >"$room/settings"
+setsid "$root/tests/try.sh" serve "$room/settings" >"$room/log" 2>&1 &
 server=$!
-for ((tries = 0; tries < 200; tries++)); do
-    port=$(sed -n 's/^llhls: players on 127\.0\.0\.1:\([0-9]*\)$/\1/p' "$room/log")
-    publish_port=$(sed -n 's/^llhls: publishers on 127\.0\.0\.1:\([0-9]*\)$/\1/p' "$room/log")
-    if [ -n "$port" ] && [ -n "$publish_port" ]; then
+for ((tries = 0; tries < 3000; tries++)); do
+    if is_open "$port" && is_open "$publish_port"; then
         break
     fi
     kill -0 "$server" 2>/dev/null || break
-    sleep 0.05
+    sleep 0.1
 done
-cat "$room/log"
-if [ -z "$port" ] || [ -z "$publish_port" ]; then
+if ! exec {publisher}<>"/dev/tcp/127.0.0.1/$publish_port" || ! exec {player}<>"/dev/tcp/127.0.0.1/$port"; then
+    tail -n 20 "$room/log"
     fail "it isn't up"
 fi
-exec {publisher}<>"/dev/tcp/127.0.0.1/$publish_port" || fail "no connection for a publisher"
-exec {player}<>"/dev/tcp/127.0.0.1/$port" || fail "no connection for a player"
+echo "players on 127.0.0.1:$port, publishers on 127.0.0.1:$publish_port"
 
 # publish LINE: shows a publisher's line and its answer.
 publish() {
@@ -48,26 +51,20 @@ publish() {
     echo "$answer"
 }
 
-first=$(sed -n 's/^pub //p' "$root/examples/first.script")
-second='cam part hi 1000000 i'
-target='/cam/hi/live.m3u8?_HLS_msn=1&_HLS_part=0'
-publish "$first"
+publish "$(sed -n 's/^pub //p' "$root/examples/first.script")"
+target=$(sed -n 's/^get 1 //p' "$root/examples/held.script")
 echo "player: GET $target"
 printf 'GET %s HTTP/1.1\r\nHost: localhost\r\nConnection: close\r\n\r\n' "$target" >&"$player"
 if read -r -t 0.5 line <&"$player"; then
     fail "it is answered before its part: $line"
 fi
 echo "(it waits)"
-publish "$second"
+publish "$(sed -n 's/^pub //p' "$root/examples/held.script" | tail -n 1)"
 timeout 10 cat <&"$player" | tr -d '\r' | tee "$room/answer"
 
-{ grep '^channel ' "$room/settings"; printf 'pub %s\n' "$first" "$second"; echo "get 1 $target"; } | "$program" replay | sed '1,/^reply /d' >"$room/wanted"
-if [ ! -s "$room/wanted" ] || ! sed '1,/^$/d' "$room/answer" | cmp - "$room/wanted"; then
-    fail "it isn't the playlist of llhls replay"
+# (what follows the answers to the script's lines is the playlist)
+if ! sed '1,/^$/d' "$room/answer" | cmp - <(sed '1,/^reply /d' "$root/examples/held.expected"); then
+    fail "it isn't the playlist of examples/held.expected"
 fi
-kill "$server"
-wait "$server" 2>/dev/null
-status=$?
-server=
-[ "$status" = 143 ] || fail "the server ended with status $status"
+kill -0 "$server" || fail "the server has ended"
 echo "1 passed, 0 failed"

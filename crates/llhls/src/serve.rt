@@ -1,14 +1,13 @@
 //! The server.
 ghost use Rattle.std.specs.Prelude.{◌≡◌, ◌≤◌, length};
 
-use crate::config::{Config, Workers};
 use crate::door::Door;
-use crate::record::Records;
 use ll_command::Fault;
 use ll_hub::{Blanks, Clock, Hub, HubFault, Ledgers, Pass, RoomFault, Sink};
 use ll_item::Settings;
 use ll_link::{Gate, Role, serve_links};
 use ll_record::ReadingFault;
+use ll_server::{Config, ConfigFault, Records, Workers};
 use std::alloc::Global;
 use std::fs::File;
 use std::marker::Brand;
@@ -74,7 +73,11 @@ pub(crate) fn serve<
         + Wait
         + Sync,
 >(rt: &R, alloc: Global, settings: &[u8]) -> Result<(), Fault> {
-    let config = Config::read(alloc, settings)?;
+    let config = match Config::read(alloc, settings) {
+        Ok(config) => config,
+        Err(ConfigFault::BadLine(line)) => return Err(Fault::BadLine(line)),
+        Err(ConfigFault::Memory) => return Err(Fault::Memory),
+    };
     let mut players = Door::open(rt, config.players, Role::Player)?;
     let mut publishers = Door::open(rt, config.publishers, Role::Publisher)?;
     let Ok(start) = Instant::now(rt) else {

@@ -1,6 +1,6 @@
 -- There are no more channels than a server may have, and each line that is read leaves fewer bytes.
 use Rattle.std.specs.Prelude.{◌≤◌, length, vec_len}
-use Rattle.llhls.proofs.config.Lines.channels.Given as goal
+use Rattle.ll_server.proofs.config.Lines.channels.Given as goal
 
 abbrev pub invariant-loop-all : goal.invariant-loop-all
 invariant-loop-all l = vec_len l.all ≤ 1024

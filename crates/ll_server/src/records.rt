@@ -11,7 +11,7 @@ use std::sync::atomic::{AtomicBool, Ordering};
 
 /// Takes the chunks of channels: each goes to the end of its channel's file, or nowhere.
 #[derive(Drop)]
-pub(crate) struct Records<'a, R> {
+pub struct Records<'a, R> {
     rt: &'a R,
     /// The record of each channel, in their order; none, where no records are kept.
     kept: Vec<Record>,
@@ -30,7 +30,7 @@ impl<'a, R: Files<File = File> + Eprint> Records<'a, R> {
     /// The records of these channels. Their files are opened here, and made where they aren't there, so that none is wanting later because
     /// connections have taken all descriptors. Of one that can't be opened standard error is told, and its channel has no record.
     /// Without a path no records are kept. It fails only where no memory is found.
-    pub(crate) fn open(
+    pub fn open(
         rt: &'a R,
         alloc: Global,
         path: Option<&Text>,
@@ -48,7 +48,7 @@ impl<'a, R: Files<File = File> + Eprint> Records<'a, R> {
 
 impl<R> Records<'_, R> {
     /// How many records are kept: one of each channel, or none.
-    pub(crate) fn len(&self) -> usize {
+    pub fn len(&self) -> usize {
         self.kept.len()
     }
 }

@@ -2,11 +2,11 @@
 ghost use Rattle.std.specs.Prelude.{◌≤◌, ◌<◌, IfOk, IsSome, length, vec_len};
 
 use ll_attr::{Text, after, parse_number};
-use ll_command::Fault;
 use ll_item::{Settings, SettingsFault};
 use std::alloc::Global;
 use std::net::SocketAddrV4;
 use std::str;
+use thiserror::Error;
 
 /// The most channels of a server.
 const CHANNELS: usize = 1_024;
@@ -14,35 +14,45 @@ const CHANNELS: usize = 1_024;
 /// The most workers of each role.
 const WORKERS: u64 = 4_096;
 
+/// Why a settings file tells nothing.
+#[derive(Clone, Copy, Debug, Error)]
+pub enum ConfigFault {
+    /// The first line that can't stand in its place, counted from 1; where the file ends too early, it is the line after its last.
+    #[error("BadLine {0}")]
+    BadLine(u64),
+    /// Out of memory.
+    #[error("Memory")]
+    Memory,
+}
+
 /// What a server is told: its lines, in this order.
 #[derive(Drop)]
-pub(crate) struct Config {
+pub struct Config {
     /// `listen ADDRESS:PORT`: where players come.
-    pub(crate) players: SocketAddrV4,
+    pub players: SocketAddrV4,
     /// `publish ADDRESS:PORT`: where publishers come.
-    pub(crate) publishers: SocketAddrV4,
+    pub publishers: SocketAddrV4,
     /// `workers N`.
-    pub(crate) workers: Workers,
+    pub workers: Workers,
     /// `record PATH`, which may be left out: the path that the names of the records' files begin with.
-    pub(crate) record: Option<Text>,
+    pub record: Option<Text>,
     /// One or more settings lines of channels with distinct names.
-    pub(crate) channels: Vec<Settings>,
+    pub channels: Vec<Settings>,
     ghost some_channel: { 1 ≤ vec_len channels },
     ghost few_channels: { vec_len channels ≤ 1024 },
 }
 
 /// How many connections of each role are served at once.
 #[derive(Clone, Copy, Drop)]
-pub(crate) struct Workers {
-    pub(crate) count: usize,
+pub struct Workers {
+    pub count: usize,
     ghost some: { 1 ≤ count },
     ghost few: { count ≤ 4096 },
 }
 
 impl Config {
-    /// What a settings file tells, or its first line that can't stand in its place; where it ends too early, that is the line after
-    /// its last.
-    pub(crate) fn read(alloc: Global, bytes: &[u8]) -> Result<Config, Fault> {
+    /// What a settings file tells, or why it tells nothing.
+    pub fn read(alloc: Global, bytes: &[u8]) -> Result<Config, ConfigFault> {
         let mut lines = Lines {
             rest: bytes,
             number: 0,
@@ -71,7 +81,7 @@ struct Lines<'a> {
 
 impl<'a> Lines<'a> {
     /// The next line, without its end; nothing after the last.
-    fn next(&mut self) -> Result<Option<&'a str>, Fault>
+    fn next(&mut self) -> Result<Option<&'a str>, ConfigFault>
         ensures { IfOk result (λ line. IsSome line → length self.new.rest.now < length self.old.rest.now) }
     {
         self.number = self.number.saturating_add(1);
@@ -92,12 +102,12 @@ impl<'a> Lines<'a> {
     }
 
     /// The line that was read can't stand in its place.
-    fn bad(&self) -> Fault {
-        Fault::BadLine(self.number)
+    fn bad(&self) -> ConfigFault {
+        ConfigFault::BadLine(self.number)
     }
 
     /// What stands after this keyword in the next line, which begins with it.
-    fn value(&mut self, keyword: &str) -> Result<&'a str, Fault> {
+    fn value(&mut self, keyword: &str) -> Result<&'a str, ConfigFault> {
         match self.next()? {
             Some(line) => match after(line, keyword) {
                 Some(value) => Ok(value),
@@ -108,7 +118,7 @@ impl<'a> Lines<'a> {
     }
 
     /// The address in the next line.
-    fn address(&mut self, keyword: &str) -> Result<SocketAddrV4, Fault> {
+    fn address(&mut self, keyword: &str) -> Result<SocketAddrV4, ConfigFault> {
         match self.value(keyword)?.parse::<SocketAddrV4>() {
             Ok(address) => Ok(address),
             Err(_) => Err(self.bad()),
@@ -116,7 +126,7 @@ impl<'a> Lines<'a> {
     }
 
     /// The number of workers in the next line.
-    fn workers(&mut self) -> Result<Workers, Fault> {
+    fn workers(&mut self) -> Result<Workers, ConfigFault> {
         match parse_number(self.value("workers ")?, 20) {
             Some(count) if 1 <= count && count <= WORKERS => Ok(Workers {
                 count: count as usize,
@@ -126,7 +136,7 @@ impl<'a> Lines<'a> {
     }
 
     /// The path in the next line, where that is a `record` line; any other line is left for later.
-    fn record(&mut self, alloc: Global) -> Result<Option<Text>, Fault> {
+    fn record(&mut self, alloc: Global) -> Result<Option<Text>, ConfigFault> {
         if !self.rest.starts_with(b"record ") {
             return Ok(None);
         }
@@ -136,12 +146,12 @@ impl<'a> Lines<'a> {
         }
         match Text::from_str(alloc, path) {
             Ok(path) => Ok(Some(path)),
-            Err(_) => Err(Fault::Memory),
+            Err(_) => Err(ConfigFault::Memory),
         }
     }
 
     /// The channels of all further lines, of which there is at least one.
-    fn channels(&mut self, alloc: Global) -> Result<Vec<Settings>, Fault>
+    fn channels(&mut self, alloc: Global) -> Result<Vec<Settings>, ConfigFault>
         ensures some { IfOk result (λ all. 1 ≤ vec_len all) }
         ensures few { IfOk result (λ all. vec_len all ≤ 1024) }
     {
@@ -152,7 +162,7 @@ impl<'a> Lines<'a> {
                 return Err(self.bad());
             }
             if all.push(settings).is_err() {
-                return Err(Fault::Memory);
+                return Err(ConfigFault::Memory);
             }
         }
         if all.is_empty() {
@@ -162,10 +172,10 @@ impl<'a> Lines<'a> {
     }
 
     /// The channel of a settings line.
-    fn channel(&self, alloc: Global, line: &str) -> Result<Settings, Fault> {
+    fn channel(&self, alloc: Global, line: &str) -> Result<Settings, ConfigFault> {
         match Settings::read(alloc, line) {
             Ok(settings) => Ok(settings),
-            Err(SettingsFault::Memory) => Err(Fault::Memory),
+            Err(SettingsFault::Memory) => Err(ConfigFault::Memory),
             Err(_) => Err(self.bad()),
         }
     }

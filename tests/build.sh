@@ -1,0 +1,41 @@
+#!/usr/bin/env bash
+# Proves the program and every library that it stands on, on all processors, and prints the program's path. Standard error is told each crate that is proved, in a
+# line. What is proved is kept for `make test`: it is proved as `rt ci` proves a repository, in a copy of these crates without their must-fail edits.
+set -euo pipefail
+cd "$(dirname "${BASH_SOURCE[0]}")/.."
+. tests/copy.sh
+copy=$(mktemp -d)
+trap 'rm -rf "$copy"' EXIT
+copy_crates "$copy" llhls
+made=$PWD/crates/llhls/out
+mkdir -p "$made"
+
+# tell WHOLE: a line for each crate that is proved: how many functions it has, how long it took, and how many of how many that are.
+tell() {
+    local crate= functions= count=0 line seconds
+    while IFS= read -r line; do
+        case $line in
+        '== '*) crate=${line#== } ;;
+        'logic=proved functions='*) functions=${line#*functions=} functions=${functions%% *} ;;
+        "rt: $crate proved")
+            count=$((count + 1))
+            # (its folder was made when its proof began)
+            seconds=$(($(date +%s) - $(stat -c %W "crates/$crate/out")))
+            echo "$crate: $functions functions in $seconds s ($count of $1)"
+            ;;
+        'rt: '*' is kept: '*)
+            count=$((count + 1)) line=${line#rt: }
+            echo "${line%% *}: proved before ($count of $1)"
+            ;;
+        *'NOT PROVED'* | 'rt: FAILED'*) echo "$line" ;;
+        esac
+    done
+}
+
+cd "$copy"
+if ! rt ci </dev/null 2>&1 | tee "$made/build.log" | tell "$(wc -l <crates.txt)" >&2; then
+    echo "$made/build.log says why" >&2
+    exit 1
+fi
+mv -f crates/llhls/out/llhls "$made/llhls"
+echo "$made/llhls"

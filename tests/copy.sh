@@ -1,0 +1,27 @@
+# It is sourced at the top of the repository.
+
+# copy_crates FOLDER NAME..: copies these crates and those that they stand on to a folder, as a repository of their own, without what was made of them and without
+# their must-fail edits.
+copy_crates() {
+    local to=$1 crate
+    mkdir -p "$to/crates"
+    cp HANDLES "$to"
+    # crates.txt lists each crate after those that it stands on.
+    awk -F '[: ]+' -v names="${*:2}" '
+        BEGIN { many = split(names, list, " "); for (at = 1; at <= many; at++) wanted[list[at]] = 1 }
+        /^#/ { next }
+        { crate[NR] = $1; line[NR] = $0 }
+        END {
+            for (n = NR; n; n--)
+                if (crate[n] in wanted) {
+                    many = split(line[n], list)
+                    for (at = 2; at <= many; at++) wanted[list[at]] = 1
+                }
+            for (n = 1; n <= NR; n++)
+                if (crate[n] in wanted) print line[n]
+        }' crates.txt >"$to/crates.txt"
+    for crate in $(cut -d: -f1 "$to/crates.txt"); do
+        mkdir "$to/crates/$crate"
+        find "crates/$crate" -mindepth 1 -maxdepth 1 ! -name out ! -name must-fail -exec cp -r {} "$to/crates/$crate" \;
+    done
+}

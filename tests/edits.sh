@@ -1,0 +1,19 @@
+#!/usr/bin/env bash
+# edits.sh [CRATE..]: tries each must-fail edit of these crates, or of all: those of `edits/CRATE`, and those of `crates/CRATE/must-fail`, which `make test` tries too.
+# They are tried as `rt ci` tries them, in a copy of the crates; what is proved and tried is kept for later runs. The last line, `N passed, M failed`, counts crates and edits.
+set -euo pipefail
+cd "$(dirname "${BASH_SOURCE[0]}")/.."
+. tests/copy.sh
+copy=$(mktemp -d)
+trap 'rm -rf "$copy"' EXIT
+if [ $# = 0 ]; then
+    set -- $(printf '%s\n' edits/* crates/*/must-fail | sed 's|^crates/||; s|^edits/||; s|/must-fail$||' | sort -u)
+fi
+copy_crates "$copy" "$@"
+for crate in "$@"; do
+    mkdir "$copy/crates/$crate/must-fail"
+    find "edits/$crate" "crates/$crate/must-fail" -name '*.edit' -exec cp {} "$copy/crates/$crate/must-fail" \; 2>/dev/null || true
+done
+cd "$copy"
+# (an edit's own line tells what it came to)
+rt ci </dev/null 2>&1 | grep --line-buffered -E '\.edit: |NOT PROVED|^rt: |passed, '
