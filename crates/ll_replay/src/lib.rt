@@ -9,4 +9,4 @@ mod stream;
 pub use laws::worked_script;
 pub use ll_publish::Refusal;
 pub use outcome::{RunFault, Summary};
-pub use stream::run;
+pub use stream::{run, run_within};

@@ -1,4 +1,4 @@
-ghost use Rattle.std.specs.Prelude.{◌≡◌, ◌<◌, ◌≤◌, ◌+◌, ◌-◌, ◌^◌, ◌++◌, [], ◌∷◌, ℕ, List, Option, Some, IfOk, IfErr, OnOk, OnErr, IsErrOf, length};
+ghost use Rattle.std.specs.Prelude.{◌≡◌, ◌<◌, ◌≤◌, ◌+◌, ◌-◌, ◌^◌, ◌++◌, [], ◌∷◌, ℕ, List, min, Option, Some, IfOk, IfErr, OnOk, OnErr, IsErrOf, length};
 ghost use Rattle.std.specs.Str.Lines.{strip_carriage_return};
 ghost use Rattle.ll_replay.specs.Cuts.{HasFailed, IsCutAt, IsStopped, StandsFor};
 ghost use Rattle.ll_device.specs.Written.{AppendsPrefix};
@@ -17,7 +17,7 @@ const PIECE: usize = 65_536;
 /// The bytes of the longest line with a CR.
 const ROOM: usize = LONGEST_LINE + 1;
 
-/// A run that was not at the end after so many reads takes its reader for one that has none.
+/// The most reads of a run: one that isn't at the end after them takes its reader for one that has none.
 const MOST_READS: u64 = 1 << 32;
 
 /// A script in the midst of its bytes: what drives its lines, and the bytes since the last LF, with room for the longest line and a CR.
@@ -132,11 +132,12 @@ impl Stream {
     }
 }
 
-/// Reads to the end, and takes each piece; one clause says what each fault means.
+/// Reads to the end, but no more often than this, and takes each piece; one clause says what each fault means.
 fn read_all<R: Reader, W: Writer>(
     stream: &mut Stream,
     reader: &mut R,
     writer: &mut W,
+    reads: u64,
 ) -> Result<Summary, RunFault>
     requires fresh { (base : Option (List ℕ)) → StandsFor stream.old.line.items stream.old.driver base base [] }
     requires lines { stream.old.driver.lines ≡ 0 }
@@ -145,11 +146,11 @@ fn read_all<R: Reader, W: Writer>(
     ensures stopped { IfErr result (IsStopped (R.left reader.old) (R.left reader.new) (W.written writer.old) (W.written writer.new)) }
     ensures steady { OnOk result ((R.failures reader.new ≡ R.failures reader.old) × (W.failures writer.new ≡ W.failures writer.old)) }
     ensures failed { IfErr result (HasFailed (R.failures reader.old < R.failures reader.new) (W.failures writer.old < W.failures writer.new)
-        (R.reads reader.new ≡ R.reads reader.old + 2 ^ 32)) }
-    ensures few_reads { R.reads reader.new ≤ R.reads reader.old + 2 ^ 32 }
+        (R.reads reader.new ≡ R.reads reader.old + min reads (2 ^ 32))) }
+    ensures few_reads { R.reads reader.new ≤ R.reads reader.old + min reads (2 ^ 32) }
 {
     let mut piece = [0u8; PIECE];
-    for _ in 0..MOST_READS {
+    for _ in 0..reads.min(MOST_READS) {
         let count = match reader.read(&mut piece) {
             Ok(count) => count,
             Err(_) => return Err(RunFault::Read),
@@ -189,8 +190,40 @@ pub fn run<R: Reader, W: Writer>(
     ensures few_reads { R.reads reader.new ≤ R.reads reader.old + 2 ^ 32 }
     ensures endless { IsErrOf result RunFault.Endless → R.reads reader.new ≡ R.reads reader.old + 2 ^ 32 }
 {
+    run_within(alloc, reader, writer, MOST_READS)
+}
+
+/// Runs the script that the reader gives, and writes what it says to the writer, as [`run`] does, but answers Endless after so many reads;
+/// more than 2^32 count as 2^32.
+pub fn run_within<R: Reader, W: Writer>(
+    alloc: Global,
+    reader: &mut R,
+    writer: &mut W,
+    reads: u64,
+) -> Result<Summary, RunFault>
+    ensures whole { (input : List ℕ) → R.left reader.old ≡ Some input → IfOk result (IsWhole (W.written writer.old) (W.written writer.new) input) }
+    ensures bad_line { (input : List ℕ) (n : ℕ) → R.left reader.old ≡ Some input → IsErrOf result (RunFault.BadLine n)
+        → EndsBy (script.BadLine n) (W.written writer.old) (W.written writer.new) input }
+    ensures too_long { (input : List ℕ) (n : ℕ) → R.left reader.old ≡ Some input → IsErrOf result (RunFault.LineTooLong n)
+        → EndsBy (script.LineTooLong n) (W.written writer.old) (W.written writer.new) input }
+    ensures cut_by_write { (input : List ℕ) → R.left reader.old ≡ Some input → IsErrOf result RunFault.Write
+        → AppendsPrefix (W.written writer.old) (W.written writer.new) (script input) }
+    ensures cut_by_memory { (input : List ℕ) → R.left reader.old ≡ Some input → IsErrOf result RunFault.Memory
+        → AppendsPrefix (W.written writer.old) (W.written writer.new) (script input) }
+    ensures memory_last { (input : List ℕ) → R.left reader.old ≡ Some input → IsErrOf result RunFault.Memory
+        → StopsForMemory (W.written writer.old) (W.written writer.new) input }
+    ensures stopped_by_read { IsErrOf result RunFault.Read
+        → StopsAfter (R.left reader.old) (R.left reader.new) (W.written writer.old) (W.written writer.new) }
+    ensures stopped_by_endless { IsErrOf result RunFault.Endless
+        → StopsAfter (R.left reader.old) (R.left reader.new) (W.written writer.old) (W.written writer.new) }
+    ensures steady { OnOk result ((R.failures reader.new ≡ R.failures reader.old) × (W.failures writer.new ≡ W.failures writer.old)) }
+    ensures read_failed { IsErrOf result RunFault.Read → R.failures reader.old < R.failures reader.new }
+    ensures write_failed { IsErrOf result RunFault.Write → W.failures writer.old < W.failures writer.new }
+    ensures few_reads { R.reads reader.new ≤ R.reads reader.old + min reads (2 ^ 32) }
+    ensures endless { IsErrOf result RunFault.Endless → R.reads reader.new ≡ R.reads reader.old + min reads (2 ^ 32) }
+{
     let mut stream = Stream::new(alloc);
-    let outcome = read_all(&mut stream, reader, writer);
+    let outcome = read_all(&mut stream, reader, writer, reads);
     stream.close();
     outcome
 }

@@ -2,7 +2,7 @@
 ghost use Rattle.std.specs.Prelude.{◌≡◌, Some};
 
 use ll_device::{Failed, Reader, Uses, Writer};
-use ll_replay::{Refusal, RunFault, Summary, run};
+use ll_replay::{Refusal, RunFault, Summary, run, run_within};
 use std::alloc::{AllocError, Global};
 use std::marker::Brand;
 use std::sync::ledger::{Blank, Ledger};
@@ -116,11 +116,13 @@ struct Device {
     times: usize,
 }
 
+/// Runs a script, within so many reads where that is said.
 fn run_by<L: Ledger, M: Ledger>(
     alloc: Global,
     script: &[u8],
     from: Device,
     to: Device,
+    most: Option<u64>,
     reads: Blank,
     writes: Blank,
 ) -> Ran
@@ -143,7 +145,10 @@ fn run_by<L: Ledger, M: Ledger>(
         writes: to.times,
         uses: Uses::new(writes),
     };
-    let result = run(alloc, &mut source, &mut sink);
+    let result = match most {
+        Some(most) => run_within(alloc, &mut source, &mut sink, most),
+        None => run(alloc, &mut source, &mut sink),
+    };
     Ran {
         result,
         text: sink.text,
@@ -151,7 +156,7 @@ fn run_by<L: Ledger, M: Ledger>(
 }
 
 fn run_with(alloc: Global, script: &[u8], from: Device, to: Device) -> Ran {
-    run_by::<Brand, Brand>(alloc, script, from, to, Blank::new(2), Blank::new(2))
+    run_by::<Brand, Brand>(alloc, script, from, to, None, Blank::new(2), Blank::new(2))
 }
 
 /// The channel's line and these lines after it.
@@ -228,6 +233,35 @@ fn failed_writes_stop_a_run(rt: HostRuntime) -> Result<(), AllocError> {
         }
     }
     Ok(())
+}
+
+/// A script of ten empty lines that is read a byte at a time is at its end with the eleventh read; a reader that gives no end is left.
+#[test]
+fn reads_are_counted(rt: HostRuntime) {
+    let from = Device { step: 1, times: 20 };
+    let ended = Summary {
+        events: 0,
+        replies: 0,
+    };
+    for (most, result) in [
+        (0, Err(RunFault::Endless)),
+        (1, Err(RunFault::Endless)),
+        (10, Err(RunFault::Endless)),
+        (11, Ok(ended)),
+        (u64::MAX, Ok(ended)),
+    ] {
+        let blanks = (Blank::new(2), Blank::new(2));
+        let ran = run_by::<Brand, Brand>(
+            rt.alloc(),
+            b"\n\n\n\n\n\n\n\n\n\n",
+            from,
+            WHOLE,
+            Some(most),
+            blanks.0,
+            blanks.1,
+        );
+        assert_eq!(rt; ran.result, result, "{most} reads");
+    }
 }
 
 #[test]

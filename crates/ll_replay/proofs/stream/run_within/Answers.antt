@@ -1,7 +1,7 @@
 -- Each fault has a clause of its own, of which one clause of the reading loop tells.
 use Rattle.std.proofs.lemmas.Result.{IfErr-at_err, IfOk-weaker}
 use Rattle.ll_replay.proofs.StreamLemmas.{StopsForMemory-prefix}
-use Rattle.ll_replay.proofs.stream.run.Goals as goal
+use Rattle.ll_replay.proofs.stream.run_within.Goals as goal
 
 pub returns-clause-whole : goal.returns-clause-whole
 returns-clause-whole g c input i = IfOk-weaker c.read_all-outcome.result _ _ (λ summary h. h input i) c.read_all-outcome.ensures.whole
