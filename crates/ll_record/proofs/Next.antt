@@ -1,6 +1,6 @@
 -- One more event with its line: the record is that of the events with it.
-use Rattle.std.proofs.Common.{◌≡◌, ℕ, ◌+◌, ◌*◌, ◌≤◌, List, [], ◌∷◌, ◌++◌, None, true, refl, ap, ◌∙◌, sym, subst, length, take, drop, filter, arith}
-use Rattle.std.proofs.lemmas.List.{drop-append-le, length-append, take-append-le}
+use Rattle.std.proofs.Common.{◌≡◌, ℕ, ◌+◌, ◌*◌, ◌≤◌, List, [], ◌∷◌, ◌++◌, Some, None, true, refl, ap, ap₂, ◌∙◌, sym, subst, length, map, take, drop, filter, suc, arith}
+use Rattle.std.proofs.lemmas.List.{drop-append-le, drop_all, flat_map_more, length-append, map-append, take-append-le, take_all}
 use Rattle.std.proofs.lemmas.List.Elements.{filter-append}
 use Rattle.std.specs.Str.{is_utf8}
 use Rattle.ll_check.specs.Entered.{event_of, fault_in}
@@ -10,13 +10,16 @@ use Rattle.ll_entry.specs.Lines.{IsSpelled, entry_line}
 use Rattle.ll_entry.specs.declared.entry.Recorded.{Recorded}
 use Rattle.ll_item.specs.Settings.{Configuration, limit_broken}
 use Rattle.ll_record_laws.proofs.LeadLemmas.{entry-next}
+use Rattle.ll_record_laws.proofs.ToldLemmas.{right-told}
 use Rattle.ll_record_laws.specs.Leads.{IsLed, with_end}
+use Rattle.ll_record_laws.specs.Told.{entry_of}
 use Rattle.ll_room.specs.Home.{Home, IsSame, Stands, home}
 use Rattle.ll_spelling.proofs.ItemBack.{item_back}
-use Rattle.ll_verdict.specs.Events.{Event}
+use Rattle.ll_verdict.proofs.StepLemmas.{at, steps-snoc}
+use Rattle.ll_verdict.specs.Events.{Event, Step, steps, steps_from}
 use Rattle.ll_verdict.specs.State.{state_of}
 use Rattle.ll_record.specs.Kept.{spare}
-use Rattle.ll_record.specs.Recording.{IsRecorded, Recording, is_call}
+use Rattle.ll_record.specs.Recording.{AreSpelled, IsRecorded, Recording, is_call}
 
 entries : EntryLaw
 entries c entry within spelled = read_again item_back c entry within spelled
@@ -33,6 +36,25 @@ called at events e early =
 
 longer : (at n m : ℕ) → at ≤ n → m ≡ n + 1 → at ≤ m
 longer at n m a e = omega (arith, a, e)
+
+-- ---- its entry
+
+steps_many : (before events : List Event) → length (steps_from before events) ≡ length events
+steps_many before [] = refl
+steps_many before (e ∷ events) = ap suc (steps_many (before ++ e ∷ []) events)
+
+happened : (at_end : ℕ) (events : List Event) (e : Event) → at_end ≤ length events
+    → drop at_end (steps (events ++ e ∷ [])) ≡ drop at_end (steps events) ++ at events e ∷ []
+happened n events e early =
+    ap (drop n) (steps-snoc events e) ∙ drop-append-le n (steps events) (at events e ∷ []) (subst (λ k. n ≤ k) (sym (steps_many [] events)) early)
+
+spelled_next : (c : Configuration) (before : List Step) (s : Step) (lines : List ℕ) (entry : Recorded) → entry_of c s ≡ Some entry → AreSpelled c before lines
+    → AreSpelled c (before ++ s ∷ []) (lines ++ with_end (entry_line c entry))
+spelled_next c before s lines entry is x = record {
+  entries = x.entries ++ entry ∷ [];
+  told = map-append (entry_of c) before (s ∷ []) ∙ ap₂ (λ os o. os ++ o ∷ []) x.told is ∙ sym (map-append Some x.entries (entry ∷ []));
+  lines = ap (λ t. t ++ with_end (entry_line c entry)) x.lines ∙ flat_map_more (λ e. with_end (entry_line c e)) [] x.entries entry;
+}
 
 -- how a recording changes with an entry
 pub record IsNext (old new : Recording) (entry : Recorded) : Type 0 where
@@ -57,6 +79,13 @@ recorded-next old new events entry within r spelled utf8 right stands n =
           subst (λ (c : Configuration). IsLed c (take new.at more) new.lines more) (sym n.room.settings)
           (subst (λ es. IsLed old.room.settings es new.lines more) (sym begin)
           (subst (λ text. IsLed old.room.settings (take old.at events) text more) (sym n.lines) led));
+      spelled =
+          subst (λ (c : Configuration). AreSpelled c (drop new.at (steps more)) new.lines) (sym n.room.settings)
+          (subst (λ ss. AreSpelled old.room.settings ss new.lines)
+          (sym (ap (λ k. drop k (steps more)) n.at ∙ happened old.at events (event_of entry) r.early))
+          (subst (λ text. AreSpelled old.room.settings (drop old.at (steps events) ++ at events (event_of entry) ∷ []) text) (sym n.lines)
+          (spelled_next old.room.settings (drop old.at (steps events)) (at events (event_of entry)) old.lines entry
+          (right-told old.room.settings events entry right) r.spelled)));
       calls =
           n.calls ∙ ap (λ k. k + length (filter is_call (event_of entry ∷ []))) r.calls
           ∙ sym (called old.at events (event_of entry) r.early) ∙ ap (λ k. length (filter is_call (drop k more))) (sym n.at);
@@ -77,7 +106,24 @@ pub recorded-new : (h : Home) (channel : ℕ) (c : Configuration) (lines : List 
 recorded-new h channel c lines e none =
     subst (λ (x : Home). IsRecorded (record { room = x; at = 0; lines = lines; calls = 0 }) []) (sym e)
     (subst (λ text. IsRecorded (record { room = home channel c (state_of c []); at = 0; lines = text; calls = 0 }) []) (sym none)
-    (record { stands = refl; early = omega arith; led = nothing c []; calls = refl }))
+    (record { stands = refl; early = omega arith; led = nothing c []; calls = refl; spelled = record { entries = []; told = refl; lines = refl } }))
+
+-- the record begins anew: nothing is told of what happened before
+pub recorded-anew : (r : Recording) (n : ℕ) (lines : List ℕ) (events : List Event) → n ≡ r.room.events → lines ≡ [] → IsRecorded r events
+    → IsRecorded (record { room = r.room; at = n; lines = lines; calls = 0 }) events
+recorded-anew r n lines events all none s =
+    let c = r.room.settings in
+    let is : n ≡ length events = all ∙ ap (λ (h : Home). h.events) s.stands in
+    let none_since : drop n (steps events) ≡ [] = drop_all n (steps events) (omega (arith, is, steps_many [] events)) in
+    record {
+      stands = s.stands;
+      early = omega (arith, is);
+      led =
+          subst (λ text. IsLed c (take n events) text events) (sym none)
+          (subst (λ es. IsLed c es [] events) (sym (take_all n events (omega (arith, is)))) (nothing c events));
+      calls = ap (λ es. length (filter is_call es)) (sym (drop_all n events (omega (arith, is))));
+      spelled = record { entries = []; told = ap (map (entry_of c)) none_since; lines = none };
+    }
 
 pub none-open : (h : Home) (channel : ℕ) (c : Configuration) (free : ℕ) → h ≡ home channel c (state_of c []) → spare * length h.slots ≤ free
 none-open h channel c free e = let n : length h.slots ≡ 0 = ap (λ (x : Home). length x.slots) e in omega (arith, n)

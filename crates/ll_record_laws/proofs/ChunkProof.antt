@@ -58,7 +58,7 @@ at_one : (n : ℕ) → n ≤ most → is_one_line (at_line n) ≡ true
 at_one n small = (number-laws most word).inside n small
 
 -- whether a byte is ASCII
-abbrev is_low : ℕ → Bool
+abbrev pub is_low : ℕ → Bool
 is_low b = nat_lt b 128
 
 low : (b : ℕ) → is_low b ≡ true → b < 128
@@ -75,8 +75,11 @@ ascii text h = IsAscii-from_all text (All-from_recursion (λ b. b < 128) text (a
 ascii_text : (text : List ℕ) → IsAscii text → is_utf8 text ≡ true
 ascii_text text h = is_utf8-from_IsUtf8 text (IsUtf8-from_ascii text h)
 
+pub plain : (text : List ℕ) → list_all is_low text ≡ true → is_utf8 text ≡ true
+plain text h = ascii_text text (ascii text h)
+
 first_utf8 : is_utf8 first_line ≡ true
-first_utf8 = ascii_text first_line (ascii first_line refl)
+first_utf8 = plain first_line refl
 
 at_utf8 : (n : ℕ) → n ≤ most → is_utf8 (at_line n) ≡ true
 at_utf8 n small = ascii_text (at_line n) (IsAscii-append (codes "at ") (decimal n) (ascii (codes "at ") refl) (IsAscii-decimal n (omega arith)))
