@@ -1,6 +1,8 @@
 -- The entry of each event of a channel, over the list of all its events: what a record tells of it.
-use Rattle.std.specs.Prelude.{◌≡◌, ℕ, ◌+◌, ◌^◌, ◌==◌, ◌&&◌, List, Option, Some, None, find, is_none, is_some, length, map, nat_le, option_and_then, option_map, if◌then◌else◌}
+use Rattle.std.specs.Prelude.{ℕ, ◌+◌, ◌^◌, ◌==◌, ◌&&◌, List, [], Bool, Option, Some, None, find, is_none, is_some, length, nat_le, option_and_then, option_map, if◌then◌else◌}
 use Rattle.std.specs.List.{list_any}
+use Rattle.std.specs.Option.{option_map_or}
+use Rattle.ll_entry.specs.Lines.{entry_line}
 use Rattle.ll_entry.specs.declared.entry.Recorded.{Recorded}
 use Rattle.ll_entry.specs.declared.entry.Recorded.TheVariants as recorded
 use Rattle.ll_item.specs.Settings.{Configuration}
@@ -11,6 +13,7 @@ use Rattle.ll_verdict.specs.State.{open_requests}
 use Rattle.ll_verdict.specs.Verdict.{Request, at_once, held, reply, reply_of}
 use Rattle.ll_verdict.specs.declared.reply.Outcome.{Outcome}
 use Rattle.ll_verdict.specs.declared.reply.Settled.{Settled}
+use Rattle.ll_record_laws.specs.Leads.{with_end}
 
 -- the open request of this number, where it has its reply
 abbrev pub replied : Configuration → List Event → ℕ → Option Request
@@ -33,9 +36,13 @@ entry_after c before (Clock ms) = if is_full (length before) then None else if n
 entry_after c before (Collect ask) = option_map (recorded.Collect ask) (outcome_of_reply c before ask)
 entry_after c before (Close ask) = if list_any (λ r. r.ticket == ask) (open_requests c before) then Some (recorded.Close ask) else None
 
+-- the entry of an event after those before it
 abbrev pub entry_of : Configuration → Step → Option Recorded
 entry_of c s = entry_after c s.before s.event
 
--- these entries are those of these events, one of each, in order
-abbrev pub AreTold : Configuration → List Step → List Recorded → Type 0
-AreTold c happened entries = map (entry_of c) happened ≡ map Some entries
+abbrev pub can_happen : Configuration → Step → Bool
+can_happen c s = is_some (entry_of c s)
+
+-- the line of an event, just as its entry is spelled, with its end
+abbrev pub line_of : Configuration → Step → List ℕ
+line_of c s = option_map_or (λ entry. with_end (entry_line c entry)) (entry_of c s) []
