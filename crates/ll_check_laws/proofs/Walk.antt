@@ -163,10 +163,10 @@ entry_by d before more line false utf8 h = cc
 
 -- ---- from the last line to the first
 
-abbrev IsText : List ℕ → Type 0
+abbrev pub IsText : List ℕ → Type 0
 IsText line = is_utf8 line ≡ true
 
-abbrev Names : Configuration → Chunk → Type 0
+abbrev pub Names : Configuration → Chunk → Type 0
 Names c k = settings_in k.settings ≡ Ok c
 
 none_known : (c : Configuration) (known : Option Configuration) → known ≡ Some c → IsOf c known
@@ -195,7 +195,7 @@ at_end c ch end rest true e h is =
     }
 at_end c ch end rest false e h is = cc
 
-none_more : (n : ℕ) → n ≡ n + 0
+pub none_more : (n : ℕ) → n ≡ n + 0
 none_more n = omega arith
 
 -- the last line of a chunk
@@ -217,7 +217,7 @@ last-of c d known before after line lines is e x =
       all = x.all;
     }
 
-one_longer : (before : List Event) (e : Event) (line : List ℕ) (own : List (List ℕ)) → length (before ++ e ∷ []) + length own ≡ length before + length (line ∷ own)
+pub one_longer : (before : List Event) (e : Event) (line : List ℕ) (own : List (List ℕ)) → length (before ++ e ∷ []) + length own ≡ length before + length (line ∷ own)
 one_longer before e line own = omega (arith, length-append before (e ∷ []))
 
 -- the line of an entry

@@ -5,6 +5,7 @@ use Rattle.std.specs.Str.{is_utf8}
 use Rattle.ll_attr.specs.Words.{pieces_at}
 use Rattle.ll_check.specs.Chain.{checked}
 use Rattle.ll_entry.specs.Entries.{entry_in}
+use Rattle.ll_entry.specs.Replies.{most}
 use Rattle.ll_entry.specs.declared.entry.Recorded.{Recorded}
 use Rattle.ll_item.specs.Settings.{Configuration, settings_in}
 use Rattle.ll_record_laws.specs.Told.{entry_of}
@@ -41,6 +42,10 @@ pub record IsRecord (text : List ℕ) (n : ℕ) : Type 0 where
   pub told : map (entry_of settings) (steps events) ≡ map Some entries
   pub many : length events ≡ n
 
--- a text that is found right is the record of some events of some channel
+-- a text that is found right is the record of so many events of some channel
 abbrev pub RecordLaw : Type 0
 RecordLaw = (text : List ℕ) (n : ℕ) → checked text ≡ Ok n → IsRecord text n
+
+-- every record is found right, as long as its numbers are below 2^64
+abbrev pub RightLaw : Type 0
+RightLaw = (text : List ℕ) (n : ℕ) → IsRecord text n → n ≤ most → checked text ≡ Ok n

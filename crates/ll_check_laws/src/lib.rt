@@ -2,7 +2,7 @@
 //! Each is proved once, as the contract of an empty function; none of these does anything.
 #![tactic(auto)]
 
-ghost use Rattle.ll_check_laws.specs.Records.{RecordLaw};
+ghost use Rattle.ll_check_laws.specs.Records.{RecordLaw, RightLaw};
 
 /// A text that `ll_check::check` finds right is a record: there is a list of events of one channel such that each of the text's entries, in
 /// order, is the one of its event. Each item was accepted by every rule; each request tells the verdict that it gets at once over the
@@ -10,4 +10,10 @@ ghost use Rattle.ll_check_laws.specs.Records.{RecordLaw};
 /// given up was open.
 pub fn record_law()
     ensures { RecordLaw }
+{}
+
+/// Every such record, of fewer than 2^64 events, is found right: so `ll_check::check` answers how many entries a text has exactly where it is
+/// the record of so many events.
+pub fn right_law()
+    ensures { RightLaw }
 {}

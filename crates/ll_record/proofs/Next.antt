@@ -1,5 +1,5 @@
 -- One more event with its line: the record is that of the events with it.
-use Rattle.std.proofs.Common.{◌≡◌, ℕ, ◌+◌, ◌*◌, ◌≤◌, List, [], ◌∷◌, ◌++◌, ◌&&◌, Some, None, true, is_some, refl, ap, ap₂, ◌∙◌, sym, subst, length, take, drop, filter, suc, arith}
+use Rattle.std.proofs.Common.{◌≡◌, ℕ, ◌+◌, ◌*◌, ◌≤◌, List, [], ◌∷◌, ◌++◌, ◌&&◌, Some, None, true, is_some, refl, ap, ap₂, ◌∙◌, sym, subst, length, take, drop, filter, arith}
 use Rattle.std.proofs.lemmas.List.{drop-append-le, drop_all, flat_map_more, length-append, take-append-le, take_all}
 use Rattle.std.proofs.lemmas.List.Elements.{filter-append}
 use Rattle.std.proofs.lemmas.List.Folds.{list_all-append}
@@ -13,13 +13,13 @@ use Rattle.ll_entry.specs.Lines.{IsSpelled, entry_line}
 use Rattle.ll_entry.specs.declared.entry.Recorded.{Recorded}
 use Rattle.ll_item.specs.Settings.{Configuration, limit_broken}
 use Rattle.ll_record_laws.proofs.LeadLemmas.{entry-next}
-use Rattle.ll_record_laws.proofs.ToldLemmas.{right-told}
+use Rattle.ll_record_laws.proofs.ToldLemmas.{right-told, steps-many}
 use Rattle.ll_record_laws.specs.Leads.{IsLed, with_end}
 use Rattle.ll_record_laws.specs.Told.{can_happen, entry_of, line_of}
 use Rattle.ll_room.specs.Home.{Home, IsSame, Stands, home}
 use Rattle.ll_spelling.proofs.ItemBack.{item_back}
 use Rattle.ll_verdict.proofs.StepLemmas.{at, steps-snoc}
-use Rattle.ll_verdict.specs.Events.{Event, Step, steps, steps_from}
+use Rattle.ll_verdict.specs.Events.{Event, Step, steps}
 use Rattle.ll_verdict.specs.State.{state_of}
 use Rattle.ll_record.specs.Kept.{spare}
 use Rattle.ll_record.specs.Recording.{IsRecorded, Recording, is_call}
@@ -42,14 +42,10 @@ longer at n m a e = omega (arith, a, e)
 
 -- ---- its entry
 
-steps_many : (before events : List Event) → length (steps_from before events) ≡ length events
-steps_many before [] = refl
-steps_many before (e ∷ events) = ap suc (steps_many (before ++ e ∷ []) events)
-
 happened : (at_end : ℕ) (events : List Event) (e : Event) → at_end ≤ length events
     → drop at_end (steps (events ++ e ∷ [])) ≡ drop at_end (steps events) ++ at events e ∷ []
 happened n events e early =
-    ap (drop n) (steps-snoc events e) ∙ drop-append-le n (steps events) (at events e ∷ []) (subst (λ k. n ≤ k) (sym (steps_many [] events)) early)
+    ap (drop n) (steps-snoc events e) ∙ drop-append-le n (steps events) (at events e ∷ []) (subst (λ k. n ≤ k) (sym (steps-many [] events)) early)
 
 line_is : (c : Configuration) (s : Step) (entry : Recorded) → entry_of c s ≡ Some entry → line_of c s ≡ with_end (entry_line c entry)
 line_is c s entry is = ap (λ o. option_map_or (λ e. with_end (entry_line c e)) o []) is
@@ -123,7 +119,7 @@ pub recorded-anew : (r : Recording) (n : ℕ) (lines : List ℕ) (events : List 
 recorded-anew r n lines events all none s =
     let c = r.room.settings in
     let is : n ≡ length events = all ∙ ap (λ (h : Home). h.events) s.stands in
-    let none_since : drop n (steps events) ≡ [] = drop_all n (steps events) (omega (arith, is, steps_many [] events)) in
+    let none_since : drop n (steps events) ≡ [] = drop_all n (steps events) (omega (arith, is, steps-many [] events)) in
     record {
       stands = s.stands;
       early = omega (arith, is);

@@ -1,5 +1,5 @@
 -- An entry in which nothing is wrong after some events is the one of its event; and in the entry of an event nothing is wrong.
-use Rattle.std.proofs.Common.{◌≡◌, ℕ, ◌+◌, ◌^◌, ◌==◌, ◌&&◌, ◌||◌, List, [], ◌∷◌, Bool, true, false, not, cond, Option, Some, None, is_none, is_some, refl, ap, ◌∙◌, sym, length, map, find, nat_le, option_and_then, option_map, subst, arith}
+use Rattle.std.proofs.Common.{◌≡◌, ℕ, ◌+◌, ◌^◌, ◌==◌, ◌&&◌, ◌||◌, List, [], ◌∷◌, ◌++◌, Bool, true, false, not, cond, Option, Some, None, is_none, is_some, refl, ap, ◌∙◌, sym, length, map, find, nat_le, option_and_then, option_map, subst, suc, arith}
 use Rattle.std.proofs.lemmas.Bool.{and_parts, not-true}
 use Rattle.std.proofs.lemmas.Bool.Decides.{nat_tests}
 use Rattle.std.specs.List.{list_any}
@@ -11,7 +11,7 @@ use Rattle.ll_entry.specs.declared.entry.Recorded.TheVariants as recorded
 use Rattle.ll_item.specs.Settings.{Configuration}
 use Rattle.ll_room.proofs.SettleLemmas.{open-ready}
 use Rattle.ll_room.specs.Full.{is_full, refusal_after}
-use Rattle.ll_verdict.specs.Events.{Event, Publish, Ask, Collect, Close, Clock, asks}
+use Rattle.ll_verdict.specs.Events.{Event, Publish, Ask, Collect, Close, Clock, asks, steps_from}
 use Rattle.ll_verdict.specs.Outcome.{outcome_of}
 use Rattle.ll_verdict.specs.State.{open_requests, slot_of, state_of}
 use Rattle.ll_verdict.specs.Verdict.{Request, at_once, held, reply, reply_of}
@@ -128,6 +128,10 @@ open-is : (c : Configuration) (before : List Event) (ask : ℕ) → is_open_afte
 open-is c before ask = any-map (slot_of c before) (has_ticket ask) (open_requests c before)
 
 -- ---- the whole
+
+pub steps-many : (before events : List Event) → length (steps_from before events) ≡ length events
+steps-many before [] = refl
+steps-many before (e ∷ events) = ap suc (steps-many (before ++ e ∷ []) events)
 
 pub right-told : (c : Configuration) (before : List Event) (entry : Recorded) → fault_in c before entry ≡ None → entry_after c before (event_of entry) ≡ Some entry
 right-told c before (recorded.Publish item) h = free (refusal_after c before item) (Some (recorded.Publish item)) h
