@@ -3,7 +3,7 @@ use Rattle.std.proofs.Common.{◌≡◌, ℕ, ◌+◌, ◌≤◌, ◌^◌, ◌==
 use Rattle.std.proofs.lemmas.Bool.Decides.{nat_tests}
 use Rattle.std.specs.List.{list_any}
 use Rattle.ll_book.specs.Waiting.{has_ticket, reply_at}
-use Rattle.ll_check.specs.Entered.{fault_in, is_open_after, same_answer, same_outcome, settled_after, unless_refused, where_it_can}
+use Rattle.ll_check.specs.Entered.{fault_in, is_open_after, same_answer, settled_after, unless_refused}
 use Rattle.ll_directive.specs.Targets.{WantValue}
 use Rattle.ll_entry.specs.declared.entry.Recorded.TheVariants as recorded
 use Rattle.ll_item.specs.Settings.{Configuration}
@@ -22,27 +22,10 @@ use Rattle.ll_verdict.specs.Outcome.{outcome_of}
 use Rattle.ll_verdict.specs.State.{state_of}
 use Rattle.ll_verdict.specs.Verdict.{at_once, held, reply_of}
 use Rattle.ll_verdict.specs.declared.reply.Outcome.{Outcome}
-use Rattle.ll_verdict.specs.declared.reply.Outcome.TheVariants.{Text, NotFound, TooFar, Busy, Timeout}
 use Rattle.ll_verdict.specs.declared.reply.Reply.{Reply}
 use Rattle.ll_verdict.specs.declared.reply.Settled.{Settled}
+use Rattle.ll_record_laws.proofs.ToldLemmas.{own, right, same-answer}
 use Rattle.ll_record.specs.Recording.{of_channel}
-
-right : (can same : Bool) → can ≡ true → same ≡ true → where_it_can can same ≡ None
-right can same a b = ap (λ x. where_it_can x same) a ∙ ap (λ x. where_it_can true x) b
-
-own : (n : ℕ) → (n == n) ≡ true
-own n = grind (arith, nat_tests)
-
-same-outcome : (o : Outcome) → same_outcome o o ≡ true
-same-outcome (Text n) = own n
-same-outcome NotFound = refl
-same-outcome TooFar = refl
-same-outcome Busy = refl
-same-outcome Timeout = refl
-
-same-answer : (o : Option Outcome) → same_answer o o ≡ true
-same-answer None = refl
-same-answer (Some o) = same-outcome o
 
 its_asks : (h : Home) (events : List Event) → Stands h events → h.asks ≡ asks events
 its_asks h events st = ap (λ (x : Home). x.asks) st

@@ -1,13 +1,15 @@
 -- A channel whose events are recorded, since its record was last handed out.
 use Rattle.std.specs.Prelude.{◌≡◌, ◌≤◌, ℕ, List, Bool, true, false, Option, length, take, drop, filter, nat_le}
+use Rattle.std.specs.List.{flat_map, list_all}
 use Rattle.ll_directive.specs.Targets.{WantValue}
 use Rattle.ll_item.specs.Settings.{Configuration}
 use Rattle.ll_item.specs.declared.item.Item.{Item}
 use Rattle.ll_record_laws.specs.Leads.{IsLed}
+use Rattle.ll_record_laws.specs.Told.{can_happen, line_of}
 use Rattle.ll_room.specs.Full.{full_by, refusal_after}
 use Rattle.ll_room.specs.Home.{Home, IsSame, Stands}
 use Rattle.ll_verdict.specs.Accepted.{first_refusal}
-use Rattle.ll_verdict.specs.Events.{Event, Publish, Ask, Collect, Close, Clock}
+use Rattle.ll_verdict.specs.Events.{Event, Publish, Ask, Collect, Close, Clock, steps}
 use Rattle.ll_verdict.specs.declared.fault.PublishFault.{PublishFault}
 
 pub record Recording : Type 0 where
@@ -31,12 +33,15 @@ is_call (Clock ms) = true
 is_call (Collect ask) = false
 is_call (Close ask) = false
 
--- the recorded channel has had these events: a check of the record's lines goes on from the events before them to all of these
+-- The recorded channel has had these events: a check of the record's lines goes on from the events before them to all of these, and
+-- these lines are no other than those of the events since then, of which each can happen after those before it.
 pub record IsRecorded (r : Recording) (events : List Event) : Type 0 where
   pub stands : Stands r.room events
   pub early : r.at ≤ length events
   pub led : IsLed r.room.settings (take r.at events) r.lines events
   pub calls : r.calls ≡ length (filter is_call (drop r.at events))
+  pub told : list_all (can_happen r.room.settings) (drop r.at (steps events)) ≡ true
+  pub spelled : r.lines ≡ flat_map (line_of r.room.settings) (drop r.at (steps events))
 
 -- whether the record holds as much as a record holds
 abbrev pub is_record_full : Recording → Bool

@@ -27,10 +27,10 @@ use Rattle.ll_record_laws.proofs.LeadLemmas.{cut-line, one-line}
 
 -- ---- its lines
 
-abbrev first_line : List ℕ
+abbrev pub first_line : List ℕ
 first_line = codes "#LLHLS-CHUNK 1"
 
-abbrev at_line : ℕ → List ℕ
+abbrev pub at_line : ℕ → List ℕ
 at_line n = codes "at " ++ decimal n
 
 abbrev last_line : List ℕ
@@ -58,7 +58,7 @@ at_one : (n : ℕ) → n ≤ most → is_one_line (at_line n) ≡ true
 at_one n small = (number-laws most word).inside n small
 
 -- whether a byte is ASCII
-abbrev is_low : ℕ → Bool
+abbrev pub is_low : ℕ → Bool
 is_low b = nat_lt b 128
 
 low : (b : ℕ) → is_low b ≡ true → b < 128
@@ -75,8 +75,11 @@ ascii text h = IsAscii-from_all text (All-from_recursion (λ b. b < 128) text (a
 ascii_text : (text : List ℕ) → IsAscii text → is_utf8 text ≡ true
 ascii_text text h = is_utf8-from_IsUtf8 text (IsUtf8-from_ascii text h)
 
+pub plain : (text : List ℕ) → list_all is_low text ≡ true → is_utf8 text ≡ true
+plain text h = ascii_text text (ascii text h)
+
 first_utf8 : is_utf8 first_line ≡ true
-first_utf8 = ascii_text first_line (ascii first_line refl)
+first_utf8 = plain first_line refl
 
 at_utf8 : (n : ℕ) → n ≤ most → is_utf8 (at_line n) ≡ true
 at_utf8 n small = ascii_text (at_line n) (IsAscii-append (codes "at ") (decimal n) (ascii (codes "at ") refl) (IsAscii-decimal n (omega arith)))
@@ -99,13 +102,13 @@ self n = grind (arith, nat_tests)
 text_of : (line : List ℕ) → is_utf8 line ≡ true → text_in line ≡ Some line
 text_of line h = ap (λ b. let o : Option (List ℕ) = if b then Some line else None in o) h
 
-begun_is : (c : Configuration) (ch : Chain) → settings_in (settings_line c) ≡ Ok c → is_utf8 (settings_line c) ≡ true → length ch.events ≤ most → IsOf c ch.known
-    → begun ch (text_in first_line) (text_in (settings_line c)) (text_in (at_line (length ch.events))) ≡ Ok c
-begun_is c ch read text few of =
+pub begun_is : (c : Configuration) (ch : Chain) (settings : List ℕ) → settings_in settings ≡ Ok c → is_utf8 settings ≡ true → length ch.events ≤ most → IsOf c ch.known
+    → begun ch (text_in first_line) (text_in settings) (text_in (at_line (length ch.events))) ≡ Ok c
+begun_is c ch settings read text few of =
     let n = length ch.events in
-    ap (λ o. begun ch o (text_in (settings_line c)) (text_in (at_line n))) (text_of first_line first_utf8)
-    ∙ ap (λ o. begun ch (Some first_line) o (text_in (at_line n))) (text_of (settings_line c) text)
-    ∙ ap (begun ch (Some first_line) (Some (settings_line c))) (text_of (at_line n) (at_utf8 n few))
+    ap (λ o. begun ch o (text_in settings) (text_in (at_line n))) (text_of first_line first_utf8)
+    ∙ ap (λ o. begun ch (Some first_line) o (text_in (at_line n))) (text_of settings text)
+    ∙ ap (begun ch (Some first_line) (Some settings)) (text_of (at_line n) (at_utf8 n few))
     ∙ ap (λ r. begun_at ch r (place_in (at_line n))) read
     ∙ ap (begun_at ch (Ok c)) (place_is n few)
     ∙ ap (λ b. let r : Result Configuration CheckKind = if b then known_by ch.known c else Err Gap in r) (self n)
@@ -126,6 +129,6 @@ chunk law c ch after lines rest within utf8 few led of =
     ∙ header-is ch (pieces_at 10 text) first_line (settings_line c) (at_line n) inner (Ok c)
     (three text second third first_line (settings_line c) (at_line n) inner
     (cut-line first_line second refl) (cut-line (settings_line c) third s.1) (cut-line (at_line n) inner (at_one n few)))
-    (begun_is c ch s.0 utf8 few of)
+    (begun_is c ch (settings_line c) s.0 utf8 few of)
     ∙ led end
     ∙ one-line c after last_line rest true refl refl

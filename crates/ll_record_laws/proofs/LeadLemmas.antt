@@ -58,7 +58,7 @@ next c before after more lines line led one utf8 other right rest =
 -- ---- one more entry
 
 -- the line of an entry that is right leads to the events with its own
-joined-right : (c : Configuration) (events : List Event) (line : List ℕ) (entry : Recorded) → is_utf8 line ≡ true → entry_in c line ≡ Ok entry
+pub joined-right : (c : Configuration) (events : List Event) (line : List ℕ) (entry : Recorded) → is_utf8 line ≡ true → entry_in c line ≡ Ok entry
     → fault_in c events entry ≡ None → with_line c events line ≡ Ok (events ++ event_of entry ∷ [])
 joined-right c events line entry utf8 read none =
     ap (λ b. joined c events (entry_at c (cond b (Some line) None))) utf8

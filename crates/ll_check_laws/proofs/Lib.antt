@@ -1,0 +1,2 @@
+pub mod Back
+pub mod Walk
