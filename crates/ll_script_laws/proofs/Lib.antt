@@ -1,6 +1,9 @@
 pub mod ActLemmas
 pub mod ChannelLemmas
+pub mod DueLemmas
 pub mod ItemTexts
 pub mod LawProofs
 pub mod PieceLemmas
 pub mod ReplyLemmas
+pub mod ScriptLemmas
+pub mod TalkLemmas
