@@ -36,7 +36,7 @@ use Rattle.ll_script_laws.specs.Laws.{DueLaw, FindsAsker, IsThere, moment}
 rooms-met : (w v : World) (all : Connections) → AreMet w all → IsOpen v → ((m : ℕ) → waiting_of m v.waits ≡ waiting_of m w.waits) → AreMet v all
 rooms-met w v all h tied same = record { rooms = tied; matched = λ m. same m ∙ h.matched m; going = h.going }
 
-offer-same : (w : World) (i : ℕ) (item : Item) → (rooms.offer i item w).waits ≡ w.waits
+pub offer-same : (w : World) (i : ℕ) (item : Item) → (rooms.offer i item w).waits ≡ w.waits
 offer-same w i item = at (slice_get w.channels i)
   where
     by : (c : Channel) (f : Option PublishFault) → (rooms.offered w i c item f).waits ≡ w.waits
@@ -47,7 +47,7 @@ offer-same w i item = at (slice_get w.channels i)
     at None = refl
     at (Some c) = by c (refusal_after c.settings c.events item)
 
-clock-same : (w : World) (i ms : ℕ) → (rooms.clock i ms w).waits ≡ w.waits
+pub clock-same : (w : World) (i ms : ℕ) → (rooms.clock i ms w).waits ≡ w.waits
 clock-same w i ms = at (slice_get w.channels i)
   where
     by : (c : Channel) (f : Option ClockFault) → (rooms.clocked w i c ms f).waits ≡ w.waits
@@ -99,11 +99,11 @@ close-same w id m tied = by (wait_of (Get id) w.waits) refl
 
 -- ---- what holds at each moment
 
-record Holds (w : Script) : Type 0 where
-  met : AreMet w.rooms w.connections
-  quiet : w.rooms.answers ≡ []
+pub record Holds (w : Script) : Type 0 where
+  pub met : AreMet w.rooms w.connections
+  pub quiet : w.rooms.answers ≡ []
 
-act-holds : (w : Script) (a : Act) → Holds w → Holds (act w a)
+pub act-holds : (w : Script) (a : Act) → Holds w → Holds (act w a)
 act-holds w (Declare c) h = record { met = rooms-met w.rooms (rooms.silent (rooms.declare c w.rooms)) w.connections h.met (declare-open w.rooms c h.met.rooms) (λ m. refl); quiet = refl }
 act-holds w (Offer i item) h = record {
   met =
@@ -134,73 +134,89 @@ of_connection : (n : ℕ) (w : World) (i t : ℕ) (x : Wait) → under i t w.wai
 of_connection n w i t x e is =
     ap (λ b. waiting_of n (without i t w.waits) + (if b then 1 else 0)) (sym (ap (λ o. is_same o (Connection n)) is ∙ same_test n)) ∙ count-less n i t w.waits x e
 
-of_other : (m : ℕ) (w : World) (i t : ℕ) (x : Wait) → under i t w.waits ≡ Some x → is_of (Connection m) x ≡ false → waiting_of m (without i t w.waits) ≡ waiting_of m w.waits
+pub of_other : (m : ℕ) (w : World) (i t : ℕ) (x : Wait) → under i t w.waits ≡ Some x → is_of (Connection m) x ≡ false → waiting_of m (without i t w.waits) ≡ waiting_of m w.waits
 of_other m w i t x e f =
     let less : waiting_of m (without i t w.waits) + 0 ≡ waiting_of m w.waits =
     ap (λ b. waiting_of m (without i t w.waits) + (if b then 1 else 0)) (sym f) ∙ count-less m i t w.waits x e in
     omega (arith, less)
 
-asker : (n : ℕ) (all : Connections) (w : World) (i t : ℕ) (x : Wait) → AreMet w all → under i t w.waits ≡ Some x → x.owner ≡ Connection n → HasOut n all
+pub asker : (n : ℕ) (all : Connections) (w : World) (i t : ℕ) (x : Wait) → AreMet w all → under i t w.waits ≡ Some x → x.owner ≡ Connection n → HasOut n all
 asker n all w i t x h e is = has_out n all (waiting_of n (without i t w.waits)) (of_connection n w i t x e is ∙ h.matched n)
 
-abbrev passed_all : Script → List answer.Answer → World → Script
-passed_all w answers v = fold passed_on (heard w v) answers
-
-tick-holds : (place : ℕ) (w : Script) → Holds w → Holds (tick place w)
-tick-holds place w h = at (slice_get w.rooms.channels place) refl (tick-open w.rooms place h.met.rooms)
+-- none of its connection waits then
+pub own_gone : (n : ℕ) (all : Connections) (w : World) (i t : ℕ) (x : Wait) → AreMet w all → under i t w.waits ≡ Some x → x.owner ≡ Connection n
+    → waiting_of n (without i t w.waits) ≡ 0
+own_gone n all w i t x h e is = by (waiting_of n (without i t w.waits)) (session_of n all) (of_connection n w i t x e is ∙ h.matched n)
   where
-    nothing : Holds (passed_all w w.rooms.answers w.rooms)
-    nothing = subst (λ answers. Holds (passed_all w answers w.rooms)) (sym h.quiet) (record { met = record { rooms = h.met.rooms; matched = h.met.matched; going = h.met.going }; quiet = refl })
+    by : (k : ℕ) (o : Option (Option SessionValue)) → k + 1 ≡ wants_out o → k ≡ 0
+    by k None e = omega (arith, e)
+    by k (Some None) e = omega (arith, e)
+    by k (Some (Some s)) e = omega (arith, e, few_out s.out)
 
-    passed : (i t : ℕ) (x : Wait) (o : Owner) (a : Reply) (v : World) → under i t w.rooms.waits ≡ Some x → x.owner ≡ o → v.waits ≡ without i t w.rooms.waits → IsOpen v
-        → Holds (passed_all w (said.Replied o a ∷ []) v)
-    passed i t x (Get id) a v e is waits tied = record {
+-- the rooms after a reply was told
+abbrev pub told_in : World → ℕ → Channel → Request → Wait → Settled → World
+told_in w place c r x s = waits_less (told (happens w place c (Collect r.ticket)) x.owner (Some s)) place r.ticket
+
+-- what telling the first reply that is due at a place comes to
+pub data Ticks (w : World) (place : ℕ) (v : World) : Type 0 where
+  Nothing : v ≡ w → Ticks w place v
+  Tells : (c : Channel) (r : Request) (x : Wait) (s : Settled) → slice_get w.channels place ≡ Some c → first_due c.settings c.events ≡ Some r
+      → under place r.ticket w.waits ≡ Some x → reply c.settings c.events r ≡ Some s → v ≡ told_in w place c r x s → Ticks w place v
+
+pub ticks : (w : World) (place : ℕ) → Ticks w place (rooms.tick place w)
+ticks w place = at (slice_get w.channels place) refl
+  where
+    told_by : (c : Channel) (r : Request) (x : Wait) (o : Option Settled) → slice_get w.channels place ≡ Some c → first_due c.settings c.events ≡ Some r
+        → under place r.ticket w.waits ≡ Some x → reply c.settings c.events r ≡ o
+        → Ticks w place (waits_less (told (happens w place c (Collect r.ticket)) x.owner o) place r.ticket)
+    told_by c r x None at is e none = let never : false ≡ true = ap is_some (sym none) ∙ due_told c r is in absurd (cc)
+    told_by c r x (Some s) at is e told = Tells c r x s at is e told refl
+
+    found : (c : Channel) (r : Request) (o : Option Wait) → slice_get w.channels place ≡ Some c → first_due c.settings c.events ≡ Some r
+        → under place r.ticket w.waits ≡ o → Ticks w place (told_to w place c r o)
+    found c r None at is e = Nothing refl
+    found c r (Some x) at is e = told_by c r x (reply c.settings c.events r) at is e refl
+
+    by : (c : Channel) (o : Option Request) → slice_get w.channels place ≡ Some c → first_due c.settings c.events ≡ o → Ticks w place (tick_of w place c o)
+    by c None at is = Nothing refl
+    by c (Some r) at is = found c r (under place r.ticket w.waits) at is refl
+
+    at : (o : Option Channel) → slice_get w.channels place ≡ o → Ticks w place (tick_at w place o)
+    at None e = Nothing refl
+    at (Some c) e = by c (first_due c.settings c.events) e refl
+
+pub tick-holds : (place : ℕ) (w : Script) → Holds w → Holds (tick place w)
+tick-holds place w h = by (rooms.tick place w.rooms) (ticks w.rooms place) (tick-open w.rooms place h.met.rooms)
+  where
+    passed : (t : ℕ) (x : Wait) (o : Owner) (a : Reply) (v : World) → under place t w.rooms.waits ≡ Some x → x.owner ≡ o → v.waits ≡ without place t w.rooms.waits → IsOpen v
+        → Holds (fold passed_on (heard w v) (said.Replied o a ∷ []))
+    passed t x (Get id) a v e is waits tied = record {
       met =
           rooms-met w.rooms (rooms.silent v) w.connections h.met tied
-          (λ m. ap (waiting_of m) waits ∙ of_other m w.rooms i t x e (ap (λ o. is_same o (Connection m)) is));
+          (λ m. ap (waiting_of m) waits ∙ of_other m w.rooms place t x e (ap (λ o. is_same o (Connection m)) is));
       quiet = refl;
     }
-    passed i t x (Connection n) a v e is waits tied =
-        let one = of_connection n w.rooms i t x e is in
-        let has = asker n w.connections w.rooms i t x h.met e is in
-        let few = h.met.matched n in
+    passed t x (Connection n) a v e is waits tied =
         let m =
-        reply-met n a w.connections w.rooms (rooms.silent v) h.met tied
-        (ap (waiting_of n) waits ∙ none_left (waiting_of n (without i t w.rooms.waits)) (session_of n w.connections) (one ∙ few))
-        (λ m f. ap (waiting_of m) waits ∙ of_other m w.rooms i t x e (ap (λ o. is_same o (Connection m)) is ∙ f)) has in
+        reply-met n a w.connections w.rooms (rooms.silent v) h.met tied (ap (waiting_of n) waits ∙ own_gone n w.connections w.rooms place t x h.met e is)
+        (λ m f. ap (waiting_of m) waits ∙ of_other m w.rooms place t x e (ap (λ o. is_same o (Connection m)) is ∙ f))
+        (asker n w.connections w.rooms place t x h.met e is) in
         record { met = record { rooms = m.rooms; matched = m.matched; going = m.going }; quiet = refl }
-      where
-        none_left : (k : ℕ) (o : Option (Option SessionValue)) → k + 1 ≡ wants_out o → k ≡ 0
-        none_left k None e = omega (arith, e)
-        none_left k (Some None) e = omega (arith, e)
-        none_left k (Some (Some s)) e = omega (arith, e, few_out s.out)
 
-    told_by : (c : Channel) (r : Request) (x : Wait) (o : Option Settled) → reply c.settings c.events r ≡ o → first_due c.settings c.events ≡ Some r
-        → under place r.ticket w.rooms.waits ≡ Some x → IsOpen (waits_less (told (happens w.rooms place c (Collect r.ticket)) x.owner o) place r.ticket)
-        → Holds (passed_all w (told (happens w.rooms place c (Collect r.ticket)) x.owner o).answers (waits_less (told (happens w.rooms place c (Collect r.ticket)) x.owner o) place r.ticket))
-    told_by c r x None is due e tied = let never : false ≡ true = ap is_some (sym is) ∙ due_told c r due in absurd (cc)
-    told_by c r x (Some s) is due e tied =
-        let v : World = waits_less (told (happens w.rooms place c (Collect r.ticket)) x.owner (Some s)) place r.ticket in
-        subst (λ (answers : List answer.Answer). Holds (passed_all w (answers ++ said.Replied x.owner (reply_of s) ∷ []) v)) (sym h.quiet)
-        (passed place r.ticket x x.owner (reply_of s) v e refl refl tied)
-
-    found : (c : Channel) (r : Request) (o : Option Wait) → first_due c.settings c.events ≡ Some r → under place r.ticket w.rooms.waits ≡ o
-        → IsOpen (told_to w.rooms place c r o) → Holds (passed_all w (told_to w.rooms place c r o).answers (told_to w.rooms place c r o))
-    found c r None due e tied = nothing
-    found c r (Some x) due e tied = told_by c r x (reply c.settings c.events r) refl due e tied
-
-    by : (c : Channel) (o : Option Request) → first_due c.settings c.events ≡ o → IsOpen (tick_of w.rooms place c o)
-        → Holds (passed_all w (tick_of w.rooms place c o).answers (tick_of w.rooms place c o))
-    by c None due tied = nothing
-    by c (Some r) due tied = found c r (under place r.ticket w.rooms.waits) due refl tied
-
-    at : (o : Option Channel) → slice_get w.rooms.channels place ≡ o → IsOpen (tick_at w.rooms place o) → Holds (passed_all w (tick_at w.rooms place o).answers (tick_at w.rooms place o))
-    at None e tied = nothing
-    at (Some c) e tied = by c (first_due c.settings c.events) refl tied
+    by : (v : World) → Ticks w.rooms place v → IsOpen v → Holds (fold passed_on (heard w v) v.answers)
+    by v (Nothing e) tied =
+        subst (λ (v : World). Holds (fold passed_on (heard w v) v.answers)) (sym e)
+        (subst (λ answers. Holds (fold passed_on (heard w w.rooms) answers)) (sym h.quiet)
+        (record { met = record { rooms = h.met.rooms; matched = h.met.matched; going = h.met.going }; quiet = refl }))
+    by v (Tells c r x s at is found told e) tied =
+        let u = told_in w.rooms place c r x s in
+        subst (λ (v : World). Holds (fold passed_on (heard w v) v.answers)) (sym e)
+        (subst (λ (answers : List answer.Answer). Holds (fold passed_on (heard w u) (answers ++ said.Replied x.owner (reply_of s) ∷ []))) (sym h.quiet)
+        (passed r.ticket x x.owner (reply_of s) u found refl refl (subst IsOpen e tied)))
 
 -- ---- lines
 
-start-holds : Holds start
+pub start-holds : Holds start
 start-holds = record { met = record { rooms = λ place. refl; matched = λ n. refl; going = λ n s e. cc }; quiet = refl }
 
 -- ---- the law
@@ -217,7 +233,7 @@ finds w h place c r there due = by (under place r.ticket w.rooms.waits) refl (du
     by None e some = let never : false ≡ true = ap is_some (sym e) ∙ some in absurd (cc)
     by (Some x) e some = (x, e, asks_by w.connections w.rooms place r.ticket x x.owner h.met e refl)
 
-same-holds : (w : Script) (lines : ℕ) (ending : Option Ending) → Holds w → Holds (record w { lines = lines; ending = ending })
+pub same-holds : (w : Script) (lines : ℕ) (ending : Option Ending) → Holds w → Holds (record w { lines = lines; ending = ending })
 same-holds w lines ending h = record { met = h.met; quiet = h.quiet }
 
 abbrev Always : List Act → Script → Type 0

@@ -1,6 +1,8 @@
 -- What comes and what is sent on each connection of a script.
 use Rattle.std.specs.Prelude.{◌≡◌, ℕ, ◌==◌, ◌||◌, List, [], ◌∷◌, ◌++◌, false, Option, Some, None, is_some, flat_map, fold, length, nat_lt, if◌then◌else◌}
+use Rattle.ll_connection.specs.Met.{outs}
 use Rattle.ll_connection.specs.Turn.{session_of}
+use Rattle.ll_directive.specs.Targets.{WantValue}
 use Rattle.ll_directive.specs.declared.fault.TargetFault.{TargetFault}
 use Rattle.ll_publish.specs.Refusals.{no_line}
 use Rattle.ll_publish.specs.declared.refusal.Refusal.{Refusal}
@@ -14,6 +16,7 @@ use Rattle.ll_session.specs.Past.{Call, Past, past}
 use Rattle.ll_session.specs.Talk.{SessionValue, fresh}
 use Rattle.ll_world.specs.World.{all_settings}
 use Rattle.ll_world.specs.declared.answer.Answer as rooms
+use Rattle.ll_script_laws.specs.Verdicts.{AreAnswered, wants_of}
 
 -- one thing that a script writes
 pub data Part : Type 0 where
@@ -68,17 +71,23 @@ StandsAt None p untaken = (p.session ≡ fresh) × (untaken ≡ [])
 StandsAt (Some None) p untaken = Unit
 StandsAt (Some (Some s)) p untaken = (p.session ≡ s) × (s.shut ≡ false) × (untaken ≡ [])
 
--- All that came on a connection and all that was sent on it are those of calls on a session, of which `session_law` speaks.
-pub record IsServed (w : Script) (came sent : List ℕ) (n : ℕ) : Type 0 where
+-- All that came on a connection and all that was sent on it are those of calls on a session, of which `session_law` speaks. The answers that
+-- the session was given are right, each for the request at its place; the requests in this list have none.
+pub record IsServed (w : Script) (came sent : List ℕ) (n : ℕ) (unanswered : List WantValue) : Type 0 where
   pub calls : List Call
   pub untaken : List ℕ
   pub fed : came ≡ (past calls).fed ++ untaken
   pub gone : sent ≡ (past calls).gone
   pub all_sent : (past calls).session.answers ≡ []
   pub stands : StandsAt (session_of n w.connections) (past calls) untaken
+  pub answered : AreAnswered w.rooms.channels (wants_of (past calls).entries) (past calls).replies unanswered
+  -- at most one, which the session has out
+  pub is_out : (past calls).session.shut ≡ false → length unanswered ≡ outs (past calls).session.out
 
--- For each script: its text is made of parts, and what came and what was sent on each connection are those of calls on a session.
+-- For each script: its text is made of parts, and what came and what was sent on each connection are those of calls on a session, in which each
+-- request was answered right.
 abbrev pub TalksLaw : Type 0
 TalksLaw = (lines : List (List ℕ))
     → (parts : List Part) × ((fold line start lines).text ≡ flat_map part_text parts)
-    × ((n : ℕ) → IsServed (fold line start lines) (flat_map (brought_by n) (acts_of start lines)) (flat_map (sent_by n) parts) n)
+    × ((n : ℕ) → (unanswered : List WantValue)
+    × IsServed (fold line start lines) (flat_map (brought_by n) (acts_of start lines)) (flat_map (sent_by n) parts) n unanswered)
