@@ -19,7 +19,7 @@ named-step false cs d first place name c next h =
     (suc r.0, n, r.2)
 
 -- a channel that is found stands at its place
-named-within : (cs : List Configuration) (first place : ℕ) (name : List ℕ) (c : Configuration) → channel_of_name cs first name ≡ Some (place, c)
+pub named-within : (cs : List Configuration) (first place : ℕ) (name : List ℕ) (c : Configuration) → channel_of_name cs first name ≡ Some (place, c)
     → (i : ℕ) × (place ≡ first + i) × (slice_get cs i ≡ Some c)
 named-within [] first place name c e = absurd (none-some (place, c) e)
 named-within (d ∷ cs) first place name c e = named-step (bytes_eq name d.channel) cs d first place name c (named-within cs (first + 1) place name c) e

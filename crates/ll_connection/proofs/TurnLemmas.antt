@@ -35,6 +35,11 @@ module _ (n : ℕ) where
   found s [] = grind (arith, nat_tests)
   found s (c ∷ all) = grind (arith, nat_tests, found s all)
 
+  -- and nothing else changes
+  pub kept_other : (m : ℕ) (s : Slot) (all : Connections) → (n == m) ≡ false → session_of m (with_session n s all) ≡ session_of m all
+  kept_other m s [] f = grind (arith, nat_tests, f)
+  kept_other m s (c ∷ all) f = grind (arith, nat_tests, f, kept_other m s all f)
+
   -- of two sessions the later one stays
   pub twice : (s t : Slot) (all : Connections) → with_session n t (with_session n s all) ≡ with_session n t all
   twice s t [] = grind (arith, nat_tests)

@@ -1,4 +1,6 @@
 pub mod Laws
+pub mod Met
 pub mod Stands
+pub mod Talks
 pub mod Turn
 pub mod Visit

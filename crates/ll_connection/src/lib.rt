@@ -7,5 +7,5 @@ mod open;
 mod sent;
 
 pub use connections::Connections;
-pub use laws::pieces_law;
+pub use laws::{pieces_law, talk_law};
 pub use sent::Sent;

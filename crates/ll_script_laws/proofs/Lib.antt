@@ -1,6 +1,12 @@
 pub mod ActLemmas
+pub mod AskLemmas
 pub mod ChannelLemmas
+pub mod DueLemmas
+pub mod GrowLemmas
 pub mod ItemTexts
 pub mod LawProofs
 pub mod PieceLemmas
 pub mod ReplyLemmas
+pub mod ScriptLemmas
+pub mod ServeLemmas
+pub mod TalkLemmas

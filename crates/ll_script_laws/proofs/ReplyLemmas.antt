@@ -58,31 +58,32 @@ at-once c earlier events want page h = text_of c (waiting c events earlier) even
 -- ---- later
 
 -- a request that had to wait is an event of the channel
-abbrev IsAsked : Configuration → List Event → Request → Type 0
-IsAsked c es r = (want : WantValue) × (rest : List Event) × (es ≡ r.before ++ Ask want ∷ rest) × (wanted_of c want ≡ Some r.wanted)
+abbrev pub IsAsked : Configuration → List Event → Request → Type 0
+IsAsked c es r =
+    (want : WantValue) × (rest : List Event) × (es ≡ r.before ++ Ask want ∷ rest) × (wanted_of c want ≡ Some r.wanted) × (r.ticket ≡ asks r.before + 1)
 
 still_asked : (c : Configuration) (es : List Event) (e : Event) (r : Request) → IsAsked c es r → IsAsked c (es ++ e ∷ []) r
-still_asked c es e r h = (h.0, h.1 ++ e ∷ [], ap (λ xs. xs ++ e ∷ []) h.2 ∙ append_assoc r.before (Ask h.0 ∷ h.1) (e ∷ []), h.3)
+still_asked c es e r h = (h.0, h.1 ++ e ∷ [], ap (λ xs. xs ++ e ∷ []) h.2 ∙ append_assoc r.before (Ask h.0 ∷ h.1) (e ∷ []), h.3, h.4)
 
 kept_asked : (c : Configuration) (es : List Event) (e : Event) (rs : List Request) → Each (IsAsked c es) rs → Each (IsAsked c (es ++ e ∷ [])) rs
 kept_asked c es e rs h = each-map (IsAsked c es) (IsAsked c (es ++ e ∷ [])) (still_asked c es e) rs h
 
-added_asked : (c : Configuration) (es : List Event) (want : WantValue) (n : ℕ) (reply : Option Reply) (o : Option Wanted) → wanted_of c want ≡ o
-    → Each (IsAsked c (es ++ Ask want ∷ [])) (held_by reply n es o)
-added_asked c es want n None (Some a) e = ((want, [], refl, e), tt)
-added_asked c es want n None None e = tt
-added_asked c es want n (Some reply) o e = tt
+added_asked : (c : Configuration) (es : List Event) (want : WantValue) (reply : Option Reply) (o : Option Wanted) → wanted_of c want ≡ o
+    → Each (IsAsked c (es ++ Ask want ∷ [])) (held_by reply (asks es + 1) es o)
+added_asked c es want None (Some a) e = ((want, [], refl, e, refl), tt)
+added_asked c es want None None e = tt
+added_asked c es want (Some reply) o e = tt
 
 hold_asked : (c : Configuration) (es : List Event) (e : Event) (rs : List Request) → Each (IsAsked c es) rs → Each (IsAsked c (es ++ e ∷ [])) (hold_by c rs es e)
 hold_asked c es (Publish item) rs h = kept_asked c es (Publish item) rs h
 hold_asked c es (Ask want) rs h =
     each-append (IsAsked c (es ++ Ask want ∷ [])) rs (held_by (at_once c rs es want) (asks es + 1) es (wanted_of c want)) (kept_asked c es (Ask want) rs h)
-    (added_asked c es want (asks es + 1) (at_once c rs es want) (wanted_of c want) refl)
+    (added_asked c es want (at_once c rs es want) (wanted_of c want) refl)
 hold_asked c es (Collect ticket) rs h = kept_asked c es (Collect ticket) rs h
 hold_asked c es (Close ticket) rs h = kept_asked c es (Close ticket) rs h
 hold_asked c es (Clock ms) rs h = kept_asked c es (Clock ms) rs h
 
-held_asked : (c : Configuration) (es : List Event) → Each (IsAsked c es) (held c es)
+pub held_asked : (c : Configuration) (es : List Event) → Each (IsAsked c es) (held c es)
 held_asked c es = along (λ es. Each (IsAsked c es) (held c es)) tt
     (λ es e h. subst (Each (IsAsked c (es ++ e ∷ []))) (sym (held-snoc c es e)) (hold_asked c es e (held c es) h)) es
 

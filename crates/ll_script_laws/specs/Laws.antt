@@ -1,5 +1,5 @@
 -- Laws of what a script comes to: of its channels, and of the texts that their requests get.
-use Rattle.std.specs.Prelude.{◌≡◌, ℕ, ◌+◌, ◌≤◌, ◌<◌, List, [], ◌∷◌, ◌++◌, Option, Some, Ok, length, slice_get}
+use Rattle.std.specs.Prelude.{◌≡◌, ℕ, ◌+◌, ◌≤◌, ◌<◌, List, [], ◌∷◌, ◌++◌, Option, Some, Ok, true, is_some, fold, length, slice_get}
 use Rattle.std.specs.Str.Lines.{lines}
 use Rattle.ll_item.specs.Settings.{Configuration, IsWithin}
 use Rattle.ll_directive.specs.Targets.{WantValue}
@@ -11,15 +11,23 @@ use Rattle.ll_page.specs.declared.form.Form.{Form}
 use Rattle.ll_page.specs.declared.form.Form.TheVariants.{Full, Delta}
 use Rattle.ll_page.specs.declared.skip_kind.SkipKind.{SkipKind}
 use Rattle.ll_script.specs.Lines.{acts}
+use Rattle.ll_script.specs.declared.act.Act.{Act}
 use Rattle.ll_script.specs.declared.act.Act.TheVariants.{Bytes}
+use Rattle.ll_held.specs.Waits.{under}
+use Rattle.ll_held.specs.declared.owner.Owner.{Owner}
+use Rattle.ll_held.specs.declared.owner.Owner.TheVariants.{Get, Connection}
+use Rattle.ll_held.specs.declared.wait.Wait.{Wait}
+use Rattle.ll_session.specs.Talk.{SessionValue}
+use Rattle.ll_connection.specs.Met.{AreMatched}
+use Rattle.ll_connection.specs.Turn.{Connections, session_of}
 use Rattle.ll_verdict.specs.Events.{Event, Ask, items}
 use Rattle.ll_verdict.specs.Verdict.{Request, at_once, held, reply, wanted_of}
 use Rattle.ll_verdict.specs.declared.reply.Reply.TheVariants as now
 use Rattle.ll_verdict.specs.declared.reply.Settled.TheVariants.{Text}
 use Rattle.ll_verdict.specs.declared.wanted.Wanted.{Wanted}
-use Rattle.ll_world.specs.World.{Channel}
+use Rattle.ll_world.specs.World.{Channel, first_due, repeat}
 use Rattle.ll_replay.specs.Stream.{script, world_of}
-use Rattle.ll_replay.specs.Script.{longest_line}
+use Rattle.ll_replay.specs.Script.{Script, act, done, line, longest_line, start, tick}
 use Rattle.ll_apply.specs.Texts.{applied_text}
 use Rattle.ll_laws.specs.Published.{ArePublished}
 
@@ -75,3 +83,25 @@ PiecesLaw = (one two : List ℕ) (before later : List (List ℕ)) (whole first s
     → Brings n (a ++ b) whole → Brings n a first → Brings n b second
     → length whole ≤ longest_line → length first ≤ longest_line → length second ≤ longest_line
     → script one ≡ script two
+
+-- a script after some lines, some acts of the next one, and some of the replies that the last of these made due in the channel at a place
+abbrev pub moment : List (List ℕ) → List Act → Act → ℕ → ℕ → Script
+moment before list last place n = repeat (tick place) n (act (fold done (fold line start before) list) last)
+
+-- Who asked is there: a connection's session is open, and has a want out.
+abbrev pub IsThere : Owner → Connections → Type 0
+IsThere (Get id) all = Unit
+IsThere (Connection n) all = (s : SessionValue) × (session_of n all ≡ Some (Some s)) × (is_some s.out ≡ true)
+
+-- a reply that is due finds the request that waits for it, and who asked
+abbrev pub FindsAsker : Script → Type 0
+FindsAsker w = (place : ℕ) (channel : Channel) (r : Request)
+    → slice_get w.rooms.channels place ≡ Some channel → first_due channel.settings channel.events ≡ Some r
+    → (x : Wait) × (under place r.ticket w.rooms.waits ≡ Some x) × IsThere x.owner w.connections
+
+-- At each moment of each script: a reply that is due finds who asked, and of each connection as many requests wait as its session has wants
+-- out, one or none.
+abbrev pub DueLaw : Type 0
+DueLaw = (before : List (List ℕ)) (list : List Act) (last : Act) (place n : ℕ)
+    → FindsAsker (moment before list last place n)
+    × AreMatched (moment before list last place n).rooms.waits (moment before list last place n).connections

@@ -3,7 +3,8 @@
 //! draft-pantos-hls-rfc8216bis.
 #![tactic(auto)]
 
-ghost use Rattle.ll_script_laws.specs.Laws.{AtOnceLaw, LaterLaw, PiecesLaw, PlayersLaw, PublishedLaw};
+ghost use Rattle.ll_script_laws.specs.Laws.{AtOnceLaw, DueLaw, LaterLaw, PiecesLaw, PlayersLaw, PublishedLaw};
+ghost use Rattle.ll_script_laws.specs.Talks.{TalksLaw};
 
 /// For every input of `ll_replay::run`, at each moment of each of its channels: the settings are within their limits, and the items
 /// that the channel has accepted by then are such as the laws of `ll_laws` speak of. A moment is a prefix of the channel's events.
@@ -31,4 +32,16 @@ pub fn replies_law()
 /// lines may be one, and so any number of them.
 pub fn pieces_law()
     ensures { PiecesLaw }
+{}
+
+/// At each moment of every script, a reply that is due finds the request that waits for it and who asked: for a connection's, its
+/// session is open and has a want out. And of each connection as many requests wait as its session has wants out.
+pub fn due_law()
+    ensures { DueLaw }
+{}
+
+/// What came and what was sent on each connection of a script are those of calls on one session: so, by `session_law` of `ll_session`, each
+/// connection is sent the answers to the requests in its bytes, in their order, and nothing else.
+pub fn talks_law()
+    ensures { TalksLaw }
 {}

@@ -18,7 +18,7 @@ some_is x y h = ap (λ o. elim o [ None ↦ x | Some z ↦ z ]) h
 pub none_some : {X : Type 0} (x : X) → None ≡ Some x → ⊥
 none_some x h = true≢false (ap is_none h)
 
-equal : (a b : ℕ) → (a == b) ≡ true → a ≡ b
+pub equal : (a b : ℕ) → (a == b) ≡ true → a ≡ b
 equal a b h = grind (arith, nat_tests, h)
 
 pub same_test : (t : ℕ) → (t == t) ≡ true
@@ -27,10 +27,10 @@ same_test t = grind (arith, nat_tests)
 clash : (x i j : ℕ) → (j == i) ≡ false → (x == i) ≡ true → (x == j) ≡ false
 clash x i j h k = grind (arith, nat_tests, h, k)
 
-turn : (i j : ℕ) → (j == i) ≡ false → (i == j) ≡ false
+pub turn : (i j : ℕ) → (j == i) ≡ false → (i == j) ≡ false
 turn i j f = grind (arith, nat_tests, f)
 
-append_none : (ns : List ℕ) → ns ++ [] ≡ ns
+pub append_none : (ns : List ℕ) → ns ++ [] ≡ ns
 append_none [] = refl
 append_none (n ∷ ns) = ap (λ ms. n ∷ ms) (append_none ns)
 
@@ -42,11 +42,11 @@ find_by place t x true true o ys e h = ap (λ b. b || list_any (λ n. n == t) (m
 find_by place t x true false o ys e h = h ∙ ap (λ b. b || list_any (λ n. n == t) (map ticket_of ys)) (sym e)
 find_by place t x false b o ys e h = h
 
-find_any : (place t : ℕ) (xs : List Wait) → is_some (under place t xs) ≡ list_any (λ n. n == t) (tickets_at place xs)
+pub find_any : (place t : ℕ) (xs : List Wait) → is_some (under place t xs) ≡ list_any (λ n. n == t) (tickets_at place xs)
 find_any place t [] = refl
 find_any place t (x ∷ xs) = find_by place t x (x.place == place) (x.ticket == t) (under place t xs) (filter (is_in place) xs) refl (find_any place t xs)
 
-any_map : (t : ℕ) (ss : List Slot) → list_any (λ n. n == t) (map ticket_in ss) ≡ list_any (has_ticket t) ss
+pub any_map : (t : ℕ) (ss : List Slot) → list_any (λ n. n == t) (map ticket_in ss) ≡ list_any (has_ticket t) ss
 any_map t [] = refl
 any_map t (s ∷ ss) = ap (λ b. (s.entry.ticket == t) || b) (any_map t ss)
 
@@ -74,7 +74,7 @@ drop_by t x true false xs ys place e f d ih =
     ∙ ap (λ b. cond (not b) (x.ticket ∷ less t (tickets_at place xs)) (less t (tickets_at place xs))) (sym f)
 drop_by t x false b xs ys place e f d ih = ap (λ b. map ticket_of (cond b (x ∷ filter (is_in place) ys) (filter (is_in place) ys))) e ∙ ih d
 
-tickets_drop : (place t : ℕ) (xs : List Wait) → AreDistinct (tickets_at place xs) → tickets_at place (without place t xs) ≡ less t (tickets_at place xs)
+pub tickets_drop : (place t : ℕ) (xs : List Wait) → AreDistinct (tickets_at place xs) → tickets_at place (without place t xs) ≡ less t (tickets_at place xs)
 tickets_drop place t [] d = refl
 tickets_drop place t (x ∷ xs) d =
     drop_by t x (x.place == place) (x.ticket == t) xs (without place t xs) place refl refl d (tickets_drop place t xs)
@@ -93,7 +93,7 @@ other_by i j t x false b xs ys e f h = both (x.place == j)
     both true = ap (λ ns. x.ticket ∷ ns) h
     both false = h
 
-tickets_other : (i j t : ℕ) (xs : List Wait) → (j == i) ≡ false → tickets_at j (without i t xs) ≡ tickets_at j xs
+pub tickets_other : (i j t : ℕ) (xs : List Wait) → (j == i) ≡ false → tickets_at j (without i t xs) ≡ tickets_at j xs
 tickets_other i j t [] f = refl
 tickets_other i j t (x ∷ xs) f = other_by i j t x (x.place == i) (x.ticket == t) xs (without i t xs) refl f (tickets_other i j t xs f)
 
@@ -108,7 +108,7 @@ alone : (x : Wait) (b : Bool) → map ticket_of (cond b (x ∷ []) []) ≡ (if b
 alone x true = refl
 alone x false = refl
 
-tickets_more : (j : ℕ) (xs : List Wait) (x : Wait) → tickets_at j (xs ++ x ∷ []) ≡ tickets_at j xs ++ (if x.place == j then x.ticket ∷ [] else [])
+pub tickets_more : (j : ℕ) (xs : List Wait) (x : Wait) → tickets_at j (xs ++ x ∷ []) ≡ tickets_at j xs ++ (if x.place == j then x.ticket ∷ [] else [])
 tickets_more j [] x = alone x (x.place == j)
 tickets_more j (y ∷ xs) x = more_by j x y (y.place == j) (filter (is_in j) xs) (filter (is_in j) (xs ++ x ∷ [])) (tickets_more j xs x)
 
@@ -119,7 +119,7 @@ get_set [] i x y h = absurd (none_some x h)
 get_set (z ∷ xs) zero x y h = refl
 get_set (z ∷ xs) (suc i) x y h = get_set xs i x y h
 
-get_other : {X : Type 0} (xs : List X) (i j : ℕ) (y : X) → (j == i) ≡ false → slice_get (slice_set xs i y) j ≡ slice_get xs j
+pub get_other : {X : Type 0} (xs : List X) (i j : ℕ) (y : X) → (j == i) ≡ false → slice_get (slice_set xs i y) j ≡ slice_get xs j
 get_other [] i j y h = refl
 get_other (z ∷ xs) zero zero y h = absurd (true≢false h)
 get_other (z ∷ xs) zero (suc j) y h = refl

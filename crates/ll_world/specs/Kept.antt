@@ -1,5 +1,5 @@
 -- What is kept of the channels of a script in place of all events.
-use Rattle.std.specs.Prelude.{◌≡◌, ℕ, ◌+◌, ◌==◌, List, [], ◌∷◌, ◌++◌, Bool, false, Option, Some, None, filter, map, slice_get}
+use Rattle.std.specs.Prelude.{◌≡◌, ℕ, ◌+◌, ◌==◌, List, [], ◌∷◌, ◌++◌, Bool, Option, Some, None, filter, map, slice_get}
 use Rattle.ll_room.specs.Home.{AreDistinct, Home, home, tickets}
 use Rattle.ll_verdict.specs.State.{state_of}
 use Rattle.ll_held.specs.declared.wait.Wait.{Wait}

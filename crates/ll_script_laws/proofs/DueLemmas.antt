@@ -1,0 +1,253 @@
+-- A reply that is due finds who asked, at each moment of a script.
+use Rattle.std.proofs.Common.{◌≡◌, ℕ, ◌+◌, List, [], ◌∷◌, ◌++◌, Bool, true, false, Option, Some, None, is_some, refl, ap, sym, ◌∙◌, subst, arith, fold, length, slice_get, if◌then◌else◌}
+use Rattle.ll_connection.specs.Met.{waiting_of, wants_out}
+use Rattle.ll_connection.specs.Turn.{Connections, session_of}
+use Rattle.ll_connection.proofs.MetLemmas.{AreMet, HasOut, bytes-met, count-less, count-more, end-met, few_out, has_out, is_its_own, own_ticket, reply-met}
+use Rattle.ll_session.specs.Talk.{SessionValue}
+use Rattle.ll_held.specs.Waits.{is_of, is_same, under, wait_of, without}
+use Rattle.ll_held.specs.declared.owner.Owner.{Owner}
+use Rattle.ll_held.specs.declared.owner.Owner.TheVariants.{Get, Connection}
+use Rattle.ll_held.specs.declared.wait.Wait.{Wait}
+use Rattle.ll_script.specs.declared.act.Act.{Act}
+use Rattle.ll_script.specs.declared.act.Act.TheVariants.{Declare, Offer, Refuse, Ask, Answer, Close, Clock, RefuseClock, Bytes, Drop}
+use Rattle.ll_verdict.specs.Events.{Collect, asks}
+use Rattle.ll_verdict.specs.Verdict.{Request, reply, reply_of}
+use Rattle.ll_verdict.specs.declared.reply.Reply.{Reply}
+use Rattle.ll_verdict.specs.declared.reply.Settled.{Settled}
+use Rattle.ll_world.specs.World as rooms
+use Rattle.ll_world.specs.World.{Channel, World, all_settings, first_due, happens, tick_at, tick_of, told, told_to, waits_less}
+use Rattle.ll_world.specs.declared.answer.Answer as answer
+use Rattle.ll_world.specs.declared.answer.Answer.TheVariants as said
+use Rattle.ll_world.proofs.TieLemmas.{same_test}
+use Rattle.ll_world.proofs.WaitLemmas.{IsOpen, ask-open, clock-open, close-open, declare-open, due_waits, offer-open, tick-open}
+use Rattle.ll_replay.specs.Script.{Script, Ending, act, done, heard, line, passed_on, start, tick}
+use Rattle.ll_directive.specs.Targets.{WantValue}
+use Rattle.ll_item.specs.declared.item.Item.{Item}
+use Rattle.ll_room.specs.Full.{is_full, refusal_after}
+use Rattle.ll_room.specs.declared.fault.ClockFault.{ClockFault}
+use Rattle.ll_verdict.specs.Verdict.{at_once, held}
+use Rattle.ll_verdict.specs.declared.fault.PublishFault.{PublishFault}
+use Rattle.ll_world.proofs.WaitLemmas.{due_told, once_each}
+use Rattle.ll_script_laws.proofs.ScriptLemmas.{acts-keep, lines-keep, ticks-keep}
+use Rattle.ll_script_laws.specs.Laws.{DueLaw, FindsAsker, IsThere, moment}
+
+-- ---- what changes no request of a connection
+
+rooms-met : (w v : World) (all : Connections) → AreMet w all → IsOpen v → ((m : ℕ) → waiting_of m v.waits ≡ waiting_of m w.waits) → AreMet v all
+rooms-met w v all h tied same = record { rooms = tied; matched = λ m. same m ∙ h.matched m; going = h.going }
+
+pub offer-same : (w : World) (i : ℕ) (item : Item) → (rooms.offer i item w).waits ≡ w.waits
+offer-same w i item = at (slice_get w.channels i)
+  where
+    by : (c : Channel) (f : Option PublishFault) → (rooms.offered w i c item f).waits ≡ w.waits
+    by c (Some f) = refl
+    by c None = refl
+
+    at : (o : Option Channel) → (rooms.offer_at w i item o).waits ≡ w.waits
+    at None = refl
+    at (Some c) = by c (refusal_after c.settings c.events item)
+
+pub clock-same : (w : World) (i ms : ℕ) → (rooms.clock i ms w).waits ≡ w.waits
+clock-same w i ms = at (slice_get w.channels i)
+  where
+    by : (c : Channel) (f : Option ClockFault) → (rooms.clocked w i c ms f).waits ≡ w.waits
+    by c (Some f) = refl
+    by c None = refl
+
+    at : (o : Option Channel) → (rooms.clock_at w i ms o).waits ≡ w.waits
+    at None = refl
+    at (Some c) = by c (rooms.clock_refusal ms c.events)
+
+ask-same : (w : World) (id i : ℕ) (want : WantValue) (m : ℕ) → waiting_of m (rooms.ask (Get id) i want w).waits ≡ waiting_of m w.waits
+ask-same w id i want m = at (slice_get w.channels i)
+  where
+    by : (c : Channel) (o : Option Reply) → waiting_of m (rooms.asked w (Get id) i c want o).waits ≡ waiting_of m w.waits
+    by c (Some r) = refl
+    by c None = count-more m w.waits (record { owner = Get id; place = i; ticket = asks c.events + 1 }) ∙ none (waiting_of m w.waits)
+      where
+        none : (k : ℕ) → k + 0 ≡ k
+        none k = omega arith
+
+    if-full : (c : Channel) (full : Bool) → waiting_of m (rooms.asked_if full w (Get id) i c want).waits ≡ waiting_of m w.waits
+    if-full c true = refl
+    if-full c false = by c (at_once c.settings (held c.settings c.events) c.events want)
+
+    at : (o : Option Channel) → waiting_of m (rooms.ask_at w (Get id) i want o).waits ≡ waiting_of m w.waits
+    at None = refl
+    at (Some c) = if-full c (is_full (length c.events))
+
+-- a `get` line's request is no connection's
+get_only : (o : Owner) (id m : ℕ) → is_same o (Get id) ≡ true → is_same o (Connection m) ≡ false
+get_only (Get a) id m h = refl
+get_only (Connection n) id m h = cc
+
+close-same : (w : World) (id m : ℕ) → IsOpen w → waiting_of m (rooms.close (Get id) w).waits ≡ waiting_of m w.waits
+close-same w id m tied = by (wait_of (Get id) w.waits) refl
+  where
+    at : (x : Wait) (o : Option Channel) → wait_of (Get id) w.waits ≡ Some x → waiting_of m (rooms.close_at w x o).waits ≡ waiting_of m w.waits
+    at x None e = refl
+    at x (Some c) e =
+        let mine = is_its_own (Get id) x w.waits e in
+        let less : waiting_of m (without x.place x.ticket w.waits) + 0 ≡ waiting_of m w.waits =
+        ap (λ b. waiting_of m (without x.place x.ticket w.waits) + (if b then 1 else 0)) (sym (get_only x.owner id m mine))
+        ∙ count-less m x.place x.ticket w.waits x (own_ticket (Get id) x w.waits e (once_each w.channels w.waits tied x.place)) in
+        omega (arith, less)
+
+    by : (o : Option Wait) → wait_of (Get id) w.waits ≡ o → waiting_of m (rooms.close_of w o).waits ≡ waiting_of m w.waits
+    by None e = refl
+    by (Some x) e = at x (slice_get w.channels x.place) e
+
+-- ---- what holds at each moment
+
+pub record Holds (w : Script) : Type 0 where
+  pub met : AreMet w.rooms w.connections
+  pub quiet : w.rooms.answers ≡ []
+
+pub act-holds : (w : Script) (a : Act) → Holds w → Holds (act w a)
+act-holds w (Declare c) h = record { met = rooms-met w.rooms (rooms.silent (rooms.declare c w.rooms)) w.connections h.met (declare-open w.rooms c h.met.rooms) (λ m. refl); quiet = refl }
+act-holds w (Offer i item) h = record {
+  met =
+      rooms-met w.rooms (rooms.silent (rooms.offer i item w.rooms)) w.connections h.met (offer-open w.rooms i item h.met.rooms) (λ m. ap (waiting_of m) (offer-same w.rooms i item));
+  quiet = refl;
+}
+act-holds w (Refuse reason) h = record { met = h.met; quiet = h.quiet }
+act-holds w (Ask id i want) h = record {
+  met = rooms-met w.rooms (rooms.silent (rooms.ask (Get id) i want w.rooms)) w.connections h.met (ask-open w.rooms (Get id) i want h.met.rooms) (ask-same w.rooms id i want);
+  quiet = refl;
+}
+act-holds w (Answer id reason) h = record { met = h.met; quiet = h.quiet }
+act-holds w (Close id) h = record {
+  met = rooms-met w.rooms (rooms.silent (rooms.close (Get id) w.rooms)) w.connections h.met (close-open w.rooms (Get id) h.met.rooms) (λ m. close-same w.rooms id m h.met.rooms);
+  quiet = refl;
+}
+act-holds w (Clock i ms) h = record {
+  met = rooms-met w.rooms (rooms.silent (rooms.clock i ms w.rooms)) w.connections h.met (clock-open w.rooms i ms h.met.rooms) (λ m. ap (waiting_of m) (clock-same w.rooms i ms));
+  quiet = refl;
+}
+act-holds w RefuseClock h = record { met = h.met; quiet = h.quiet }
+act-holds w (Bytes n piece) h = let m = bytes-met n piece w.connections w.rooms h.met in record { met = record { rooms = m.rooms; matched = m.matched; going = m.going }; quiet = refl }
+act-holds w (Drop n) h = let m = end-met n w.connections w.rooms h.met in record { met = record { rooms = m.rooms; matched = m.matched; going = m.going }; quiet = refl }
+
+-- ---- a reply that is due
+
+of_connection : (n : ℕ) (w : World) (i t : ℕ) (x : Wait) → under i t w.waits ≡ Some x → x.owner ≡ Connection n → waiting_of n (without i t w.waits) + 1 ≡ waiting_of n w.waits
+of_connection n w i t x e is =
+    ap (λ b. waiting_of n (without i t w.waits) + (if b then 1 else 0)) (sym (ap (λ o. is_same o (Connection n)) is ∙ same_test n)) ∙ count-less n i t w.waits x e
+
+pub of_other : (m : ℕ) (w : World) (i t : ℕ) (x : Wait) → under i t w.waits ≡ Some x → is_of (Connection m) x ≡ false → waiting_of m (without i t w.waits) ≡ waiting_of m w.waits
+of_other m w i t x e f =
+    let less : waiting_of m (without i t w.waits) + 0 ≡ waiting_of m w.waits =
+    ap (λ b. waiting_of m (without i t w.waits) + (if b then 1 else 0)) (sym f) ∙ count-less m i t w.waits x e in
+    omega (arith, less)
+
+pub asker : (n : ℕ) (all : Connections) (w : World) (i t : ℕ) (x : Wait) → AreMet w all → under i t w.waits ≡ Some x → x.owner ≡ Connection n → HasOut n all
+asker n all w i t x h e is = has_out n all (waiting_of n (without i t w.waits)) (of_connection n w i t x e is ∙ h.matched n)
+
+-- none of its connection waits then
+pub own_gone : (n : ℕ) (all : Connections) (w : World) (i t : ℕ) (x : Wait) → AreMet w all → under i t w.waits ≡ Some x → x.owner ≡ Connection n
+    → waiting_of n (without i t w.waits) ≡ 0
+own_gone n all w i t x h e is = by (waiting_of n (without i t w.waits)) (session_of n all) (of_connection n w i t x e is ∙ h.matched n)
+  where
+    by : (k : ℕ) (o : Option (Option SessionValue)) → k + 1 ≡ wants_out o → k ≡ 0
+    by k None e = omega (arith, e)
+    by k (Some None) e = omega (arith, e)
+    by k (Some (Some s)) e = omega (arith, e, few_out s.out)
+
+-- the rooms after a reply was told
+abbrev pub told_in : World → ℕ → Channel → Request → Wait → Settled → World
+told_in w place c r x s = waits_less (told (happens w place c (Collect r.ticket)) x.owner (Some s)) place r.ticket
+
+-- what telling the first reply that is due at a place comes to
+pub data Ticks (w : World) (place : ℕ) (v : World) : Type 0 where
+  Nothing : v ≡ w → Ticks w place v
+  Tells : (c : Channel) (r : Request) (x : Wait) (s : Settled) → slice_get w.channels place ≡ Some c → first_due c.settings c.events ≡ Some r
+      → under place r.ticket w.waits ≡ Some x → reply c.settings c.events r ≡ Some s → v ≡ told_in w place c r x s → Ticks w place v
+
+pub ticks : (w : World) (place : ℕ) → Ticks w place (rooms.tick place w)
+ticks w place = at (slice_get w.channels place) refl
+  where
+    told_by : (c : Channel) (r : Request) (x : Wait) (o : Option Settled) → slice_get w.channels place ≡ Some c → first_due c.settings c.events ≡ Some r
+        → under place r.ticket w.waits ≡ Some x → reply c.settings c.events r ≡ o
+        → Ticks w place (waits_less (told (happens w place c (Collect r.ticket)) x.owner o) place r.ticket)
+    told_by c r x None at is e none = let never : false ≡ true = ap is_some (sym none) ∙ due_told c r is in absurd (cc)
+    told_by c r x (Some s) at is e told = Tells c r x s at is e told refl
+
+    found : (c : Channel) (r : Request) (o : Option Wait) → slice_get w.channels place ≡ Some c → first_due c.settings c.events ≡ Some r
+        → under place r.ticket w.waits ≡ o → Ticks w place (told_to w place c r o)
+    found c r None at is e = Nothing refl
+    found c r (Some x) at is e = told_by c r x (reply c.settings c.events r) at is e refl
+
+    by : (c : Channel) (o : Option Request) → slice_get w.channels place ≡ Some c → first_due c.settings c.events ≡ o → Ticks w place (tick_of w place c o)
+    by c None at is = Nothing refl
+    by c (Some r) at is = found c r (under place r.ticket w.waits) at is refl
+
+    at : (o : Option Channel) → slice_get w.channels place ≡ o → Ticks w place (tick_at w place o)
+    at None e = Nothing refl
+    at (Some c) e = by c (first_due c.settings c.events) e refl
+
+pub tick-holds : (place : ℕ) (w : Script) → Holds w → Holds (tick place w)
+tick-holds place w h = by (rooms.tick place w.rooms) (ticks w.rooms place) (tick-open w.rooms place h.met.rooms)
+  where
+    passed : (t : ℕ) (x : Wait) (o : Owner) (a : Reply) (v : World) → under place t w.rooms.waits ≡ Some x → x.owner ≡ o → v.waits ≡ without place t w.rooms.waits → IsOpen v
+        → Holds (fold passed_on (heard w v) (said.Replied o a ∷ []))
+    passed t x (Get id) a v e is waits tied = record {
+      met =
+          rooms-met w.rooms (rooms.silent v) w.connections h.met tied
+          (λ m. ap (waiting_of m) waits ∙ of_other m w.rooms place t x e (ap (λ o. is_same o (Connection m)) is));
+      quiet = refl;
+    }
+    passed t x (Connection n) a v e is waits tied =
+        let m =
+        reply-met n a w.connections w.rooms (rooms.silent v) h.met tied (ap (waiting_of n) waits ∙ own_gone n w.connections w.rooms place t x h.met e is)
+        (λ m f. ap (waiting_of m) waits ∙ of_other m w.rooms place t x e (ap (λ o. is_same o (Connection m)) is ∙ f))
+        (asker n w.connections w.rooms place t x h.met e is) in
+        record { met = record { rooms = m.rooms; matched = m.matched; going = m.going }; quiet = refl }
+
+    by : (v : World) → Ticks w.rooms place v → IsOpen v → Holds (fold passed_on (heard w v) v.answers)
+    by v (Nothing e) tied =
+        subst (λ (v : World). Holds (fold passed_on (heard w v) v.answers)) (sym e)
+        (subst (λ answers. Holds (fold passed_on (heard w w.rooms) answers)) (sym h.quiet)
+        (record { met = record { rooms = h.met.rooms; matched = h.met.matched; going = h.met.going }; quiet = refl }))
+    by v (Tells c r x s at is found told e) tied =
+        let u = told_in w.rooms place c r x s in
+        subst (λ (v : World). Holds (fold passed_on (heard w v) v.answers)) (sym e)
+        (subst (λ (answers : List answer.Answer). Holds (fold passed_on (heard w u) (answers ++ said.Replied x.owner (reply_of s) ∷ []))) (sym h.quiet)
+        (passed r.ticket x x.owner (reply_of s) u found refl refl (subst IsOpen e tied)))
+
+-- ---- lines
+
+pub start-holds : Holds start
+start-holds = record { met = record { rooms = λ place. refl; matched = λ n. refl; going = λ n s e. cc }; quiet = refl }
+
+-- ---- the law
+
+asks_by : (all : Connections) (w : World) (i t : ℕ) (x : Wait) (o : Owner) → AreMet w all → under i t w.waits ≡ Some x → x.owner ≡ o → IsThere o all
+asks_by all w i t x (Get id) h e is = tt
+asks_by all w i t x (Connection n) h e is = let has = asker n all w i t x h e is in (has.session, has.there, has.is_out)
+
+finds : (w : Script) → Holds w → FindsAsker w
+finds w h place c r there due = by (under place r.ticket w.rooms.waits) refl (due_waits w.rooms place c r h.met.rooms there due)
+  where
+    by : (o : Option Wait) → under place r.ticket w.rooms.waits ≡ o → is_some (under place r.ticket w.rooms.waits) ≡ true
+        → (x : Wait) × (under place r.ticket w.rooms.waits ≡ Some x) × IsThere x.owner w.connections
+    by None e some = let never : false ≡ true = ap is_some (sym e) ∙ some in absurd (cc)
+    by (Some x) e some = (x, e, asks_by w.connections w.rooms place r.ticket x x.owner h.met e refl)
+
+pub same-holds : (w : Script) (lines : ℕ) (ending : Option Ending) → Holds w → Holds (record w { lines = lines; ending = ending })
+same-holds w lines ending h = record { met = h.met; quiet = h.quiet }
+
+abbrev Always : List Act → Script → Type 0
+Always list w = Holds w
+
+moment-holds : (before : List (List ℕ)) (list : List Act) (last : Act) (place n : ℕ) → Holds (moment before list last place n)
+moment-holds before list last place n =
+    let acts-hold = λ (all : List Act) (w : Script) (a : Act) (h : Holds w). act-holds w a h in
+    let ticks-hold = λ (all : List Act) (w : Script) (place : ℕ) (h : Holds w). tick-holds place w h in
+    let same-hold = λ (all : List Act) (w : Script) (lines : ℕ) (ending : Option Ending) (h : Holds w). same-holds w lines ending h in
+    let w = fold line start before in
+    let v = fold done w list in
+    ticks-keep Always acts-hold ticks-hold same-hold [] (act v last) place n
+    (act-holds v last (acts-keep Always acts-hold ticks-hold same-hold [] list w (lines-keep Always acts-hold ticks-hold same-hold [] start before start-holds)))
+
+pub due : DueLaw
+due before list last place n = let h = moment-holds before list last place n in (finds (moment before list last place n) h, h.met.matched)

@@ -1,0 +1,521 @@
+-- What comes and what is sent on each connection of a script, and that its requests are answered right.
+use Rattle.std.proofs.Common.{◌≡◌, ℕ, ◌+◌, ◌==◌, List, [], ◌∷◌, ◌++◌, Bool, true, false, Option, Some, None, refl, ap, ap₂, sym, ◌∙◌, subst, true≢false, fold, length, map, slice_get, slice_set, append-nil, append_assoc}
+use Rattle.std.specs.Prelude.{flat_map, if◌then◌else◌}
+use Rattle.std.specs.List.{concat}
+use Rattle.std.proofs.lemmas.Grind.{flat_map-append}
+use Rattle.std.proofs.lemmas.List.Sums.{fold-append}
+use Rattle.ll_connection.specs.Met.{outs, waiting_of, wants_out}
+use Rattle.ll_connection.specs.Turn as connection
+use Rattle.ll_connection.specs.Turn.{Connections, left, session_of, shut_text, turn, with_session}
+use Rattle.ll_connection.specs.Visit.{Visit, arrived, came, released}
+use Rattle.ll_connection.proofs.MetLemmas.{HasOut, IsMet, came-met, replied_out}
+use Rattle.ll_connection.proofs.TalkLemmas.{Talked, bytes-talked, reply-talked}
+use Rattle.ll_connection.proofs.TurnLemmas.{found, kept_other}
+use Rattle.ll_directive.specs.Targets.{WantValue}
+use Rattle.ll_held.specs.Waits.{is_same, under}
+use Rattle.ll_held.specs.declared.owner.Owner.{Owner}
+use Rattle.ll_held.specs.declared.owner.Owner.TheVariants.{Get, Connection}
+use Rattle.ll_held.specs.declared.wait.Wait.{Wait}
+use Rattle.ll_script.specs.Answers.{sent_line}
+use Rattle.ll_script.specs.declared.act.Act.{Act}
+use Rattle.ll_script.specs.declared.act.Act.TheVariants.{Declare, Offer, Refuse, Ask, Answer, Close, Clock, RefuseClock, Bytes, Drop}
+use Rattle.ll_session.specs.Past.{Past, Send, before_any, called, past}
+use Rattle.ll_session.specs.Talk.{SessionValue, fresh, replied}
+use Rattle.ll_room.specs.Full.{is_full}
+use Rattle.ll_verdict.specs.Events.{Collect, asks}
+use Rattle.ll_verdict.specs.Events as event
+use Rattle.ll_verdict.specs.Verdict.{Request, at_once, held, reply, reply_of}
+use Rattle.ll_verdict.specs.declared.reply.Reply as verdict
+use Rattle.ll_verdict.specs.declared.reply.Settled.{Settled}
+use Rattle.ll_verdict.proofs.ListLemmas.{each-append}
+use Rattle.ll_wire.specs.declared.answer.Answer.TheVariants as player
+use Rattle.ll_world.specs.World as rooms
+use Rattle.ll_world.specs.World.{Channel, World, first_due, with_event}
+use Rattle.ll_world.specs.declared.answer.Answer as answer
+use Rattle.ll_world.specs.declared.answer.Answer.TheVariants as said
+use Rattle.ll_world.proofs.TieLemmas.{equal, same_test}
+use Rattle.ll_world.proofs.WaitLemmas.{IsOpen, tick-open}
+use Rattle.ll_replay.specs.Script.{Script, Ending, act, heard, passed_on, passed_to, spelled, start, tick, turned}
+use Rattle.ll_script_laws.proofs.AskLemmas.{AreAsked, AskedBy, asked-at, asked-closes, asked-less, asked-stays, due-right}
+use Rattle.ll_script_laws.proofs.DueLemmas as due
+use Rattle.ll_script_laws.proofs.GrowLemmas.{Grows, answer-stays, answers-stay, declare-grows, event-grows, grows-same}
+use Rattle.ll_script_laws.proofs.ScriptLemmas.{lines-keep}
+use Rattle.ll_script_laws.proofs.ServeLemmas.{Serves, Keeps, ask-grows, asks-keep, came-serves, close-grows, clock-grows, none-keeps, offer-grows, reply-serves, same-asked, unanswered-same, unanswered_at}
+use Rattle.ll_script_laws.specs.Talks.{IsServed, Late, Faulty, Part, Refused, Said, Sent, Shut, StandsAt, TalksLaw, brought_by, part_text, sent_by}
+use Rattle.ll_script_laws.specs.Verdicts.{AreAnswered, IsAnswer, wants_of}
+
+-- ---- parts
+
+-- the answers of a turn, and whether the connection has shut
+abbrev shut_parts : Bool → ℕ → List Part
+shut_parts true n = Shut n ∷ []
+shut_parts false n = []
+
+abbrev turn_parts : ℕ → List (List ℕ) → Bool → List Part
+turn_parts n answers shut = map (λ bytes. Sent n bytes) answers ++ shut_parts shut n
+
+shut-text : (shut : Bool) (n : ℕ) → flat_map part_text (shut_parts shut n) ≡ shut_text shut n
+shut-text true n = append-nil (part_text (Shut n))
+shut-text false n = refl
+
+sent-text : (n : ℕ) (answers : List (List ℕ)) → flat_map part_text (map (λ bytes. Sent n bytes) answers) ≡ flat_map (sent_line n) answers
+sent-text n [] = refl
+sent-text n (a ∷ answers) = ap (λ t. sent_line n a ++ t) (sent-text n answers)
+
+turn-text : (n : ℕ) (answers : List (List ℕ)) (shut : Bool) → flat_map part_text (turn_parts n answers shut) ≡ flat_map (sent_line n) answers ++ shut_text shut n
+turn-text n answers shut =
+    flat_map-append part_text (map (λ bytes. Sent n bytes) answers) (shut_parts shut n) ∙ ap₂ (λ x y. x ++ y) (sent-text n answers) (shut-text shut n)
+
+shut-sent : (m n : ℕ) (shut : Bool) → flat_map (sent_by m) (shut_parts shut n) ≡ []
+shut-sent m n true = refl
+shut-sent m n false = refl
+
+own-sent : (m n : ℕ) (b : Bool) (answers : List (List ℕ)) → (n == m) ≡ b → flat_map (sent_by m) (map (λ bytes. Sent n bytes) answers) ≡ (if b then concat answers else [])
+own-sent m n true [] e = refl
+own-sent m n false [] e = refl
+own-sent m n true (a ∷ answers) e = ap₂ (λ x y. x ++ y) (ap (λ b. if b then a else []) e) (own-sent m n true answers e)
+own-sent m n false (a ∷ answers) e = ap₂ (λ x y. x ++ y) (ap (λ b. if b then a else []) e) (own-sent m n false answers e)
+
+turn-sent : (m n : ℕ) (b : Bool) (answers : List (List ℕ)) (shut : Bool) → (n == m) ≡ b
+    → flat_map (sent_by m) (turn_parts n answers shut) ≡ (if b then concat answers else [])
+turn-sent m n b answers shut e =
+    flat_map-append (sent_by m) (map (λ bytes. Sent n bytes) answers) (shut_parts shut n)
+    ∙ ap₂ (λ x y. x ++ y) (own-sent m n b answers e) (shut-sent m n shut) ∙ append-nil (if b then concat answers else [])
+
+said-text : (list : List answer.Answer) → flat_map part_text (map (λ a. Said a) list) ≡ flat_map spelled list
+said-text [] = refl
+said-text (a ∷ list) = ap (λ t. spelled a ++ t) (said-text list)
+
+said-sent : (m : ℕ) (list : List answer.Answer) → flat_map (sent_by m) (map (λ a. Said a) list) ≡ []
+said-sent m [] = refl
+said-sent m (a ∷ list) = said-sent m list
+
+-- ---- what holds after each act
+
+-- so much came on each connection, and these requests of it have no answer
+record Holds (came : ℕ → List ℕ) (un : ℕ → List WantValue) (w : Script) : Type 0 where
+  parts : List Part
+  text : w.text ≡ flat_map part_text parts
+  served : (n : ℕ) → IsServed w (came n) (flat_map (sent_by n) parts) n (un n)
+  asked : AreAsked un w.rooms.channels w.rooms.waits
+
+-- what changes nothing of a connection
+stays : (w v : Script) (came more sent text : List ℕ) (n : ℕ) (un : List WantValue) → more ≡ came → text ≡ sent → session_of n v.connections ≡ session_of n w.connections
+    → Grows w.rooms.channels v.rooms.channels → IsServed w came sent n un → IsServed v more text n un
+stays w v came more sent text n un is out at g t = record {
+  calls = t.calls;
+  untaken = t.untaken;
+  fed = is ∙ t.fed;
+  gone = out ∙ t.gone;
+  all_sent = t.all_sent;
+  stands = subst (λ o. StandsAt o (past t.calls) t.untaken) (sym at) t.stands;
+  answered = answers-stay w.rooms.channels v.rooms.channels g (wants_of (past t.calls).entries) (past t.calls).replies un t.answered;
+  is_out = t.is_out;
+}
+
+module _ (came : ℕ → List ℕ) (un : ℕ → List WantValue) (w v : Script) where
+  -- nothing comes to a connection, and this is written besides
+  adds : (more : List Part) → Holds came un w → v.connections ≡ w.connections → v.text ≡ w.text ++ flat_map part_text more
+      → ((m : ℕ) → flat_map (sent_by m) more ≡ []) → Grows w.rooms.channels v.rooms.channels → AreAsked un v.rooms.channels v.rooms.waits → Holds came un v
+  adds more h same text none g asked = record {
+    parts = h.parts ++ more;
+    text = text ∙ ap (λ t. t ++ flat_map part_text more) h.text ∙ sym (flat_map-append part_text h.parts more);
+    served = λ m.
+        let sent : flat_map (sent_by m) (h.parts ++ more) ≡ flat_map (sent_by m) h.parts =
+        flat_map-append (sent_by m) h.parts more ∙ ap (λ l. flat_map (sent_by m) h.parts ++ l) (none m) ∙ append-nil (flat_map (sent_by m) h.parts) in
+        stays w v (came m) (came m) (flat_map (sent_by m) h.parts) (flat_map (sent_by m) (h.parts ++ more)) m (un m) refl sent (ap (session_of m) same) g (h.served m);
+    asked = asked;
+  }
+
+heard-holds : (came : ℕ → List ℕ) (un : ℕ → List WantValue) (w : Script) (v : World) → Holds came un w → Grows w.rooms.channels v.channels
+    → AreAsked un v.channels v.waits → Holds came un (heard w v)
+heard-holds came un w v h g asked =
+    adds came un w (heard w v) (map (λ a. Said a) v.answers) h refl (ap (λ t. w.text ++ t) (sym (said-text v.answers))) (λ m. said-sent m v.answers) g asked
+
+says-holds : (came : ℕ → List ℕ) (un : ℕ → List WantValue) (w v : Script) (p : Part) → Holds came un w → v.connections ≡ w.connections → v.rooms ≡ w.rooms
+    → v.text ≡ w.text ++ part_text p → ((m : ℕ) → sent_by m p ≡ []) → Holds came un v
+says-holds came un w v p h same rooms text none =
+    adds came un w v (p ∷ []) h same (text ∙ ap (λ t. w.text ++ t) (sym (append-nil (part_text p)))) (λ m. append-nil (sent_by m p) ∙ none m)
+    (subst (λ (r : World). Grows w.rooms.channels r.channels) (sym rooms) (grows-same w.rooms.channels))
+    (subst (λ (r : World). AreAsked un r.channels r.waits) (sym rooms) h.asked)
+
+-- nothing more came
+nothing_more : (came other : ℕ → List ℕ) (un : ℕ → List WantValue) (w : Script) → ((n : ℕ) → other n ≡ came n) → Holds came un w → Holds other un w
+nothing_more came other un w same h = record {
+  parts = h.parts;
+  text = h.text;
+  served = λ n. stays w w (came n) (other n) (flat_map (sent_by n) h.parts) (flat_map (sent_by n) h.parts) n (un n) (same n) refl refl (grows-same w.rooms.channels) (h.served n);
+  asked = h.asked;
+}
+
+-- ---- turns
+
+abbrev and_on : ℕ → List ℕ → (ℕ → List ℕ) → ℕ → List ℕ
+and_on n piece came m = came m ++ (if n == m then piece else [])
+
+-- where a turn leaves a connection
+left_at : (b : Bool) (s : SessionValue) (p : Past) → p.session ≡ s → s.shut ≡ b → StandsAt (Some (if b then None else Some s)) p []
+left_at true s p e shut = tt
+left_at false s p e going = (e, going, refl)
+
+-- what a turn of a connection does, with what it keeps
+abbrev Visited : ℕ → (ℕ → List WantValue) → (ℕ → ℕ) → Script → Past → List ℕ → Visit → Type 0
+Visited n un counts w p piece v =
+    Talked n (Keeps n un w.rooms.channels counts) (none-keeps n un w.rooms.channels counts) (asks-keep n un w.rooms.channels counts) p piece w.connections v
+
+module _ (n : ℕ) (piece : List ℕ) (came : ℕ → List ℕ) (un : ℕ → List WantValue) (counts : ℕ → ℕ) (w : Script) (h : Holds came un w) (none : (h.served n).untaken ≡ []) (v : Visit)
+    (d : Visited n un counts w (past (h.served n).calls) piece v) where
+  abbrev after : Script
+  after = turned w (turn n w.connections v)
+
+  abbrev last : Past
+  last = fold called (past (h.served n).calls) d.talk.calls
+
+  abbrev more : List Part
+  more = turn_parts n d.talk.answers last.session.shut
+
+  abbrev own : List WantValue
+  own = d.kept.0.unanswered
+
+  all_parts : (m : ℕ) (b : Bool) → (n == m) ≡ b → flat_map (sent_by m) (h.parts ++ more) ≡ flat_map (sent_by m) h.parts ++ (if b then concat d.talk.answers else [])
+  all_parts m b e = flat_map-append (sent_by m) h.parts more ∙ ap (λ l. flat_map (sent_by m) h.parts ++ l) (turn-sent m n b d.talk.answers last.session.shut e)
+
+  own_served : IsServed after (and_on n piece came n) (flat_map (sent_by n) (h.parts ++ more)) n own
+  own_served =
+      let p = h.served n in
+      let all : past (p.calls ++ d.talk.calls) ≡ last = fold-append called before_any p.calls d.talk.calls in
+      let told : past (p.calls ++ d.talk.calls) ≡ called d.before (Send d.sent.0) = all ∙ d.sent.1 in
+      record {
+        calls = p.calls ++ d.talk.calls;
+        untaken = [];
+        fed =
+            ap (λ b. came n ++ (if b then piece else [])) (same_test n)
+            ∙ ap (λ l. l ++ piece) (p.fed ∙ ap (λ l. (past p.calls).fed ++ l) none ∙ append-nil (past p.calls).fed)
+            ∙ sym d.talk.fed ∙ sym (append-nil last.fed) ∙ ap (λ (q : Past). q.fed ++ []) (sym all);
+        gone = all_parts n true (same_test n) ∙ ap (λ l. l ++ concat d.talk.answers) p.gone ∙ sym d.talk.gone ∙ ap (λ (q : Past). q.gone) (sym all);
+        all_sent = ap (λ (q : Past). q.session.answers) all ∙ d.talk.sent;
+        stands =
+            subst (λ (c : Connections). StandsAt (session_of n c) (past (p.calls ++ d.talk.calls)) []) (sym d.talk.kept)
+            (subst (λ o. StandsAt o (past (p.calls ++ d.talk.calls)) []) (sym (found n (if last.session.shut then None else Some last.session) w.connections))
+            (left_at last.session.shut last.session (past (p.calls ++ d.talk.calls)) (ap (λ (q : Past). q.session) all) refl));
+        answered = subst (λ (q : Past). AreAnswered v.rooms.channels (wants_of q.entries) q.replies own) (sym told) d.kept.0.answered;
+        is_out = subst (λ (q : Past). q.session.shut ≡ false → length own ≡ outs q.session.out) (sym told) d.kept.0.count;
+      }
+
+  other_served : (m : ℕ) → (n == m) ≡ false → IsServed after (and_on n piece came m) (flat_map (sent_by m) (h.parts ++ more)) m (un m)
+  other_served m f =
+      stays w after (came m) (and_on n piece came m) (flat_map (sent_by m) h.parts) (flat_map (sent_by m) (h.parts ++ more)) m (un m)
+      (ap (λ b. came m ++ (if b then piece else [])) f ∙ append-nil (came m)) (all_parts m false f ∙ append-nil (flat_map (sent_by m) h.parts))
+      (kept_other n m (left v.session) w.connections f) d.kept.0.grows (h.served m)
+
+  served_by : (m : ℕ) (b : Bool) → (n == m) ≡ b → IsServed after (and_on n piece came m) (flat_map (sent_by m) (h.parts ++ more)) m (if b then own else un m)
+  served_by m true e = subst (λ k. IsServed after (and_on n piece came k) (flat_map (sent_by k) (h.parts ++ more)) k own) (equal n m e) own_served
+  served_by m false e = other_served m e
+
+  turned-holds : Holds (and_on n piece came) (unanswered_at n own un) after
+  turned-holds = record {
+    parts = h.parts ++ more;
+    text = ap₂ (λ x y. x ++ y) h.text (d.talk.text ∙ sym (turn-text n d.talk.answers last.session.shut)) ∙ sym (flat_map-append part_text h.parts more);
+    served = λ m. served_by m (n == m) refl;
+    asked = d.kept.0.asked;
+  }
+
+abbrev HoldsSome : (ℕ → List ℕ) → Script → Type 0
+HoldsSome came w = (un : ℕ → List WantValue) × Holds came un w
+
+-- ---- bytes come
+
+bytes-holds : (n : ℕ) (piece : List ℕ) (came : ℕ → List ℕ) (un : ℕ → List WantValue) (w : Script) → due.Holds w → Holds came un w
+    → HoldsSome (and_on n piece came) (turned w (connection.bytes n piece w.connections w.rooms))
+bytes-holds n piece came un w met h = by (session_of n w.connections) refl (h.served n).stands
+  where
+    counts : ℕ → ℕ
+    counts m = wants_out (session_of m w.connections)
+
+    goes : (s : SessionValue) → (past (h.served n).calls).session ≡ s → s.shut ≡ false → (h.served n).untaken ≡ [] → waiting_of n w.rooms.waits ≡ outs s.out
+        → HoldsSome (and_on n piece came) (turned w (turn n w.connections (arrived n piece (record { session = s; rooms = w.rooms }))))
+    goes s e going none own =
+        let v : Visit = record { session = s; rooms = w.rooms } in
+        let q = past (h.served n).calls in
+        let is_met : IsMet n (λ m. wants_out (session_of m w.connections)) v =
+        record { rooms = met.met.rooms; own = own; other = λ m f. met.met.matched m; sound = λ shut. absurd (true≢false (sym shut ∙ going)) } in
+        let serves : Serves n un w.rooms.channels w.rooms q = record {
+          unanswered = un n;
+          grows = grows-same w.rooms.channels;
+          answered = (h.served n).answered;
+          asked = same-asked un (unanswered_at n (un n) un) w.rooms.channels w.rooms.waits (λ m. unanswered-same n m (n == m) refl un) h.asked;
+          count = (h.served n).is_out;
+        } in
+        let K = Keeps n un w.rooms.channels (λ m. wants_out (session_of m w.connections)) in
+        let d =
+        bytes-talked n K (none-keeps n un w.rooms.channels (λ m. wants_out (session_of m w.connections))) (asks-keep n un w.rooms.channels (λ m. wants_out (session_of m w.connections)))
+        q s piece w.connections w.rooms e going
+        (came-serves n un w.rooms.channels piece v q serves, came-met n (λ m. wants_out (session_of m w.connections)) piece v is_met) in (
+          unanswered_at n d.kept.0.unanswered un,
+          turned-holds n piece came un (λ m. wants_out (session_of m w.connections)) w h none (arrived n piece v) d,
+        )
+
+    by : (o : Option (Option SessionValue)) → session_of n w.connections ≡ o → StandsAt o (past (h.served n).calls) (h.served n).untaken
+        → HoldsSome (and_on n piece came) (turned w (connection.bytes_to n piece w.connections w.rooms o))
+    by None e s = goes fresh s.0 refl s.1 (met.met.matched n ∙ ap wants_out e)
+    by (Some (Some x)) e s = goes x s.0 s.1 s.2 (met.met.matched n ∙ ap wants_out e)
+    by (Some None) e s = (
+      un,
+      record {
+        parts = h.parts;
+        text = append-nil w.text ∙ h.text;
+        served = λ m. untaken m (n == m) refl (h.served m);
+        asked = h.asked;
+      },
+    )
+      where
+        untaken : (m : ℕ) (b : Bool) → (n == m) ≡ b → IsServed w (came m) (flat_map (sent_by m) h.parts) m (un m)
+            → IsServed (turned w (connection.nothing w.connections w.rooms)) (came m ++ (if b then piece else [])) (flat_map (sent_by m) h.parts) m (un m)
+        untaken m true f t = record {
+          calls = t.calls;
+          untaken = t.untaken ++ piece;
+          fed = ap (λ l. l ++ piece) t.fed ∙ append_assoc (past t.calls).fed t.untaken piece;
+          gone = t.gone;
+          all_sent = t.all_sent;
+          stands = subst (λ o. StandsAt o (past t.calls) (t.untaken ++ piece)) (sym (ap (λ k. session_of k w.connections) (sym (equal n m f)) ∙ e)) tt;
+          answered = t.answered;
+          is_out = t.is_out;
+        }
+        untaken m false f t =
+            stays w (turned w (connection.nothing w.connections w.rooms)) (came m) (came m ++ []) (flat_map (sent_by m) h.parts) (flat_map (sent_by m) h.parts) m (un m)
+            (append-nil (came m)) refl refl (grows-same w.rooms.channels) t
+
+-- ---- a connection ends
+
+end-holds : (n : ℕ) (came : ℕ → List ℕ) (un : ℕ → List WantValue) (w : Script) → Holds came un w → Holds came un (turned w (connection.end n w.connections w.rooms))
+end-holds n came un w h = by (session_of n w.connections)
+  where
+    nothing : Holds came un (turned w (connection.nothing w.connections w.rooms))
+    nothing = adds came un w (turned w (connection.nothing w.connections w.rooms)) [] h refl refl (λ m. refl) (grows-same w.rooms.channels) h.asked
+
+    by : (o : Option (Option SessionValue)) → Holds came un (turned w (connection.end_of n w.connections w.rooms o))
+    by None = nothing
+    by (Some None) = nothing
+    by (Some (Some s)) = record {
+      parts = h.parts;
+      text = append-nil w.text ∙ h.text;
+      served = λ m. ended m (n == m) refl (h.served m);
+      asked = asked-closes un w.rooms (Connection n) h.asked;
+    }
+      where
+        ended : (m : ℕ) (b : Bool) → (n == m) ≡ b → IsServed w (came m) (flat_map (sent_by m) h.parts) m (un m)
+            → IsServed (turned w (connection.end_of n w.connections w.rooms (Some (Some s)))) (came m) (flat_map (sent_by m) h.parts) m (un m)
+        ended m true f t = record {
+          calls = t.calls;
+          untaken = t.untaken;
+          fed = t.fed;
+          gone = t.gone;
+          all_sent = t.all_sent;
+          stands =
+              subst (λ o. StandsAt o (past t.calls) t.untaken)
+              (sym (ap (λ k. session_of k (with_session n None w.connections)) (sym (equal n m f)) ∙ found n None w.connections)) tt;
+          answered =
+              answers-stay w.rooms.channels (rooms.close (Connection n) w.rooms).channels (close-grows w.rooms.channels w.rooms (Connection n) (grows-same w.rooms.channels))
+              (wants_of (past t.calls).entries) (past t.calls).replies (un m) t.answered;
+          is_out = t.is_out;
+        }
+        ended m false f t =
+            stays w (turned w (connection.end_of n w.connections w.rooms (Some (Some s)))) (came m) (came m) (flat_map (sent_by m) h.parts) (flat_map (sent_by m) h.parts) m (un m) refl refl
+            (kept_other n m None w.connections f) (close-grows w.rooms.channels w.rooms (Connection n) (grows-same w.rooms.channels)) t
+
+-- ---- a reply is due
+
+-- a reply was told to a connection, which still has the request out that it answers
+record Told (n : ℕ) (un : ℕ → List WantValue) (w : Script) (a : verdict.Reply) : Type 0 where
+  want : WantValue
+  out : un n ≡ want ∷ []
+  right : IsAnswer w.rooms.channels want (player.Reply a)
+  has : HasOut n w.connections
+  rooms : IsOpen w.rooms
+  none : waiting_of n w.rooms.waits ≡ 0
+  others : (m : ℕ) → (n == m) ≡ false → waiting_of m w.rooms.waits ≡ wants_out (session_of m w.connections)
+
+none_on : (n m : ℕ) (came : ℕ → List ℕ) (b : Bool) → came m ≡ came m ++ (if b then [] else [])
+none_on n m came true = sym (append-nil (came m))
+none_on n m came false = sym (append-nil (came m))
+
+reply-holds : (n : ℕ) (a : verdict.Reply) (came : ℕ → List ℕ) (un : ℕ → List WantValue) (w : Script) → Holds came un w → Told n un w a
+    → HoldsSome came (turned w (connection.reply n a w.connections w.rooms))
+reply-holds n a came un w h t =
+    let s = t.has.session in
+    let answer = player.Reply a in
+    let q = past (h.served n).calls in
+    let counts = λ (m : ℕ). wants_out (session_of m w.connections) in
+    let stands : StandsAt (Some (Some s)) q (h.served n).untaken = subst (λ o. StandsAt o q (h.served n).untaken) t.has.there (h.served n).stands in
+    let answered : AreAnswered w.rooms.channels (wants_of q.entries) q.replies (t.want ∷ []) =
+    subst (AreAnswered w.rooms.channels (wants_of q.entries) q.replies) t.out (h.served n).answered in
+    let out : outs q.session.out ≡ 1 =
+    sym ((h.served n).is_out (ap (λ (s : SessionValue). s.shut) stands.0 ∙ stands.1)) ∙ ap length t.out in
+    let serves =
+    reply-serves n un w.rooms.channels w.rooms q t.want answer (grows-same w.rooms.channels) answered t.right (un n)
+    (same-asked un (unanswered_at n (un n) un) w.rooms.channels w.rooms.waits (λ m. unanswered-same n m (n == m) refl un) h.asked) t.none out in
+    let is_met : IsMet n counts (record { session = replied s answer; rooms = w.rooms }) = record {
+      rooms = t.rooms;
+      own = t.none ∙ ap outs (sym (replied_out s answer));
+      other = t.others;
+      sound = λ shut. replied_out s answer;
+    } in
+    let d =
+    reply-talked n (Keeps n un w.rooms.channels counts) (none-keeps n un w.rooms.channels counts) (asks-keep n un w.rooms.channels counts) q s a w.connections w.rooms
+    stands.0 (serves, is_met) in
+    let now = unanswered_at n d.kept.0.unanswered un in
+    let v = released n a (record { session = s; rooms = w.rooms }) in
+    subst (λ o. HoldsSome came (turned w (connection.reply_to n a w.connections w.rooms o))) (sym t.has.there) (
+      now,
+      nothing_more (and_on n [] came) came now (turned w (turn n w.connections v)) (λ m. none_on n m came (n == m))
+          (turned-holds n [] came un counts w h stands.2 v d),
+    )
+
+tick-holds : (came : ℕ → List ℕ) (un : ℕ → List WantValue) (w : Script) (place : ℕ) → due.Holds w → Holds came un w → HoldsSome came (tick place w)
+tick-holds came un w place met h = by (rooms.tick place w.rooms) (due.ticks w.rooms place) (tick-open w.rooms place met.met.rooms)
+  where
+    told_by : (c : Channel) (r : Request) (x : Wait) (s : Settled) (o : Owner) → slice_get w.rooms.channels place ≡ Some c → first_due c.settings c.events ≡ Some r
+        → under place r.ticket w.rooms.waits ≡ Some x → reply c.settings c.events r ≡ Some s → x.owner ≡ o → IsOpen (due.told_in w.rooms place c r x s)
+        → HoldsSome came (passed_to o (reply_of s) (heard w (due.told_in w.rooms place c r x s)))
+    told_by c r x s o at is found told e tied = by o e
+      where
+        grows : Grows w.rooms.channels (due.told_in w.rooms place c r x s).channels
+        grows = event-grows w.rooms.channels place c (Collect r.ticket) at
+
+        hear : Holds came un (heard w (due.told_in w.rooms place c r x s))
+        hear =
+            heard-holds came un w (due.told_in w.rooms place c r x s) h grows
+            (asked-less un (due.told_in w.rooms place c r x s).channels place r.ticket w.rooms.waits
+            (asked-stays un w.rooms.channels (due.told_in w.rooms place c r x s).channels w.rooms.waits grows h.asked))
+
+        by : (o : Owner) → x.owner ≡ o → HoldsSome came (passed_to o (reply_of s) (heard w (due.told_in w.rooms place c r x s)))
+        by (Get id) e = (un, hear)
+        by (Connection n) e =
+            let a = subst (AskedBy un w.rooms.channels place r.ticket) e (asked-at un w.rooms.channels place r.ticket w.rooms.waits x h.asked found) in
+            reply-holds n (reply_of s) came un (heard w (due.told_in w.rooms place c r x s)) hear (record {
+              want = a.0;
+              out = a.2;
+              right =
+                  answer-stays w.rooms.channels (due.told_in w.rooms place c r x s).channels grows a.0 (player.Reply (reply_of s))
+                  (due-right w.rooms.channels place c a.0 r s at is told a.1);
+              has = due.asker n w.connections w.rooms place r.ticket x met.met found e;
+              rooms = tied;
+              none = due.own_gone n w.connections w.rooms place r.ticket x met.met found e;
+              others = λ m f. due.of_other m w.rooms place r.ticket x found (ap (λ o. is_same o (Connection m)) e ∙ f) ∙ met.met.matched m;
+            })
+
+    by : (v : World) → due.Ticks w.rooms place v → IsOpen v → HoldsSome came (fold passed_on (heard w v) v.answers)
+    by v (due.Nothing e) tied =
+        subst (λ (v : World). HoldsSome came (fold passed_on (heard w v) v.answers)) (sym e)
+        (subst (λ answers. HoldsSome came (fold passed_on (heard w w.rooms) answers)) (sym met.quiet)
+        (un, heard-holds came un w w.rooms h (grows-same w.rooms.channels) h.asked))
+    by v (due.Tells c r x s at is found told e) tied =
+        subst (λ (v : World). HoldsSome came (fold passed_on (heard w v) v.answers)) (sym e)
+        (subst (λ (answers : List answer.Answer). HoldsSome came (fold passed_on (heard w (due.told_in w.rooms place c r x s)) (answers ++ said.Replied x.owner (reply_of s) ∷ []))) (sym met.quiet)
+        (told_by c r x s x.owner at is found told refl (subst IsOpen e tied)))
+
+-- ---- acts
+
+ask-asked : (un : ℕ → List WantValue) (w : World) (id i : ℕ) (want : WantValue) → AreAsked un w.channels w.waits
+    → AreAsked un (rooms.ask (Get id) i want w).channels (rooms.ask (Get id) i want w).waits
+ask-asked un w id i want h = at (slice_get w.channels i) refl
+  where
+    by : (c : Channel) (o : Option verdict.Reply) → slice_get w.channels i ≡ Some c
+        → AreAsked un (rooms.asked w (Get id) i c want o).channels (rooms.asked w (Get id) i c want o).waits
+    by c (Some r) e = asked-stays un w.channels (slice_set w.channels i (with_event (event.Ask want) c)) w.waits (event-grows w.channels i c (event.Ask want) e) h
+    by c None e =
+        let cs = slice_set w.channels i (with_event (event.Ask want) c) in
+        each-append (λ (x : Wait). AskedBy un cs x.place x.ticket x.owner) w.waits ((record { owner = Get id; place = i; ticket = asks c.events + 1 }) ∷ [])
+        (asked-stays un w.channels cs w.waits (event-grows w.channels i c (event.Ask want) e) h) (tt, tt)
+
+    if-full : (c : Channel) (full : Bool) → slice_get w.channels i ≡ Some c
+        → AreAsked un (rooms.asked_if full w (Get id) i c want).channels (rooms.asked_if full w (Get id) i c want).waits
+    if-full c true e = h
+    if-full c false e = by c (at_once c.settings (held c.settings c.events) c.events want) e
+
+    at : (o : Option Channel) → slice_get w.channels i ≡ o → AreAsked un (rooms.ask_at w (Get id) i want o).channels (rooms.ask_at w (Get id) i want o).waits
+    at None e = h
+    at (Some c) e = if-full c (is_full (length c.events)) e
+
+abbrev after_act : Act → (ℕ → List ℕ) → ℕ → List ℕ
+after_act a came m = came m ++ brought_by m a
+
+module _ (came : ℕ → List ℕ) (un : ℕ → List WantValue) (w : Script) (met : due.Holds w) (h : Holds came un w) where
+  quiet : (a : Act) (v : Script) → ((m : ℕ) → brought_by m a ≡ []) → Holds came un v → HoldsSome (after_act a came) v
+  quiet a v none k = (un, nothing_more came (after_act a came) un v (λ m. ap (λ l. came m ++ l) (none m) ∙ append-nil (came m)) k)
+
+  same_waits : (v : World) → v.waits ≡ w.rooms.waits → Grows w.rooms.channels v.channels → AreAsked un v.channels v.waits
+  same_waits v same g = subst (AreAsked un v.channels) (sym same) (asked-stays un w.rooms.channels v.channels w.rooms.waits g h.asked)
+
+  act-holds : (a : Act) → HoldsSome (after_act a came) (act w a)
+  act-holds (Declare c) =
+      let v = rooms.declare c w.rooms in
+      let g = declare-grows w.rooms.channels (record { settings = c; events = [] }) in
+      quiet (Declare c) (heard w v) (λ m. refl) (heard-holds came un w v h g (same_waits v refl g))
+  act-holds (Offer i item) =
+      let v = rooms.offer i item w.rooms in
+      let g = offer-grows w.rooms.channels w.rooms i item (grows-same w.rooms.channels) in
+      quiet (Offer i item) (heard w v) (λ m. refl) (heard-holds came un w v h g (same_waits v (due.offer-same w.rooms i item) g))
+  act-holds (Refuse reason) = quiet (Refuse reason) (act w (Refuse reason)) (λ m. refl) (says-holds came un w (act w (Refuse reason)) (Refused reason) h refl refl refl (λ m. refl))
+  act-holds (Ask id i want) =
+      let v = rooms.ask (Get id) i want w.rooms in
+      quiet (Ask id i want) (act w (Ask id i want)) (λ m. refl)
+      (adds came un w (act w (Ask id i want)) (map (λ a. Said a) v.answers) h refl (ap (λ t. w.text ++ t) (sym (said-text v.answers))) (λ m. said-sent m v.answers)
+      (ask-grows w.rooms.channels w.rooms (Get id) i want (grows-same w.rooms.channels)) (ask-asked un w.rooms id i want h.asked))
+  act-holds (Answer id reason) =
+      quiet (Answer id reason) (act w (Answer id reason)) (λ m. refl) (says-holds came un w (act w (Answer id reason)) (Faulty id reason) h refl refl refl (λ m. refl))
+  act-holds (Close id) =
+      let v = rooms.close (Get id) w.rooms in
+      quiet (Close id) (heard w v) (λ m. refl)
+      (heard-holds came un w v h (close-grows w.rooms.channels w.rooms (Get id) (grows-same w.rooms.channels)) (asked-closes un w.rooms (Get id) h.asked))
+  act-holds (Clock i ms) =
+      let v = rooms.clock i ms w.rooms in
+      let g = clock-grows w.rooms.channels w.rooms i ms (grows-same w.rooms.channels) in
+      quiet (Clock i ms) (heard w v) (λ m. refl) (heard-holds came un w v h g (same_waits v (due.clock-same w.rooms i ms) g))
+  act-holds RefuseClock = quiet RefuseClock (act w RefuseClock) (λ m. refl) (says-holds came un w (act w RefuseClock) Late h refl refl refl (λ m. refl))
+  act-holds (Bytes n piece) = bytes-holds n piece came un w met h
+  act-holds (Drop n) = quiet (Drop n) (act w (Drop n)) (λ m. refl) (end-holds n came un w h)
+
+-- ---- all lines
+
+abbrev so_far : List Act → ℕ → List ℕ
+so_far list n = flat_map (brought_by n) list
+
+abbrev Always : List Act → Script → Type 0
+Always list w = due.Holds w × HoldsSome (so_far list) w
+
+one_more : (list : List Act) (w : Script) (a : Act) → Always list w → Always (list ++ a ∷ []) (act w a)
+one_more list w a h =
+    let k = act-holds (so_far list) h.1.0 w h.0 h.1.1 a in (
+      due.act-holds w a h.0,
+      (
+        k.0,
+        nothing_more (after_act a (so_far list)) (so_far (list ++ a ∷ [])) k.0 (act w a)
+            (λ n. flat_map-append (brought_by n) list (a ∷ []) ∙ ap (λ l. so_far list n ++ l) (append-nil (brought_by n a))) k.1,
+      ),
+    )
+
+same : (list : List Act) (w : Script) (lines : ℕ) (ending : Option Ending) → Always list w → Always list (record w { lines = lines; ending = ending })
+same list w lines ending h = (
+  due.same-holds w lines ending h.0,
+  (
+    h.1.0,
+    adds (so_far list) h.1.0 w (record w { lines = lines; ending = ending }) [] h.1.1 refl (sym (append-nil w.text)) (λ m. refl) (grows-same w.rooms.channels) h.1.1.asked,
+  ),
+)
+
+start-holds : Holds (λ n. []) (λ n. []) start
+start-holds = record {
+  parts = [];
+  text = refl;
+  served = λ n.
+      record { calls = []; untaken = []; fed = refl; gone = refl; all_sent = refl; stands = (refl, refl); answered = refl; is_out = λ going. refl };
+  asked = tt;
+}
+
+pub talks : TalksLaw
+talks ls =
+    let h =
+    lines-keep Always one_more (λ list w place h. (due.tick-holds place w h.0, tick-holds (so_far list) h.1.0 w place h.0 h.1.1)) same [] start ls
+    (due.start-holds, ((λ n. []), start-holds)) in
+    (h.1.1.parts, h.1.1.text, λ n. (h.1.0 n, h.1.1.served n))

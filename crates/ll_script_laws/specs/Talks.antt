@@ -1,0 +1,93 @@
+-- What comes and what is sent on each connection of a script.
+use Rattle.std.specs.Prelude.{◌≡◌, ℕ, ◌==◌, ◌||◌, List, [], ◌∷◌, ◌++◌, false, Option, Some, None, is_some, flat_map, fold, length, nat_lt, if◌then◌else◌}
+use Rattle.ll_connection.specs.Met.{outs}
+use Rattle.ll_connection.specs.Turn.{session_of}
+use Rattle.ll_directive.specs.Targets.{WantValue}
+use Rattle.ll_directive.specs.declared.fault.TargetFault.{TargetFault}
+use Rattle.ll_publish.specs.Refusals.{no_line}
+use Rattle.ll_publish.specs.declared.refusal.Refusal.{Refusal}
+use Rattle.ll_replay.specs.Script.{Script, line, longest_line, spelled, start}
+use Rattle.ll_script.specs.Answers.{clock_line, fault_line, sent_line, shut_line}
+use Rattle.ll_script.specs.Lines.{acts}
+use Rattle.ll_script.specs.declared.act.Act.{Act}
+use Rattle.ll_script.specs.declared.act.Act.TheVariants.{Bytes}
+use Rattle.ll_script.specs.declared.clock.ClockRefusal.TheVariants as refused
+use Rattle.ll_session.specs.Past.{Call, Past, past}
+use Rattle.ll_session.specs.Talk.{SessionValue, fresh}
+use Rattle.ll_world.specs.World.{all_settings}
+use Rattle.ll_world.specs.declared.answer.Answer as rooms
+use Rattle.ll_script_laws.specs.Verdicts.{AreAnswered, wants_of}
+
+-- one thing that a script writes
+pub data Part : Type 0 where
+  -- an answer on the connection of this number
+  Sent : ℕ → List ℕ → Part
+  -- the connection of this number has shut
+  Shut : ℕ → Part
+  -- what the rooms answer to anything else
+  Said : rooms.Answer → Part
+  -- a publisher's line is no item
+  Refused : Refusal → Part
+  -- the target of a `get` line of this number wants nothing
+  Faulty : ℕ → TargetFault → Part
+  -- a reading of the clock is too large
+  Late : Part
+
+abbrev pub part_text : Part → List ℕ
+part_text (Sent n bytes) = sent_line n bytes
+part_text (Shut n) = shut_line n
+part_text (Said a) = spelled a
+part_text (Refused reason) = no_line reason
+part_text (Faulty id fault) = fault_line id fault
+part_text Late = clock_line refused.ClockRange
+
+-- what is sent on the connection of this number
+abbrev pub sent_by : ℕ → Part → List ℕ
+sent_by n (Sent m bytes) = if m == n then bytes else []
+sent_by n other = []
+
+-- the bytes that come on the connection of this number
+abbrev pub brought_by : ℕ → Act → List ℕ
+brought_by n (Bytes m piece) = if m == n then piece else []
+brought_by n other = []
+
+abbrev pub listed : Option (List Act) → List Act
+listed None = []
+listed (Some list) = list
+
+-- the acts that a line makes happen after what the lines before it came to
+abbrev pub acts_in : Script → List ℕ → List Act
+acts_in w text =
+    if is_some w.ending || nat_lt longest_line (length text) then [] else listed (acts (all_settings w.rooms) w.last_id text)
+
+-- all acts of some lines
+abbrev pub acts_of : Script → List (List ℕ) → List Act
+acts_of w [] = []
+acts_of w (l ∷ lines) = acts_in w l ++ acts_of (line w l) lines
+
+-- where a connection stands after some calls; a connection that has ended takes no more bytes
+abbrev pub StandsAt : Option (Option SessionValue) → Past → List ℕ → Type 0
+StandsAt None p untaken = (p.session ≡ fresh) × (untaken ≡ [])
+StandsAt (Some None) p untaken = Unit
+StandsAt (Some (Some s)) p untaken = (p.session ≡ s) × (s.shut ≡ false) × (untaken ≡ [])
+
+-- All that came on a connection and all that was sent on it are those of calls on a session, of which `session_law` speaks. The answers that
+-- the session was given are right, each for the request at its place; the requests in this list have none.
+pub record IsServed (w : Script) (came sent : List ℕ) (n : ℕ) (unanswered : List WantValue) : Type 0 where
+  pub calls : List Call
+  pub untaken : List ℕ
+  pub fed : came ≡ (past calls).fed ++ untaken
+  pub gone : sent ≡ (past calls).gone
+  pub all_sent : (past calls).session.answers ≡ []
+  pub stands : StandsAt (session_of n w.connections) (past calls) untaken
+  pub answered : AreAnswered w.rooms.channels (wants_of (past calls).entries) (past calls).replies unanswered
+  -- at most one, which the session has out
+  pub is_out : (past calls).session.shut ≡ false → length unanswered ≡ outs (past calls).session.out
+
+-- For each script: its text is made of parts, and what came and what was sent on each connection are those of calls on a session, in which each
+-- request was answered right.
+abbrev pub TalksLaw : Type 0
+TalksLaw = (lines : List (List ℕ))
+    → (parts : List Part) × ((fold line start lines).text ≡ flat_map part_text parts)
+    × ((n : ℕ) → (unanswered : List WantValue)
+    × IsServed (fold line start lines) (flat_map (brought_by n) (acts_of start lines)) (flat_map (sent_by n) parts) n unanswered)
