@@ -153,6 +153,7 @@ impl Blanks {
         requires { self ≡ L.names }
         ensures channels { result.channels ≡ blank all_parts }
         ensures passes { result.passes ≡ blank all_parts }
+        ensures totals { (result.publishes ≡ 0) × (result.asks ≡ 0) }
     {
         let Blanks {
             channel_publishes,

@@ -1,6 +1,7 @@
 //! The totals of one quantity, as the channels and as the passes counted it.
-ghost use Rattle.std.specs.Prelude.{◌≡◌, ◌+◌, ◌<◌, MatchBool};
+ghost use Rattle.std.specs.Prelude.{◌≡◌, ◌+◌, ◌<◌, ◌^◌, ◌↔◌, IsFalse, MatchBool};
 
+use std::marker::Model;
 use std::sync::ledger::{Book, Ledger, Share};
 
 /// The most that a quantity is counted to.
@@ -12,14 +13,23 @@ pub struct Tally<C: Ledger, P: Ledger> {
     channels: Book<C>,
     passes: Book<P>,
     count: u64,
-    ghost counted: { count ≡ channels.total },
-    ghost equal: { channels.total ≡ passes.total },
+}
+
+impl<C: Ledger, P: Ledger> Model for Tally<C, P> {
+    ghost use Rattle.std.specs.Prelude.{◌≡◌, ◌≤◌, ◌^◌, ℕ};
+
+    ghost Value = { ℕ };
+
+    ghost view = { λ t. t.count };
+
+    ghost invariant = { λ t. (t.count ≡ t.channels.total) × (t.count ≡ t.passes.total) × (t.count ≤ 2 ^ 60) };
 }
 
 impl<C: Ledger, P: Ledger> Tally<C, P> {
     /// The totals of two ledgers in which nothing was counted.
     pub fn new(channels: Book<C>, passes: Book<P>) -> Tally<C, P>
         requires { (channels.total ≡ 0) × (passes.total ≡ 0) }
+        ensures { result ≡ 0 }
     {
         Tally {
             channels,
@@ -31,6 +41,8 @@ impl<C: Ledger, P: Ledger> Tally<C, P> {
     /// Adds 1 to a channel's share and to a pass's, unless as much was counted as is counted.
     pub fn count_one(&mut self, mine: &mut Share<C>, theirs: &mut Share<P>) -> bool
         requires { (0 < mine.old.parts) × (0 < theirs.old.parts) }
+        ensures short { IsFalse result ↔ (self.old ≡ 2 ^ 60) }
+        ensures total { MatchBool result (self.new ≡ self.old + 1) (self.new ≡ self.old) }
         ensures counted { MatchBool result ((mine.new.amount ≡ mine.old.amount + 1) × (theirs.new.amount ≡ theirs.old.amount + 1))
             ((mine.new.amount ≡ mine.old.amount) × (theirs.new.amount ≡ theirs.old.amount)) }
         ensures parts { (mine.new.parts ≡ mine.old.parts) × (theirs.new.parts ≡ theirs.old.parts) }
@@ -52,6 +64,7 @@ impl<C: Ledger, P: Ledger> Tally<C, P> {
     /// Takes back what [`Tally::count_one`] added.
     pub fn undo(&mut self, mine: &mut Share<C>, theirs: &mut Share<P>)
         requires { (0 < mine.old.amount) × (0 < theirs.old.amount) }
+        ensures total { self.new + 1 ≡ self.old }
         ensures mine { mine.new.amount + 1 ≡ mine.old.amount }
         ensures theirs { theirs.new.amount + 1 ≡ theirs.old.amount }
         ensures parts { (mine.new.parts ≡ mine.old.parts) × (theirs.new.parts ≡ theirs.old.parts) }
@@ -67,11 +80,13 @@ impl<C: Ledger, P: Ledger> Tally<C, P> {
         *count -= 1;
     }
 
-    /// The shares that have all parts have equal amounts.
+    /// The shares that have all parts have equal amounts, which are the total.
     pub fn compare(&mut self, all: &mut Share<C>, both: &mut Share<P>)
         requires { (all.old.parts ≡ C.parts) × (both.old.parts ≡ P.parts) }
         ensures equal { all.old.amount ≡ both.old.amount }
+        ensures total { self.old ≡ all.old.amount }
         ensures same { (all.new.amount ≡ all.old.amount) × (both.new.amount ≡ both.old.amount) }
+        ensures unchanged { self.new ≡ self.old }
     {
         self.channels.audit(all);
         self.passes.audit(both);

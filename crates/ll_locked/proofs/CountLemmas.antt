@@ -27,18 +27,19 @@ asks-after : (h h2 : Home) (es : List Event) (e : Event) → Stands h es → Sta
 asks-after h h2 es e st st2 = asks-is h2 (es ++ e ∷ []) st2 ∙ asks-snoc es e ∙ ap (λ n. counted n e) (sym (asks-is h es st))
 
 -- an event that is no item and no request
-pub as-counted : (h h2 : Home) (es : List Event) (e : Event) → Stands h es → Stands h2 (es ++ e ∷ []) → IsSame h h2
-    → taken h.settings (items h.settings es) e ≡ items h.settings es → counted h.asks e ≡ h.asks → IsAsCounted h h2
-as-counted h h2 es e st st2 same no_item no_request = record {
-  publishes = items-after h h2 es e st2 same ∙ ap length no_item ∙ sym (count-is h es st);
-  asks = asks-after h h2 es e st st2 ∙ no_request;
+pub as-counted : (r r2 : Recording) (es : List Event) (e : Event) → Stands r.room es → Stands r2.room (es ++ e ∷ []) → IsSame r.room r2.room
+    → taken r.room.settings (items r.room.settings es) e ≡ items r.room.settings es → counted r.room.asks e ≡ r.room.asks → IsAsCounted r r2
+as-counted r r2 es e st st2 same no_item no_request = record {
+  publishes = items-after r.room r2.room es e st2 same ∙ ap length no_item ∙ sym (count-is r.room es st);
+  asks = asks-after r.room r2.room es e st st2 ∙ no_request;
 }
 
 -- a request after a reading of the clock
-pub has-asked : (h h1 h2 : Home) (es : List Event) (w : WantValue) → IsAsCounted h h1 → Stands h1 es → Stands h2 (es ++ Ask w ∷ []) → IsSame h1 h2 → HasAsked h h2
-has-asked h h1 h2 es w clocked st1 st2 same = record {
-  publishes = items-after h1 h2 es (Ask w) st2 same ∙ sym (count-is h1 es st1) ∙ clocked.publishes;
-  asks = asks-after h1 h2 es (Ask w) st1 st2 ∙ ap (λ n. n + 1) clocked.asks;
+pub has-asked : (r r1 r2 : Recording) (es : List Event) (w : WantValue) → IsAsCounted r r1 → Stands r1.room es → Stands r2.room (es ++ Ask w ∷ []) → IsSame r1.room r2.room
+    → HasAsked r r2
+has-asked r r1 r2 es w clocked st1 st2 same = record {
+  publishes = items-after r1.room r2.room es (Ask w) st2 same ∙ sym (count-is r1.room es st1) ∙ clocked.publishes;
+  asks = asks-after r1.room r2.room es (Ask w) st1 st2 ∙ ap (λ n. n + 1) clocked.asks;
 }
 
 pub none_before : (a b : Option PublishFault) → first_refusal a b ≡ None → a ≡ None
@@ -49,7 +50,7 @@ taken_one c list i free = ap (λ o. if is_none o then list ++ i ∷ [] else list
 
 -- an item that no rule refuses
 pub has-published : (r r2 : Recording) (es : List Event) (i : Item) → IsRecorded r es → record_refusal r es i ≡ None → IsRecorded r2 (es ++ Publish i ∷ [])
-    → IsSame r.room r2.room → HasPublished r.room r2.room
+    → IsSame r.room r2.room → HasPublished r r2
 has-published r r2 es i recorded free more same =
     let c = r.room.settings in
     let allowed = none_before (refusal c (items c es) i) (full_by (is_full (length es))) (none_before (refusal_after c es i) (full_by (is_record_full r)) free) in

@@ -1,4 +1,6 @@
+pub mod AskLemmas
 pub mod CountLemmas
+pub mod FaultLemmas
 pub mod LastLemmas
 pub mod ParkedLemmas
 pub mod ToldLemmas

@@ -32,8 +32,9 @@ use Rattle.ll_verdict.specs.declared.reply.Settled.{Settled}
 use Rattle.ll_verdict.specs.declared.wanted.Wanted.{Wanted}
 use Rattle.ll_locked.proofs.CountLemmas.{asks-is, count-is, none_before}
 use Rattle.ll_locked.specs.Channel.{IsChannel, parked_for, ticket_at}
-use Rattle.ll_locked.specs.Section.{IsAsCounted, IsMet}
-use Rattle.ll_locked.specs.Told.{IsAccepted, IsAnswered, IsDecided, IsHeld}
+use Rattle.ll_locked.specs.Section.{IsAsCounted, IsMet, IsToldAfter}
+use Rattle.ll_locked.specs.Told.{HasToWait, IsAccepted, IsAnswered, IsDecidedIn, IsHeld}
+use Rattle.ll_locked.specs.declared.channel.Answer.TheVariants as told
 
 -- ---- items
 
@@ -49,8 +50,8 @@ accepted r es i seen n recorded free later is = record {
 -- ---- requests
 
 -- the room that was met is still met where no more was counted
-pub still-met : (h h1 : Home) (place : ℕ) (c : Configuration) (seen : ℕ) → IsAsCounted h h1 → IsSame h h1 → IsMet h place c seen → IsMet h1 place c seen
-still-met h h1 place c seen counts same met =
+pub still-met : (r r1 : Recording) (place : ℕ) (c : Configuration) (seen : ℕ) → IsAsCounted r r1 → IsSame r.room r1.room → IsMet r place c seen → IsMet r1 place c seen
+still-met r r1 place c seen counts same met =
     record { number = same.channel ∙ met.number; settings = same.settings ∙ met.settings; later = omega (arith, met.later, counts.publishes) }
 
 -- an answer at once
@@ -73,9 +74,10 @@ waiting_by h want o p e = record { reply = grind arith; channel = grind arith; t
 abbrev Answers : Home → WantValue → List Event → Asked → Type 0
 Answers h want events a = a ≡ room.asked h want (at_once h.settings (held h.settings events) events want)
 
-pub asks-now : (h : Home) (es : List Event) (place : ℕ) (c : Configuration) (seen : ℕ) (want : WantValue) (m : Mark Reply) → Stands h es → IsMet h place c seen
-    → Answers h want es (Now m) → (m.room ≡ place) × (number : ℕ) × (m.stamp ≡ stamp.Ask number want) × IsAnswered c want seen number m.value
-asks-now h es place c seen want m st met a =
+pub asks-now : (r : Recording) (es : List Event) (place : ℕ) (c : Configuration) (seen : ℕ) (want : WantValue) (m : Mark Reply) → Stands r.room es → IsMet r place c seen
+    → Answers r.room want es (Now m) → (m.room ≡ place) × (number : ℕ) × (m.stamp ≡ stamp.Ask number want) × IsAnswered c want seen number m.value
+asks-now r es place c seen want m st met a =
+    let h = r.room in
     let n = now_by h want (at_once h.settings (held h.settings es) es want) m a in
     rw (← met.settings) (
       n.room ∙ met.number,
@@ -83,6 +85,12 @@ asks-now h es place c seen want m st met a =
       n.stamp,
       record { events = es; answer = n.reply; number = ap (λ k. k + 1) (asks-is h es st); later = subst (λ k. seen ≤ k) (count-is h es st) met.later },
     )
+
+-- the same of every list of events that the room stands for
+pub tells-now : (h : Home) (es : List Event) (want : WantValue) (m : Mark Reply) → Stands h es → Answers h want es (Now m) → IsToldAfter h.settings es want (told.Now m)
+tells-now h es want m st a =
+    let n = now_by h want (at_once h.settings (held h.settings es) es want) m a in
+    (n.stamp ∙ ap (λ k. stamp.Ask (k + 1) want) (asks-is h es st), n.reply)
 
 -- ---- a request that is held: it is the last one that is open
 
@@ -119,14 +127,13 @@ pub record IsMade (h : Home) (r2 : Recording) (es : List Event) (want : WantValu
   pub newest : room.others a (tickets r2.room) ≡ tickets h
 
 -- what is kept and told of a request that is held
-pub record IsKept (h2 : Home) (p : Ticket) (c : Configuration) (want : WantValue) (seen : ℕ) : Type 0 where
+pub record IsKept (h2 : Home) (p : Ticket) (c : Configuration) (es : List Event) (want : WantValue) : Type 0 where
   pub entry : Entry
   pub found_it : found p.ticket h2.slots ≡ Some entry
-  pub held : IsHeld c want seen entry
+  pub waits : HasToWait c es want entry
 
-pub asks-held : (h : Home) (r2 : Recording) (es : List Event) (place : ℕ) (c : Configuration) (seen : ℕ) (want : WantValue) (p : Ticket) → Stands h es
-    → IsMet h place c seen → IsMade h r2 es want (Held p) → IsKept r2.room p c want seen
-asks-held h r2 es place c0 seen want p st met made =
+pub asks-held : (h : Home) (r2 : Recording) (es : List Event) (want : WantValue) (p : Ticket) → Stands h es → IsMade h r2 es want (Held p) → IsKept r2.room p h.settings es want
+asks-held h r2 es want p st made =
     let c = h.settings in
     let h2 = r2.room in
     let s = state_of c es in
@@ -143,20 +150,20 @@ asks-held h r2 es place c0 seen want p st met made =
       entry = slot.entry;
       found_it = ap (found p.ticket) slots
           ∙ newest_found p.ticket (tickets h) others slot ticket (ap (map ticket_in) (sym slots) ∙ made.opened) (ap (less p.ticket) (sym made.opened) ∙ made.newest);
-      held = rw (← met.settings) (record {
-        events = es;
-        answer = w.reply;
-        wanted = k.1;
-        number = refl;
-        seen = refl;
-        deadline = refl;
-        later = subst (λ n. seen ≤ n) (count-is h es st) met.later;
-      });
+      waits = record { answer = w.reply; wanted = k.1; number = refl; seen = refl; deadline = refl };
     }
 
-pub held-entry : (h2 : Home) (p : Ticket) (c : Configuration) (want : WantValue) (seen t : ℕ) (entry : Entry) → IsKept h2 p c want seen → t ≡ p.ticket
-    → Some entry ≡ found t h2.slots → IsHeld c want seen entry
-held-entry h2 p c want seen t entry k e is = let same : k.entry ≡ entry = cc in rw same at k.held
+-- the request that is found under the ticket is that one
+pub held-entry : (h2 : Home) (p : Ticket) (c : Configuration) (es : List Event) (want : WantValue) (t : ℕ) (entry : Entry) → IsKept h2 p c es want → t ≡ p.ticket
+    → Some entry ≡ found t h2.slots → HasToWait c es want entry
+held-entry h2 p c es want t entry k e is = let same : k.entry ≡ entry = cc in rw same at k.waits
+
+-- and the caller had seen no more
+pub asks-later : (r : Recording) (es : List Event) (place : ℕ) (c : Configuration) (seen : ℕ) (want : WantValue) (entry : Entry) → Stands r.room es → IsMet r place c seen
+    → HasToWait r.room.settings es want entry → IsHeld c want seen entry
+asks-later r es place c seen want entry st met w =
+    subst (λ c. IsHeld c want seen entry) met.settings
+    (record { events = es; waits = w; later = subst (λ n. seen ≤ n) (count-is r.room es st ∙ sym w.seen) met.later })
 
 -- the value of a request that is held lies beside the others
 pub kept-beside : (r r2 : Recording) (want : WantValue) (p : Ticket) (ps qs : List Ticket) (k : IsChannel r ps) → IsMade r.room r2 k.events want (Held p)
@@ -242,12 +249,12 @@ its_reply b None h = grind arith
 its_reply b (Some v) h = (v, refl)
 
 -- what is handed out for a ready request
-pub record IsHanded (h : Home) (entry : Entry) : Type 0 where
+pub record IsHanded (h : Home) (es : List Event) (entry : Entry) : Type 0 where
   pub answer : Settled
   pub got : room.collected h (ticket_at h.channel entry.ticket) ≡ Got (room.collected_at h entry.ticket answer)
-  pub decided : IsDecided h.settings entry (reply_of answer)
+  pub decided : IsDecidedIn h.settings es entry (reply_of answer)
 
-pub handed : (h : Home) (es : List Event) (entry : Entry) → Stands h es → option_map entry_in (find (is_ready_at entry.ticket) h.slots) ≡ Some entry → IsHanded h entry
+pub handed : (h : Home) (es : List Event) (entry : Entry) → Stands h es → option_map entry_in (find (is_ready_at entry.ticket) h.slots) ≡ Some entry → IsHanded h es entry
 handed h es entry st ready =
     let c = h.settings in
     let t = entry.ticket in
@@ -261,7 +268,6 @@ handed h es entry st ready =
       answer = v.0;
       got = rw (own, told);
       decided = record {
-        events = es;
         request = r.1;
         place = r.0;
         waited = r.2;
@@ -273,8 +279,8 @@ handed h es entry st ready =
     }
 
 -- what is handed out is its reply
-pub tried : (h : Home) (place : ℕ) (c : Configuration) (e : Entry) (m : Mark Reply) (k : IsHanded h e) → Got m ≡ Got (room.collected_at h e.ticket k.answer)
-    → h.channel ≡ place → h.settings ≡ c → (m.room ≡ place) × (m.stamp ≡ stamp.Collect e.ticket) × IsDecided c e m.value
-tried h place c e m k is here same =
+pub tried : (h : Home) (es : List Event) (place : ℕ) (c : Configuration) (e : Entry) (m : Mark Reply) (k : IsHanded h es e) → Got m ≡ Got (room.collected_at h e.ticket k.answer)
+    → h.channel ≡ place → h.settings ≡ c → (m.room ≡ place) × (m.stamp ≡ stamp.Collect e.ticket) × IsDecidedIn c es e m.value
+tried h es place c e m k is here same =
     let value : m ≡ room.collected_at h e.ticket k.answer = cc in
     rw (value, ← here, ← same) (refl, refl, k.decided)

@@ -1,20 +1,25 @@
 -- What the calls of one channel are told: each answer is the definitions' after some list of events of that channel.
-use Rattle.std.specs.Prelude.{◌≡◌, ◌≤◌, ◌<◌, ℕ, ◌+◌, ◌*◌, Bool, List, Some, None, length, slice_get}
+use Rattle.std.specs.Prelude.{◌≡◌, ◌≤◌, ◌<◌, ◌^◌, ℕ, ⊤, ◌+◌, ◌*◌, ◌||◌, Bool, List, Some, None, length, slice_get, true}
 use Rattle.ll_directive.specs.Targets.{WantValue}
 use Rattle.ll_item.specs.Settings.{Configuration}
 use Rattle.ll_item.specs.declared.item.Item.{Item}
 use Rattle.ll_record.specs.Chunk.{ChunkValue, IsChunk, IsFaithful}
-use Rattle.ll_record.specs.Recording.{IsRecorded, Recording}
-use Rattle.ll_room.specs.Full.{full_by, refusal_after}
-use Rattle.ll_verdict.specs.Accepted.{first_refusal}
+use Rattle.ll_record.specs.Recording.{IsRecorded, Recording, is_record_full, record_refusal}
+use Rattle.ll_record.specs.declared.fault.ReadingFault.TheVariants as reading
+use Rattle.ll_room.specs.declared.fault.AskFault.TheVariants as unasked
+use Rattle.ll_room.specs.Full.{is_full, refusal_after}
 use Rattle.ll_verdict.specs.Events.{Event, asks, items, time}
-use Rattle.ll_verdict.specs.State.{slot_of}
+use Rattle.ll_verdict.specs.State.{open_requests, slot_of}
 use Rattle.ll_verdict.specs.Verdict as verdict
 use Rattle.ll_verdict.specs.Verdict.{Request, at_once, held, reply_of, wanted_of}
 use Rattle.ll_verdict.specs.declared.entry.Entry.{Entry}
 use Rattle.ll_verdict.specs.declared.fault.PublishFault.{PublishFault}
 use Rattle.ll_verdict.specs.declared.reply.Reply.{Reply}
 use Rattle.ll_verdict.specs.declared.reply.Settled.{Settled}
+use Rattle.ll_locked.specs.declared.fault.HubFault.{HubFault}
+use Rattle.ll_locked.specs.declared.fault.HubFault.TheVariants.{Room, Memory}
+use Rattle.ll_locked.specs.declared.fault.RoomFault.TheVariants as room
+use Rattle.ll_locked.specs.declared.total.Total.{Total}
 
 -- an item was accepted after some events, and this is how many were accepted with it; the caller had seen fewer
 pub record IsAccepted (c : Configuration) (item : Item) (seen count : ℕ) : Type 0 where
@@ -23,12 +28,37 @@ pub record IsAccepted (c : Configuration) (item : Item) (seen count : ℕ) : Typ
   pub counted : count ≡ length (items c events) + 1
   pub later : seen < count
 
--- an item was refused after some events; that the record holds as much as a record holds comes after the other rules
+-- an item was refused after some recorded events; that the record holds as much as a record holds comes after the other rules
 pub record IsRefused (c : Configuration) (item : Item) (seen : ℕ) (fault : PublishFault) : Type 0 where
+  pub recording : Recording
   pub events : List Event
-  pub full : Bool
-  pub refused : first_refusal (refusal_after c events item) (full_by full) ≡ Some fault
+  pub settings : recording.room.settings ≡ c
+  pub recorded : IsRecorded recording events
+  pub refused : record_refusal recording events item ≡ Some fault
   pub later : seen ≤ length (items c events)
+
+-- whether no request and no reading is taken any more: the record holds as much as a record holds, or the channel has taken as many events as it takes
+abbrev pub is_filled : Recording → Bool
+is_filled r = is_record_full r || is_full r.room.events
+
+-- the channel at this place was recorded until no request and no reading was taken any more
+pub record IsFilled (place : ℕ) (c : Configuration) : Type 0 where
+  pub recording : Recording
+  pub events : List Event
+  pub number : recording.room.channel ≡ place
+  pub settings : recording.room.settings ≡ c
+  pub recorded : IsRecorded recording events
+  pub full : is_filled recording ≡ true
+
+-- why a request isn't made of the channel at this place, whose clock shows such readings
+abbrev pub IsAskRefused : (ℕ → Type 0) → ℕ → Configuration → HubFault → Type 0
+IsAskRefused shows place c (Room other (room.Ask unasked.RecordFull)) = (other ≡ place) × IsFilled place c
+IsAskRefused shows place c (Room other (room.Ask unasked.Memory)) = other ≡ place
+IsAskRefused shows place c (Room other (room.Clock reading.ClockRange)) = (other ≡ place) × (ms : ℕ) × shows ms × (2 ^ 60 < ms)
+IsAskRefused shows place c (Room other (room.Clock reading.RecordFull)) = (other ≡ place) × IsFilled place c
+IsAskRefused shows place c (Room other (room.Clock reading.Memory)) = other ≡ place
+IsAskRefused shows place c Memory = ⊤
+IsAskRefused shows place c fault = ⊥
 
 -- a request was answered at once after some events, as the request of this number; the caller had seen no more items
 pub record IsAnswered (c : Configuration) (want : WantValue) (seen ticket : ℕ) (reply : Reply) : Type 0 where
@@ -37,19 +67,22 @@ pub record IsAnswered (c : Configuration) (want : WantValue) (seen ticket : ℕ)
   pub number : ticket ≡ asks events + 1
   pub later : seen ≤ length (items c events)
 
--- a request has to wait after some events, as this one
-pub record IsHeld (c : Configuration) (want : WantValue) (known : ℕ) (entry : Entry) : Type 0 where
-  pub events : List Event
+-- a request has to wait after these events, as this one
+pub record HasToWait (c : Configuration) (events : List Event) (want : WantValue) (entry : Entry) : Type 0 where
   pub answer : at_once c (held c events) events want ≡ None
   pub wanted : wanted_of c want ≡ Some entry.wanted
   pub number : entry.ticket ≡ asks events + 1
   pub seen : entry.seen ≡ length (items c events)
   pub deadline : entry.deadline ≡ time events + 3000 * c.target
+
+-- a request has to wait after some events, as this one; the caller had seen no more items
+pub record IsHeld (c : Configuration) (want : WantValue) (known : ℕ) (entry : Entry) : Type 0 where
+  pub events : List Event
+  pub waits : HasToWait c events want entry
   pub later : known ≤ entry.seen
 
--- this request had to wait in some list of events, and this is what it gets by them
-pub record IsDecided (c : Configuration) (waiting : Entry) (reply : Reply) : Type 0 where
-  pub events : List Event
+-- this request had to wait in this list of events, and this is what it gets by them
+pub record IsDecidedIn (c : Configuration) (events : List Event) (waiting : Entry) (reply : Reply) : Type 0 where
   pub request : Request
   pub place : ℕ
   pub waited : slice_get (held c events) place ≡ Some request
@@ -57,6 +90,11 @@ pub record IsDecided (c : Configuration) (waiting : Entry) (reply : Reply) : Typ
   pub answer : Settled
   pub decided : verdict.reply c events request ≡ Some answer
   pub told : reply ≡ reply_of answer
+
+-- this request had to wait in some list of events, and this is what it gets by them
+pub record IsDecided (c : Configuration) (waiting : Entry) (reply : Reply) : Type 0 where
+  pub events : List Event
+  pub decided : IsDecidedIn c events waiting reply
 
 -- a record of some events of the channel is handed out: a check that was told the events before it finds it right, and goes on with these events
 pub record IsHandedOut (c : Configuration) (chunk : ChunkValue) : Type 0 where
@@ -66,3 +104,18 @@ pub record IsHandedOut (c : Configuration) (chunk : ChunkValue) : Type 0 where
   pub recorded : IsRecorded recording events
   pub text : IsChunk recording chunk
   pub faithful : IsFaithful recording events chunk
+
+-- this is what these events of a channel come to
+pub record IsTotalOf (c : Configuration) (events : List Event) (t : Total) : Type 0 where
+  pub publishes : t.publishes ≡ length (items c events)
+  pub asked : t.asks ≡ asks events
+  pub held : t.held ≡ length (open_requests c events)
+
+-- this is what some events come to that the channel at this place recorded
+pub record IsTotal (place : ℕ) (c : Configuration) (t : Total) : Type 0 where
+  pub recording : Recording
+  pub events : List Event
+  pub number : recording.room.channel ≡ place
+  pub settings : recording.room.settings ≡ c
+  pub recorded : IsRecorded recording events
+  pub total : IsTotalOf c events t

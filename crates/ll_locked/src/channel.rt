@@ -1,13 +1,16 @@
 //! What lies under a channel's lock. Each method is one locked section.
-ghost use Rattle.std.specs.Prelude.{◌≡◌, [], ℕ, List, IfErr, IfOk, None, Some, OnErr, OnOk, filter, find, length, option_map, position, true, if◌then◌else◌};
+ghost use Rattle.std.specs.Prelude.{◌≡◌, ◌+◌, ◌++◌, ◌∷◌, [], ℕ, List, IfErr, IfOk, IsErrOf, MatchBool, None, Some, OnErr, OnOk, filter, length, position, if◌then◌else◌};
 ghost use Rattle.std.specs.Bool.{Decides};
 ghost use Rattle.ll_book.specs.Waiting as waiting;
-ghost use Rattle.ll_book.specs.Waiting.{entry_in, found, is_ready_at};
+ghost use Rattle.ll_book.specs.Waiting.{found};
 ghost use Rattle.ll_locked.specs.Channel.{is_of, parked_for, ticket_at};
 ghost use Rattle.ll_locked.specs.Section as spec;
-ghost use Rattle.ll_locked.specs.Told.{IsAccepted, IsHandedOut};
+ghost use Rattle.ll_locked.specs.Told.{IsAccepted, IsAskRefused, IsFilled, IsHandedOut, IsTotal, IsTotalOf};
+ghost use Rattle.ll_record.specs.Chunk.{IsChunk, IsFaithful, emptied};
+ghost use Rattle.ll_record.specs.Recording.{GoesOn, IsRecorded};
 ghost use Rattle.ll_room.specs.Home.{AreDistinct, among, home, less};
 ghost use Rattle.ll_room.specs.declared.stamped.Stamp.TheVariants as stamp;
+ghost use Rattle.ll_verdict.specs.Events.{Event, Clock, Publish};
 ghost use Rattle.ll_verdict.specs.State.{state_of};
 
 use crate::clock::Clock;
@@ -57,12 +60,12 @@ pub struct Channel {
 }
 
 impl Model for Channel {
-    ghost use Rattle.ll_room.specs.Home.{Home};
+    ghost use Rattle.ll_record.specs.Recording.{Recording};
     ghost use Rattle.ll_locked.specs.Channel.{IsChannel};
 
-    ghost Value = { Home };
+    ghost Value = { Recording };
 
-    ghost view = { λ c. c.recorder.room };
+    ghost view = { λ c. c.recorder };
 
     ghost invariant = { λ c. IsChannel c.recorder c.parked.items };
 }
@@ -70,7 +73,8 @@ impl Model for Channel {
 impl Channel {
     /// The channel at this place, to which nothing has happened.
     pub fn new(alloc: Global, place: usize, settings: Settings) -> Result<Channel, AllocError>
-        ensures { IfOk result (λ c. c ≡ home place settings (state_of settings [])) }
+        ensures new { IfOk result (λ c. c ≡ record { room = home place settings (state_of settings []); at = 0; lines = []; calls = 0 }) }
+        ensures recorded { IfOk result (λ c. IsRecorded c []) }
     {
         Ok(Channel {
             recorder: Recorder::new(alloc, place as u64, settings)?,
@@ -80,25 +84,17 @@ impl Channel {
 
     /// How many replies are there that weren't collected.
     pub fn ready(&self) -> usize
-        ensures { result ≡ length (filter waiting.is_ready self.now.slots) }
+        ensures { result ≡ length (filter waiting.is_ready self.now.room.slots) }
     {
         self.recorder.room().ready()
-    }
-
-    /// Whether this is the channel that the caller knows.
-    fn is_known(&self, known: Known<'_>) -> bool
-        ensures { result ≡ true → (self.now.channel ≡ known.entry.place) × (self.now.settings ≡ known.entry.settings.now) }
-    {
-        let room = self.recorder.room();
-        room.channel() == known.place as u64 && is_same(room.settings(), known.settings)
     }
 
     /// Whether this is the channel that the caller knows, and has what the caller has seen.
     pub fn meet(&self, known: Known<'_>) -> Result<(), HubFault>
         ensures met { OnOk result (spec.IsMet self.now known.entry.place known.entry.settings.now known.entry.seen) }
-        ensures unmet { IfErr result (λ f. spec.IsUnmetBy known.entry.seen f) }
+        ensures unmet { IfErr result (λ f. spec.IsUnmetBy self.now known.entry.place known.entry.settings.now known.entry.seen f) }
     {
-        if !self.is_known(known) {
+        if !is_known(&self.recorder, known) {
             return Err(HubFault::Stranger);
         }
         let found = self.recorder.room().count();
@@ -116,6 +112,10 @@ impl Channel {
         requires { spec.IsMet self.old known.place known.settings.now known.seen }
         ensures room { IfOk result (λ n. (n.room ≡ known.entry.place) × (n.stamp ≡ stamp.Publish item)) }
         ensures accepted { IfOk result (λ n. IsAccepted known.entry.settings.now item known.entry.seen n.value) }
+        ensures count { IfOk result (λ n. n.value ≡ self.old.room.count + 1) }
+        ensures recorded { (events : List Event) → IsRecorded self.old events → OnOk result (IsRecorded self.new (events ++ Publish item ∷ [])) }
+        ensures goes_on { GoesOn self.old self.new }
+        ensures rule { (events : List Event) → IsRecorded self.old events → IfErr result (λ f. spec.IsRuleBy self.old events item f) }
         ensures refused { IfErr result (λ f. spec.IsPublishFaultBy known.entry.place known.entry.settings.now known.entry.seen item f) }
         ensures counted { OnOk result (spec.HasPublished self.old self.new) }
         ensures unchanged { OnErr result (self.new ≡ self.old) }
@@ -136,7 +136,10 @@ impl Channel {
     ) -> Result<Answer, HubFault>
         requires { spec.IsMet self.old known.place known.settings.now known.seen }
         ensures asked { IfOk result (λ a. spec.IsAskedBy known.entry.place known.entry.settings.now known.entry.seen want a) }
-        ensures refused { IfErr result (λ f. spec.IsAskFaultBy known.entry.place known.entry.seen f) }
+        ensures made { IfOk result (λ a. spec.IsMadeBy (C.shows clock.now) self.old self.new want a) }
+        ensures goes_on { GoesOn self.old self.new }
+        ensures refused { IfErr result (λ f. IsAskRefused (C.shows clock.now) known.entry.place known.entry.settings.now f) }
+        ensures fault { IfErr result (λ f. spec.IsAskFaultBy (C.shows clock.now) self.old self.new known.entry.place f) }
         ensures counted { OnOk result (spec.HasAsked self.old self.new) }
         ensures uncounted { OnErr result (spec.IsAsCounted self.old self.new) }
     {
@@ -165,8 +168,10 @@ impl Channel {
     pub fn collect(&mut self, known: Known<'_>, entry: Entry) -> Tried
         ensures tried { spec.IsTriedBy known.entry.place known.entry.settings.now entry result }
         ensures counts { spec.IsAsCounted self.old self.new }
+        ensures collected { spec.IsCollectedBy self.old self.new known.entry.place known.entry.settings.now entry result }
+        ensures goes_on { GoesOn self.old self.new }
     {
-        if !self.is_known(known) || !is_open(&self.recorder, entry) {
+        if !is_here(&self.recorder, known, entry) {
             return Tried::Stranger;
         }
         if !is_ready(&self.recorder, entry) {
@@ -184,9 +189,12 @@ impl Channel {
 
     /// Gives a held request up: it gets no reply. Answers whether it was held here.
     pub fn close(&mut self, known: Known<'_>, entry: Entry) -> bool
-        ensures { spec.IsAsCounted self.old self.new }
+        ensures counts { spec.IsAsCounted self.old self.new }
+        ensures closed { MatchBool result (spec.IsClosed self.old self.new known.entry.place known.entry.settings.now entry)
+            (spec.IsNotOpen self.old self.new known.entry.place known.entry.settings.now entry) }
+        ensures goes_on { GoesOn self.old self.new }
     {
-        if !self.is_known(known) || !is_open(&self.recorder, entry) {
+        if !is_here(&self.recorder, known, entry) {
             return false;
         }
         let Some(parked) = take(&mut self.parked, entry.ticket) else {
@@ -200,7 +208,12 @@ impl Channel {
 
     /// Tells the channel what its clock shows, in milliseconds.
     pub fn tick(&mut self, ms: u64) -> Result<(), ReadingFault>
-        ensures { spec.IsAsCounted self.old self.new }
+        ensures counts { spec.IsAsCounted self.old self.new }
+        ensures told { (events : List Event) → IsRecorded self.old events → OnOk result (IsRecorded self.new (events ++ Clock ms ∷ [])) }
+        ensures goes_on { GoesOn self.old self.new }
+        ensures refused { IfErr result (λ f. spec.IsReadingFault self.old ms f) }
+        ensures full { IsErrOf result ReadingFault.RecordFull → IsFilled self.old.room.channel self.old.room.settings }
+        ensures unchanged { OnErr result (self.new ≡ self.old) }
     {
         self.recorder.clock(ms)
     }
@@ -208,10 +221,16 @@ impl Channel {
     /// Hands out the record of the channel, and begins another.
     pub fn rotate(&mut self, known: Known<'_>) -> Result<Chunk, HubFault>
         ensures handed_out { IfOk result (λ k. IsHandedOut known.entry.settings.now k) }
-        ensures refused { IfErr result spec.IsRotateFault }
-        ensures same { self.new ≡ self.old }
+        ensures known { OnOk result (spec.IsAt self.old known.entry.place known.entry.settings.now) }
+        ensures chunk { IfOk result (λ k. IsChunk self.old k) }
+        ensures faithful { (events : List Event) → IsRecorded self.old events → IfOk result (λ k. IsFaithful self.old events k) }
+        ensures recorded { (events : List Event) → IsRecorded self.old events → OnOk result (IsRecorded self.new events) }
+        ensures emptied { OnOk result (self.new ≡ emptied self.old) }
+        ensures refused { IfErr result (λ f. spec.IsRotateFault self.old known.entry.place known.entry.settings.now f) }
+        ensures unchanged { OnErr result (self.new ≡ self.old) }
+        ensures same { self.new.room ≡ self.old.room }
     {
-        if !self.is_known(known) {
+        if !is_known(&self.recorder, known) {
             return Err(HubFault::Stranger);
         }
         match self.recorder.rotate() {
@@ -222,9 +241,11 @@ impl Channel {
 
     /// Closes what is held, and tells what the channel has come to.
     pub fn finish(self) -> Total
-        ensures publishes { result.publishes ≡ self.count }
-        ensures asks { result.asks ≡ self.asks }
-        ensures held { result.held ≡ length self.slots }
+        ensures publishes { result.publishes ≡ self.room.count }
+        ensures asks { result.asks ≡ self.room.asks }
+        ensures held { result.held ≡ length self.room.slots }
+        ensures of { (events : List Event) → IsRecorded self events → IsTotalOf self.room.settings events result }
+        ensures total { IsTotal self.room.channel self.room.settings result }
     {
         let Channel {
             mut recorder,
@@ -254,16 +275,31 @@ fn opened(recorder: &Recorder, ticket: u64) -> Option<Entry>
     recorder.room().open(ticket)
 }
 
+/// Whether this is the channel that the caller knows.
+fn is_known(recorder: &Recorder, known: Known<'_>) -> bool
+    ensures { Decides result (spec.IsAt recorder.now known.entry.place known.entry.settings.now) }
+{
+    let room = recorder.room();
+    room.channel() == known.place as u64 && is_same(room.settings(), known.settings)
+}
+
+/// Whether this request is open in the channel that the caller knows.
+fn is_here(recorder: &Recorder, known: Known<'_>, entry: Entry) -> bool
+    ensures { Decides result (spec.IsOpenAt recorder.now known.entry.place known.entry.settings.now entry) }
+{
+    is_known(recorder, known) && is_open(recorder, entry)
+}
+
 /// Whether this request is open.
 fn is_open(recorder: &Recorder, entry: Entry) -> bool
-    ensures { result ≡ true → found entry.ticket recorder.now.room.slots ≡ Some entry }
+    ensures { Decides result (found entry.ticket recorder.now.room.slots ≡ Some entry) }
 {
     opened(recorder, entry.ticket) == Some(entry)
 }
 
 /// Whether this request's reply is there.
 fn is_ready(recorder: &Recorder, entry: Entry) -> bool
-    ensures { result ≡ true → option_map entry_in (find (is_ready_at entry.ticket) recorder.now.room.slots) ≡ Some entry }
+    ensures { Decides result (spec.IsReady recorder.now entry) }
 {
     recorder.room().ready_at(entry.ticket) == Some(entry)
 }

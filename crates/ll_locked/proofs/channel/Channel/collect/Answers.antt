@@ -1,35 +1,41 @@
-use Rattle.std.proofs.Common.{◌≡◌, ◌∙◌, true, true≢false, refl, sym, subst, ap}
-use Rattle.ll_verdict.specs.Events.{Collect}
+use Rattle.std.proofs.Common.{◌≡◌, ◌∙◌, ◌++◌, ◌∷◌, [], List, true, true≢false, refl, sym, subst, ap}
+use Rattle.ll_record.specs.Recording.{IsRecorded}
+use Rattle.ll_room.specs.declared.stamped.Stamp.TheVariants as stamp
+use Rattle.ll_verdict.specs.Events.{Event, Collect}
+use Rattle.ll_verdict.specs.declared.reply.Reply.{Reply}
 use Rattle.ll_room.specs.Answers as room
-use Rattle.ll_room.specs.Home.{Home, less, tickets}
+use Rattle.ll_room.specs.Home.{less, tickets}
+use Rattle.ll_room.specs.Mark.{Mark}
 use Rattle.ll_room.specs.Ticket.{Ticket}
 use Rattle.ll_room.specs.declared.asked.Collected.TheVariants.{Got}
 use Rattle.ll_locked.proofs.CountLemmas.{as-counted}
 use Rattle.ll_locked.proofs.ToldLemmas.{IsHanded, among-ready, handed, left-beside, none-missing, the-value, tried}
 use Rattle.ll_locked.specs.Channel.{ticket_at}
 use Rattle.ll_locked.specs.Section.{IsAsCounted}
+use Rattle.ll_locked.specs.Told.{IsDecidedIn}
 use Rattle.ll_locked.proofs.channel.Channel.collect.Goals as goal
 use Rattle.ll_locked.proofs.channel.Channel.collect.Goals.{After-collect}
 
 -- the value that stands for the request is taken out
 its-value : (c : After-collect) → c.in-Some.parked ≡ ticket_at c.self.inside.recorder.room.channel c.args.entry.ticket
 its-value c =
-    the-value _ _ _ (among-ready _ c.self.inside.recorder.room.slots _ (c.if-not-is_ready.ensures refl))
+    the-value _ _ _ (among-ready _ c.self.inside.recorder.room.slots _ (c.if-not-is_ready.ensures.0 refl))
     (c.in-Some.ensures.value _ (tickets c.self.inside.recorder.room) c.self.invariant.distinct c.self.invariant.each)
 
 -- its reply is there, and is handed out
-reply : (c : After-collect) → IsHanded c.self.inside.recorder.room c.args.entry
-reply c = handed c.self.inside.recorder.room c.self.invariant.events c.args.entry c.self.invariant.recorded.stands (c.if-not-is_ready.ensures refl)
+reply : (c : After-collect) (es : List Event) → IsRecorded c.self.inside.recorder es → IsHanded c.self.inside.recorder.room es c.args.entry
+reply c es k = handed c.self.inside.recorder.room es c.args.entry k.stands (c.if-not-is_ready.ensures.0 refl)
 
-got : (c : After-collect) → c.collect.result ≡ Got (room.collected_at c.self.inside.recorder.room c.args.entry.ticket (reply c).answer)
-got c = c.collect.ensures.answer ∙ ap (room.collected c.self.inside.recorder.room) (its-value c) ∙ (reply c).got
+got : (c : After-collect) (es : List Event) (k : IsRecorded c.self.inside.recorder es)
+    → c.collect.result ≡ Got (room.collected_at c.self.inside.recorder.room c.args.entry.ticket (reply c es k).answer)
+got c es k = c.collect.ensures.answer ∙ ap (room.collected c.self.inside.recorder.room) (its-value c) ∙ (reply c es k).got
 
 is-got : (c : After-collect) → room.is_got c.collect.result ≡ true
-is-got c = ap room.is_got (got c)
+is-got c = ap room.is_got (got c c.self.invariant.events c.self.invariant.recorded)
 
 pub unreachable-requires : goal.unreachable-requires
 unreachable-requires c =
-    none-missing _ _ (among-ready _ c.self.inside.recorder.room.slots _ (c.if-not-is_ready.ensures refl))
+    none-missing _ _ (among-ready _ c.self.inside.recorder.room.slots _ (c.if-not-is_ready.ensures.0 refl))
     (sym c.in_default.is ∙ c.take.ensures.value _ (tickets c.self.inside.recorder.room) c.self.invariant.distinct c.self.invariant.each)
 
 pub unreachable-requires-in-Still : goal.unreachable-requires-in-Still
@@ -46,16 +52,29 @@ invariant_of-self c =
     (c.collect.ensures.fewer (is-got at) ∙ ap (λ (p : Ticket). less p.ticket (tickets c.self.inside.recorder.room)) (its-value at))
     (c.in-Some.ensures.left _ (tickets c.self.inside.recorder.room) c.self.invariant.distinct c.self.invariant.each)
 
+-- what is told of it by any events that are recorded
+told : (c : After-collect) (m : Mark Reply) → Got m ≡ c.collect.result → (es : List Event) → IsRecorded c.self.inside.recorder es
+    → (m.room ≡ c.args.known.place) × (m.stamp ≡ stamp.Collect c.args.entry.ticket) × IsDecidedIn c.args.known.settings.now es c.args.entry m.value
+told c m is es k =
+    let here = c.if-not-is_here.ensures.0 refl in
+    tried c.self.inside.recorder.room es _ _ c.args.entry m (reply c es k) (is ∙ got c es k) here.number here.settings
+
 pub returns-clause-tried : goal.returns-clause-tried
 returns-clause-tried c =
-    let at = (goal.at.returns-clause-tried c).After-collect in
-    let known = c.if-not-is_known.ensures refl in
-    tried c.self.inside.recorder.room _ _ c.args.entry c.in-Got.reply (reply at) (sym c.in-Got.is ∙ got at) (ap (λ (h : Home). h.channel) c.self.view_is ∙ known.0)
-    (ap (λ (h : Home). h.settings) c.self.view_is ∙ known.1)
+    let t = told (goal.at.returns-clause-tried c).After-collect c.in-Got.reply (sym c.in-Got.is) c.self.invariant.events c.self.invariant.recorded in
+    (t.0, t.1, record { events = c.self.invariant.events; decided = t.2 })
+
+pub returns-clause-collected : goal.returns-clause-collected
+returns-clause-collected c es recorded =
+    let at = (goal.at.returns-clause-collected c).After-collect in
+    let before = subst (λ r. IsRecorded r es) (sym c.self.view_is) recorded in (
+      subst (λ (p : Ticket). IsRecorded c.collect.new.self (es ++ Collect p.ticket ∷ [])) (its-value at) (c.collect.ensures.handed (is-got at) es before),
+      (told at c.in-Got.reply (sym c.in-Got.is) es before).2,
+    )
 
 pub returns-clause-counts : goal.returns-clause-counts
 returns-clause-counts c =
     let at = (goal.at.returns-clause-counts c).After-collect in
-    subst (λ h. IsAsCounted h c.collect.new.self.room) c.self.view_is
-    (as-counted c.self.inside.recorder.room c.collect.new.self.room c.self.invariant.events (Collect c.in-Some.parked.ticket) c.self.invariant.recorded.stands
+    subst (λ r. IsAsCounted r c.collect.new.self) c.self.view_is
+    (as-counted c.self.inside.recorder c.collect.new.self c.self.invariant.events (Collect c.in-Some.parked.ticket) c.self.invariant.recorded.stands
     (c.collect.ensures.handed (is-got at) c.self.invariant.events c.self.invariant.recorded).stands c.collect.ensures.goes_on.same refl refl)

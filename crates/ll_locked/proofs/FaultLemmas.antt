@@ -1,0 +1,38 @@
+-- Why a channel refuses a reading or a request, and what that says of the recorded events.
+use Rattle.std.proofs.Common.{◌≡◌, ◌≤◌, ◌<◌, ◌^◌, ℕ, List, true, false, Err, refl}
+use Rattle.std.specs.Prelude.{IsErrOf}
+use Rattle.ll_item.specs.Settings.{Configuration}
+use Rattle.ll_record.specs.Recording.{Recording}
+use Rattle.ll_record.specs.declared.fault.ReadingFault.{ReadingFault}
+use Rattle.ll_record.specs.declared.fault.ReadingFault.TheVariants as reading
+use Rattle.ll_room.specs.declared.fault.AskFault.{AskFault}
+use Rattle.ll_room.specs.declared.fault.AskFault.TheVariants as unasked
+use Rattle.ll_locked.specs.Channel.{IsChannel}
+use Rattle.ll_locked.specs.Section.{IsReadingFault, IsRequestFault}
+use Rattle.ll_locked.specs.Told.{IsAskRefused, IsFilled, is_filled}
+use Rattle.ll_locked.specs.declared.fault.HubFault.TheVariants.{Room}
+use Rattle.ll_locked.specs.declared.fault.RoomFault.TheVariants as room
+use Rattle.ll_room.specs.Ticket.{Ticket}
+
+-- a channel that takes no request and no reading any more
+pub filled : (r : Recording) (ps : List Ticket) (place : ℕ) (c : Configuration) → IsChannel r ps → r.room.channel ≡ place → r.room.settings ≡ c → is_filled r ≡ true → IsFilled place c
+filled r ps place c k number settings full =
+    record { recording = r; events = k.events; number = number; settings = settings; recorded = k.recorded; full = full }
+
+pub reading-fault : {T : Type 0} (r : Recording) (ms : ℕ) (f : ReadingFault) → (IsErrOf {T = T} (Err f) reading.ClockRange → 2 ^ 60 < ms)
+    → (IsErrOf {T = T} (Err f) reading.RecordFull → (ms ≤ 2 ^ 60) × (is_filled r ≡ true)) → (IsErrOf {T = T} (Err f) reading.Memory → (ms ≤ 2 ^ 60) × (is_filled r ≡ false))
+    → IsReadingFault r ms f
+reading-fault r ms reading.ClockRange range full memory = range refl
+reading-fault r ms reading.RecordFull range full memory = full refl
+reading-fault r ms reading.Memory range full memory = memory refl
+
+pub request-fault : {T : Type 0} (r : Recording) (f : AskFault) → (IsErrOf {T = T} (Err f) unasked.RecordFull → is_filled r ≡ true)
+    → (IsErrOf {T = T} (Err f) unasked.Memory → is_filled r ≡ false) → IsRequestFault r f
+request-fault r unasked.RecordFull full memory = full refl
+request-fault r unasked.Memory full memory = memory refl
+
+-- a request that is refused after a reading
+pub ask-refused : (shows : ℕ → Type 0) (place : ℕ) (c : Configuration) (r : Recording) (f : AskFault) → IsRequestFault r f → (is_filled r ≡ true → IsFilled place c)
+    → IsAskRefused shows place c (Room place (room.Ask f))
+ask-refused shows place c r unasked.RecordFull full so = (refl, so full)
+ask-refused shows place c r unasked.Memory full so = refl
