@@ -5,6 +5,7 @@ pub mod DueLemmas
 pub mod GrowLemmas
 pub mod ItemTexts
 pub mod LawProofs
+pub mod OrderLemmas
 pub mod PieceLemmas
 pub mod ReplyLemmas
 pub mod ScriptLemmas

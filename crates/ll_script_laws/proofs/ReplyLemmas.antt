@@ -1,5 +1,5 @@
 -- What a request gets is the playlist that it wants, of its own moment or of a later one.
-use Rattle.std.proofs.Common.{◌≡◌, ℕ, ◌+◌, ◌<◌, ◌&&◌, ◌||◌, List, [], ◌∷◌, ◌++◌, Bool, true, false, Option, Some, None, length, length-append, refl, ap, sym, subst, ◌∙◌, append_assoc, arith, bytes_eq, nat_le, nat_lt, if◌then◌else◌, option_map, option_and_then}
+use Rattle.std.proofs.Common.{◌≡◌, ℕ, ◌+◌, ◌<◌, ◌&&◌, ◌||◌, List, [], ◌∷◌, ◌++◌, Bool, true, false, Option, Some, None, length, length-append, refl, ap, sym, subst, ◌∙◌, append-nil, append_assoc, arith, bytes_eq, nat_le, nat_lt, if◌then◌else◌, option_map, option_and_then}
 use Rattle.std.proofs.lemmas.Bool.Decides.{nat_tests}
 use Rattle.std.proofs.lemmas.List.Quantifiers.{position-Some}
 use Rattle.ll_directive.specs.Targets.{WantValue}
@@ -7,7 +7,7 @@ use Rattle.ll_item.specs.Items.{rendition_named}
 use Rattle.ll_item.specs.Settings.{Configuration}
 use Rattle.ll_page.specs.Page.{Paged}
 use Rattle.ll_verdict.specs.Events.{Event, Publish, Ask, Collect, Close, Clock, Step, asks, items, until}
-use Rattle.ll_verdict.specs.Verdict.{Request, at_once, closes, comes_after, decided, far, held, held_by, hold_by, is_close, is_there, page_of, reply, reply_at_step, reply_by, settles, waiting, wanted_at, wanted_of}
+use Rattle.ll_verdict.specs.Verdict.{Request, at_once, closes, comes_after, decided, far, held, held_by, hold_by, is_close, is_there, page_of, reply, reply_at_step, reply_by, reply_of, settles, waiting, wanted_at, wanted_of}
 use Rattle.ll_verdict.specs.declared.reply.Reply.{Reply}
 use Rattle.ll_verdict.specs.declared.reply.Reply.TheVariants.{Busy, TooFar}
 use Rattle.ll_verdict.specs.declared.reply.Reply.TheVariants as now
@@ -17,7 +17,10 @@ use Rattle.ll_verdict.proofs.LawProofs.{first_state}
 use Rattle.ll_verdict.proofs.ListLemmas.{Each, each-append, each-map}
 use Rattle.ll_verdict.proofs.StepLemmas.{along, held-snoc}
 use Rattle.ll_window.specs.Segments.{own}
-use Rattle.ll_script_laws.specs.Laws.{AtOnceLaw, IsWanted, LaterLaw}
+use Rattle.ll_script_laws.specs.Laws.{AtOnceLaw, IsWanted, LaterLaw, VerdictLaw}
+use Rattle.ll_script_laws.specs.Verdicts.{later_by}
+use Rattle.std.specs.Option.{option_or}
+use Rattle.ll_verdict.specs.declared.reply.Settled.{Settled}
 use Rattle.ll_script_laws.proofs.ChannelLemmas.{each-at}
 
 -- what is wanted is of a rendition of the channel
@@ -138,3 +141,33 @@ by_decision c events r page (Some s) e asked h =
 pub later : LaterLaw
 later c events place r page h e =
     by_decision c events r page (decided c events r) refl (each-at (IsAsked c events) (held c events) place r (held_asked c events) h) e
+
+-- ---- a verdict
+
+text-settled : (page : Paged) (o : Option Settled) → option_map reply_of o ≡ Some (now.Text page) → o ≡ Some (Text page)
+text-settled page None h = cc
+text-settled page (Some (Text p)) h = cc
+text-settled page (Some Timeout) h = cc
+
+pub verdicts : VerdictLaw
+verdicts c before rest want page h = by (at_once c (held c before) before want) (wanted_of c want) refl refl h
+  where
+    by : (o : Option Reply) (w : Option Wanted) → at_once c (held c before) before want ≡ o → wanted_of c want ≡ w
+        → option_or o (later_by c (before ++ Ask want ∷ rest) before w) ≡ Some (now.Text page)
+        → (a : Wanted) × (since : List Event) × (after : List Event) × (before ++ Ask want ∷ rest ≡ (before ++ since) ++ after) × (wanted_of c want ≡ Some a)
+        × IsWanted c (before ++ since) a page
+    by (Some x) w e f h =
+        let t = at-once c (held c before) before want page (e ∙ h) in (
+          t.0,
+          [],
+          Ask want ∷ rest,
+          ap (λ l. l ++ Ask want ∷ rest) (sym (append-nil before)),
+          t.1,
+          subst (λ es. IsWanted c es t.0 page) (sym (append-nil before)) t.2,
+        )
+    by None None e f h = cc
+    by None (Some a) e f h =
+        let r : Request = record { ticket = asks before + 1; wanted = a; before = before } in
+        let events = before ++ Ask want ∷ rest in
+        let t = by_decision c events r page (decided c events r) refl (want, rest, refl, f, refl) (text-settled page (reply c events r) h) in
+        (a, Ask t.0 ∷ t.1, t.2, t.3, f, t.5)

@@ -2,6 +2,7 @@
 use Rattle.std.specs.Prelude.{◌≡◌, ℕ, ◌+◌, ◌≤◌, ◌<◌, List, [], ◌∷◌, ◌++◌, Option, Some, Ok, true, is_some, fold, length, slice_get}
 use Rattle.std.specs.Str.Lines.{lines}
 use Rattle.ll_item.specs.Settings.{Configuration, IsWithin}
+use Rattle.ll_book.specs.Waiting.{IsRising, first_ready, is_ready}
 use Rattle.ll_directive.specs.Targets.{WantValue}
 use Rattle.ll_window.specs.Segments.{own, end_time}
 use Rattle.ll_window.specs.Window.{skip_limit}
@@ -21,7 +22,9 @@ use Rattle.ll_session.specs.Talk.{SessionValue}
 use Rattle.ll_connection.specs.Met.{AreMatched}
 use Rattle.ll_connection.specs.Turn.{Connections, session_of}
 use Rattle.ll_verdict.specs.Events.{Event, Ask, items}
+use Rattle.ll_verdict.specs.State.{state_of}
 use Rattle.ll_verdict.specs.Verdict.{Request, at_once, held, reply, wanted_of}
+use Rattle.ll_verdict.specs.declared.entry.Slot.{Slot}
 use Rattle.ll_verdict.specs.declared.reply.Reply.TheVariants as now
 use Rattle.ll_verdict.specs.declared.reply.Settled.TheVariants.{Text}
 use Rattle.ll_verdict.specs.declared.wanted.Wanted.{Wanted}
@@ -29,6 +32,7 @@ use Rattle.ll_world.specs.World.{Channel, first_due, repeat}
 use Rattle.ll_replay.specs.Stream.{script, world_of}
 use Rattle.ll_replay.specs.Script.{Script, act, done, line, longest_line, start, tick}
 use Rattle.ll_apply.specs.Texts.{applied_text}
+use Rattle.ll_script_laws.specs.Verdicts.{verdict}
 use Rattle.ll_laws.specs.Published.{ArePublished}
 
 -- the playlist of a rendition in this form, after these events of its channel
@@ -71,6 +75,11 @@ LaterLaw = (c : Configuration) (events : List Event) (place : ℕ) (r : Request)
     → (want : WantValue) × (between : List Event) × (later : List Event) × (events ≡ (r.before ++ Ask want ∷ between) ++ later)
     × (wanted_of c want ≡ Some r.wanted) × IsWanted c (r.before ++ Ask want ∷ between) r.wanted page
 
+-- A text that is the verdict of a request is the playlist that it wants, of a moment of the channel that is not before it.
+abbrev pub VerdictLaw : Type 0
+VerdictLaw = (c : Configuration) (before later : List Event) (want : WantValue) (page : Paged) → verdict c (before ++ Ask want ∷ later) before want ≡ Some (now.Text page)
+    → (a : Wanted) × (since : List Event) × (rest : List Event) × (before ++ Ask want ∷ later ≡ (before ++ since) ++ rest) × (wanted_of c want ≡ Some a) × IsWanted c (before ++ since) a page
+
 -- a line says, wherever it stands, that these bytes came on the connection of this number
 abbrev pub Brings : ℕ → List ℕ → List ℕ → Type 0
 Brings n piece text = (channels : List Configuration) (last : Option ℕ) → acts channels last text ≡ Some (Bytes n piece ∷ [])
@@ -105,3 +114,12 @@ abbrev pub DueLaw : Type 0
 DueLaw = (before : List (List ℕ)) (list : List Act) (last : Act) (place n : ℕ)
     → FindsAsker (moment before list last place n)
     × AreMatched (moment before list last place n).rooms.waits (moment before list last place n).connections
+
+-- the open requests of a channel are kept in the order of their numbers
+abbrev pub OpenOrderLaw : Type 0
+OpenOrderLaw = (c : Configuration) (events : List Event) → IsRising 0 (state_of c events).slots
+
+-- of those whose reply is there, the first has the least number
+abbrev pub LeastReadyLaw : Type 0
+LeastReadyLaw = (c : Configuration) (events : List Event) (ticket place : ℕ) (s : Slot) → first_ready (state_of c events).slots ≡ Some ticket
+    → slice_get (state_of c events).slots place ≡ Some s → is_ready s ≡ true → ticket ≤ s.entry.ticket

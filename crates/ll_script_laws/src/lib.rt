@@ -3,7 +3,7 @@
 //! draft-pantos-hls-rfc8216bis.
 #![tactic(auto)]
 
-ghost use Rattle.ll_script_laws.specs.Laws.{AtOnceLaw, DueLaw, LaterLaw, PiecesLaw, PlayersLaw, PublishedLaw};
+ghost use Rattle.ll_script_laws.specs.Laws.{AtOnceLaw, DueLaw, LaterLaw, LeastReadyLaw, OpenOrderLaw, PiecesLaw, PlayersLaw, PublishedLaw, VerdictLaw};
 ghost use Rattle.ll_script_laws.specs.Talks.{TalksLaw};
 
 /// For every input of `ll_replay::run`, at each moment of each of its channels: the settings are within their limits, and the items
@@ -22,10 +22,12 @@ pub fn players_law()
 
 /// Each text that a request of a channel gets is a playlist of which `players_law` speaks: in the form that the request asks for, of
 /// the rendition that it names, after all events of the channel up to some moment. `at_once` says it of a reply without waiting,
-/// where the moment is that of the request; `later` of the reply to a request that had to wait.
+/// where the moment is that of the request; `later` of the reply to a request that had to wait. `verdicts` says it of either, in the
+/// words in which `talks_law` tells what a connection's requests get.
 pub fn replies_law()
     ensures at_once { AtOnceLaw }
     ensures later { LaterLaw }
+    ensures verdicts { VerdictLaw }
 {}
 
 /// Scripts that differ only in how the bytes of neighbouring `bytes` lines of one connection are cut give the same text: two such
@@ -41,7 +43,16 @@ pub fn due_law()
 {}
 
 /// What came and what was sent on each connection of a script are those of calls on one session: so, by `session_law` of `ll_session`, each
-/// connection is sent the answers to the requests in its bytes, in their order, and nothing else.
+/// connection is sent the answers to the requests in its bytes, in their order, and nothing else. And each answer is right for the request
+/// at its place: it is the channel's verdict of that request, or the channel had taken as many events as it takes, or no channel had the
+/// name. At most one request has no answer: the one that the session has out, or that was given up.
 pub fn talks_law()
     ensures { TalksLaw }
+{}
+
+/// The open requests of a channel are kept in the order of their numbers, whatever happened; so the first whose reply is there is the one
+/// that was made first.
+pub fn least_ready_law()
+    ensures order { OpenOrderLaw }
+    ensures least { LeastReadyLaw }
 {}

@@ -1,5 +1,5 @@
 -- The laws have a file of their own.
-use Rattle.ll_script_laws.proofs.ReplyLemmas.{at-once, later}
+use Rattle.ll_script_laws.proofs.ReplyLemmas.{at-once, later, verdicts}
 use Rattle.ll_script_laws.proofs.replies_law.Goals as goal
 
 pub returns-clause-at_once : goal.returns-clause-at_once
@@ -7,3 +7,6 @@ returns-clause-at_once c = at-once
 
 pub returns-clause-later : goal.returns-clause-later
 returns-clause-later c = later
+
+pub returns-clause-verdicts : goal.returns-clause-verdicts
+returns-clause-verdicts c = verdicts
