@@ -5,6 +5,7 @@ use Rattle.ll_item.specs.Settings.{Configuration}
 use Rattle.ll_item.specs.declared.item.Item.{Item}
 use Rattle.ll_record.specs.Chunk.{ChunkValue, IsChunk, IsFaithful}
 use Rattle.ll_record.specs.Recording.{IsRecorded, Recording, is_record_full, record_refusal}
+use Rattle.ll_record.specs.declared.fault.ReadingFault.{ReadingFault}
 use Rattle.ll_record.specs.declared.fault.ReadingFault.TheVariants as reading
 use Rattle.ll_room.specs.declared.fault.AskFault.TheVariants as unasked
 use Rattle.ll_room.specs.Full.{is_full, refusal_after}
@@ -59,6 +60,12 @@ IsAskRefused shows place c (Room other (room.Clock reading.RecordFull)) = (other
 IsAskRefused shows place c (Room other (room.Clock reading.Memory)) = other ≡ place
 IsAskRefused shows place c Memory = ⊤
 IsAskRefused shows place c fault = ⊥
+
+-- why a reading is refused: the first of these; where a record is full, that of some channel is
+abbrev pub IsReadingRefused : ℕ → ReadingFault → Type 0
+IsReadingRefused ms reading.ClockRange = 2 ^ 60 < ms
+IsReadingRefused ms reading.RecordFull = (ms ≤ 2 ^ 60) × (place : ℕ) × (c : Configuration) × IsFilled place c
+IsReadingRefused ms reading.Memory = ms ≤ 2 ^ 60
 
 -- a request was answered at once after some events, as the request of this number; the caller had seen no more items
 pub record IsAnswered (c : Configuration) (want : WantValue) (seen ticket : ℕ) (reply : Reply) : Type 0 where

@@ -1,11 +1,11 @@
 //! What lies under a channel's lock. Each method is one locked section.
-ghost use Rattle.std.specs.Prelude.{◌≡◌, ◌+◌, ◌++◌, ◌∷◌, [], ℕ, List, IfErr, IfOk, IsErrOf, MatchBool, None, Some, OnErr, OnOk, filter, length, position, if◌then◌else◌};
+ghost use Rattle.std.specs.Prelude.{◌≡◌, ◌+◌, ◌++◌, ◌∷◌, [], ℕ, List, IfErr, IfOk, MatchBool, None, Some, OnErr, OnOk, filter, length, position, if◌then◌else◌};
 ghost use Rattle.std.specs.Bool.{Decides};
 ghost use Rattle.ll_book.specs.Waiting as waiting;
 ghost use Rattle.ll_book.specs.Waiting.{found};
 ghost use Rattle.ll_locked.specs.Channel.{is_of, parked_for, ticket_at};
 ghost use Rattle.ll_locked.specs.Section as spec;
-ghost use Rattle.ll_locked.specs.Told.{IsAccepted, IsAskRefused, IsFilled, IsHandedOut, IsTotal, IsTotalOf};
+ghost use Rattle.ll_locked.specs.Told.{IsAccepted, IsAskRefused, IsHandedOut, IsReadingRefused, IsTotal, IsTotalOf};
 ghost use Rattle.ll_record.specs.Chunk.{IsChunk, IsFaithful, emptied};
 ghost use Rattle.ll_record.specs.Recording.{GoesOn, IsRecorded};
 ghost use Rattle.ll_room.specs.Home.{AreDistinct, among, home, less};
@@ -212,7 +212,7 @@ impl Channel {
         ensures told { (events : List Event) → IsRecorded self.old events → OnOk result (IsRecorded self.new (events ++ Clock ms ∷ [])) }
         ensures goes_on { GoesOn self.old self.new }
         ensures refused { IfErr result (λ f. spec.IsReadingFault self.old ms f) }
-        ensures full { IsErrOf result ReadingFault.RecordFull → IsFilled self.old.room.channel self.old.room.settings }
+        ensures why { IfErr result (λ f. IsReadingRefused ms f) }
         ensures unchanged { OnErr result (self.new ≡ self.old) }
     {
         self.recorder.clock(ms)
@@ -233,10 +233,10 @@ impl Channel {
         if !is_known(&self.recorder, known) {
             return Err(HubFault::Stranger);
         }
-        match self.recorder.rotate() {
-            Ok(chunk) => Ok(chunk),
-            Err(AllocError) => Err(HubFault::Memory),
-        }
+        let Ok(chunk) = self.recorder.rotate() else {
+            return Err(HubFault::Memory);
+        };
+        Ok(chunk)
     }
 
     /// Closes what is held, and tells what the channel has come to.
