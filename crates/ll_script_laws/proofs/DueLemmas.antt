@@ -18,8 +18,8 @@ use Rattle.ll_world.specs.World as rooms
 use Rattle.ll_world.specs.World.{Channel, World, all_settings, first_due, happens, tick_at, tick_of, told, told_to, waits_less}
 use Rattle.ll_world.specs.declared.answer.Answer as answer
 use Rattle.ll_world.specs.declared.answer.Answer.TheVariants as said
-use Rattle.ll_world.proofs.TieLemmas.{same_test}
-use Rattle.ll_world.proofs.WaitLemmas.{IsOpen, ask-open, clock-open, close-open, declare-open, due_waits, offer-open, tick-open}
+use Rattle.ll_world.proofs.TieLemmas.{none_some, same_test, some_is}
+use Rattle.ll_world.proofs.WaitLemmas.{IsOpen, ask-open, clock-open, close-open, declare-open, due_waits, offer-open, opens, tick-open}
 use Rattle.ll_replay.specs.Script.{Script, Ending, act, done, heard, line, passed_on, start, tick}
 use Rattle.ll_directive.specs.Targets.{WantValue}
 use Rattle.ll_item.specs.declared.item.Item.{Item}
@@ -28,8 +28,8 @@ use Rattle.ll_room.specs.declared.fault.ClockFault.{ClockFault}
 use Rattle.ll_verdict.specs.Verdict.{at_once, held}
 use Rattle.ll_verdict.specs.declared.fault.PublishFault.{PublishFault}
 use Rattle.ll_world.proofs.WaitLemmas.{due_told, once_each}
-use Rattle.ll_script_laws.proofs.ScriptLemmas.{acts-keep, lines-keep, ticks-keep}
-use Rattle.ll_script_laws.specs.Laws.{DueLaw, FindsAsker, IsThere, moment}
+use Rattle.ll_script_laws.proofs.ScriptLemmas.{acts-keep, done-keeps, lines-keep, ticks-keep}
+use Rattle.ll_script_laws.specs.Laws.{DueLaw, FindsAsker, IsThere, WaitsLaw, moment, open_tickets}
 
 -- ---- what changes no request of a connection
 
@@ -159,12 +159,12 @@ told_in w place c r x s = waits_less (told (happens w place c (Collect r.ticket)
 
 -- what telling the first reply that is due at a place comes to
 pub data Ticks (w : World) (place : ℕ) (v : World) : Type 0 where
-  Nothing : v ≡ w → Ticks w place v
+  Nothing : ((c : Channel) → slice_get w.channels place ≡ Some c → first_due c.settings c.events ≡ None) → v ≡ w → Ticks w place v
   Tells : (c : Channel) (r : Request) (x : Wait) (s : Settled) → slice_get w.channels place ≡ Some c → first_due c.settings c.events ≡ Some r
       → under place r.ticket w.waits ≡ Some x → reply c.settings c.events r ≡ Some s → v ≡ told_in w place c r x s → Ticks w place v
 
-pub ticks : (w : World) (place : ℕ) → Ticks w place (rooms.tick place w)
-ticks w place = at (slice_get w.channels place) refl
+pub ticks : (w : World) (place : ℕ) → IsOpen w → Ticks w place (rooms.tick place w)
+ticks w place tied = at (slice_get w.channels place) refl
   where
     told_by : (c : Channel) (r : Request) (x : Wait) (o : Option Settled) → slice_get w.channels place ≡ Some c → first_due c.settings c.events ≡ Some r
         → under place r.ticket w.waits ≡ Some x → reply c.settings c.events r ≡ o
@@ -174,19 +174,19 @@ ticks w place = at (slice_get w.channels place) refl
 
     found : (c : Channel) (r : Request) (o : Option Wait) → slice_get w.channels place ≡ Some c → first_due c.settings c.events ≡ Some r
         → under place r.ticket w.waits ≡ o → Ticks w place (told_to w place c r o)
-    found c r None at is e = Nothing refl
+    found c r None at is e = let never : false ≡ true = ap is_some (sym e) ∙ due_waits w place c r tied at is in absurd (cc)
     found c r (Some x) at is e = told_by c r x (reply c.settings c.events r) at is e refl
 
     by : (c : Channel) (o : Option Request) → slice_get w.channels place ≡ Some c → first_due c.settings c.events ≡ o → Ticks w place (tick_of w place c o)
-    by c None at is = Nothing refl
+    by c None at is = Nothing (λ d there. ap (λ (c : Channel). first_due c.settings c.events) (some_is d c (sym there ∙ at)) ∙ is) refl
     by c (Some r) at is = found c r (under place r.ticket w.waits) at is refl
 
     at : (o : Option Channel) → slice_get w.channels place ≡ o → Ticks w place (tick_at w place o)
-    at None e = Nothing refl
+    at None e = Nothing (λ d there. absurd (none_some d (sym e ∙ there))) refl
     at (Some c) e = by c (first_due c.settings c.events) e refl
 
 pub tick-holds : (place : ℕ) (w : Script) → Holds w → Holds (tick place w)
-tick-holds place w h = by (rooms.tick place w.rooms) (ticks w.rooms place) (tick-open w.rooms place h.met.rooms)
+tick-holds place w h = by (rooms.tick place w.rooms) (ticks w.rooms place h.met.rooms) (tick-open w.rooms place h.met.rooms)
   where
     passed : (t : ℕ) (x : Wait) (o : Owner) (a : Reply) (v : World) → under place t w.rooms.waits ≡ Some x → x.owner ≡ o → v.waits ≡ without place t w.rooms.waits → IsOpen v
         → Holds (fold passed_on (heard w v) (said.Replied o a ∷ []))
@@ -204,7 +204,7 @@ tick-holds place w h = by (rooms.tick place w.rooms) (ticks w.rooms place) (tick
         record { met = record { rooms = m.rooms; matched = m.matched; going = m.going }; quiet = refl }
 
     by : (v : World) → Ticks w.rooms place v → IsOpen v → Holds (fold passed_on (heard w v) v.answers)
-    by v (Nothing e) tied =
+    by v (Nothing none e) tied =
         subst (λ (v : World). Holds (fold passed_on (heard w v) v.answers)) (sym e)
         (subst (λ answers. Holds (fold passed_on (heard w w.rooms) answers)) (sym h.quiet)
         (record { met = record { rooms = h.met.rooms; matched = h.met.matched; going = h.met.going }; quiet = refl }))
@@ -241,13 +241,23 @@ Always list w = Holds w
 
 moment-holds : (before : List (List ℕ)) (list : List Act) (last : Act) (place n : ℕ) → Holds (moment before list last place n)
 moment-holds before list last place n =
-    let acts-hold = λ (all : List Act) (w : Script) (a : Act) (h : Holds w). act-holds w a h in
-    let ticks-hold = λ (all : List Act) (w : Script) (place : ℕ) (h : Holds w). tick-holds place w h in
-    let same-hold = λ (all : List Act) (w : Script) (lines : ℕ) (ending : Option Ending) (h : Holds w). same-holds w lines ending h in
+    let acts = λ (all : List Act) (w : Script) (a : Act) (h : Holds w). act-holds w a h in
+    let ticks = λ (all : List Act) (w : Script) (place : ℕ) (h : Holds w). tick-holds place w h in
+    let same = λ (all : List Act) (w : Script) (lines : ℕ) (ending : Option Ending) (h : Holds w). same-holds w lines ending h in
     let w = fold line start before in
     let v = fold done w list in
-    ticks-keep Always acts-hold ticks-hold same-hold [] (act v last) place n
-    (act-holds v last (acts-keep Always acts-hold ticks-hold same-hold [] list w (lines-keep Always acts-hold ticks-hold same-hold [] start before start-holds)))
+    ticks-keep Always acts ticks [] (act v last) place n
+    (act-holds v last (acts-keep Always (done-keeps Always acts ticks) same [] list w (lines-keep Always (done-keeps Always acts ticks) same [] start before start-holds)))
 
 pub due : DueLaw
 due before list last place n = let h = moment-holds before list last place n in (finds (moment before list last place n) h, h.met.matched)
+
+pub waits : WaitsLaw
+waits before list last place n i =
+    let h = moment-holds before list last place n in
+    let w = (moment before list last place n).rooms in
+    (h.met.rooms i ∙ open-is (slice_get w.channels i), once_each w.channels w.waits h.met.rooms i)
+  where
+    open-is : (o : Option Channel) → opens o ≡ open_tickets o
+    open-is None = refl
+    open-is (Some c) = refl

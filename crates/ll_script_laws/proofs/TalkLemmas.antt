@@ -39,7 +39,7 @@ use Rattle.ll_replay.specs.Script.{Script, Ending, act, heard, passed_on, passed
 use Rattle.ll_script_laws.proofs.AskLemmas.{AreAsked, AskedBy, asked-at, asked-closes, asked-less, asked-stays, due-right}
 use Rattle.ll_script_laws.proofs.DueLemmas as due
 use Rattle.ll_script_laws.proofs.GrowLemmas.{Grows, answer-stays, answers-stay, declare-grows, event-grows, grows-same}
-use Rattle.ll_script_laws.proofs.ScriptLemmas.{lines-keep}
+use Rattle.ll_script_laws.proofs.ScriptLemmas.{done-keeps, lines-keep}
 use Rattle.ll_script_laws.proofs.ServeLemmas.{Serves, Keeps, ask-grows, asks-keep, came-serves, close-grows, clock-grows, none-keeps, offer-grows, reply-serves, same-asked, unanswered-same, unanswered_at}
 use Rattle.ll_script_laws.specs.Talks.{IsServed, Late, Faulty, Part, Refused, Said, Sent, Shut, StandsAt, TalksLaw, brought_by, part_text, sent_by}
 use Rattle.ll_script_laws.specs.Verdicts.{AreAnswered, IsAnswer, wants_of}
@@ -372,7 +372,7 @@ reply-holds n a came un w h t =
     )
 
 tick-holds : (came : ℕ → List ℕ) (un : ℕ → List WantValue) (w : Script) (place : ℕ) → due.Holds w → Holds came un w → HoldsSome came (tick place w)
-tick-holds came un w place met h = by (rooms.tick place w.rooms) (due.ticks w.rooms place) (tick-open w.rooms place met.met.rooms)
+tick-holds came un w place met h = by (rooms.tick place w.rooms) (due.ticks w.rooms place met.met.rooms) (tick-open w.rooms place met.met.rooms)
   where
     told_by : (c : Channel) (r : Request) (x : Wait) (s : Settled) (o : Owner) → slice_get w.rooms.channels place ≡ Some c → first_due c.settings c.events ≡ Some r
         → under place r.ticket w.rooms.waits ≡ Some x → reply c.settings c.events r ≡ Some s → x.owner ≡ o → IsOpen (due.told_in w.rooms place c r x s)
@@ -405,7 +405,7 @@ tick-holds came un w place met h = by (rooms.tick place w.rooms) (due.ticks w.ro
             })
 
     by : (v : World) → due.Ticks w.rooms place v → IsOpen v → HoldsSome came (fold passed_on (heard w v) v.answers)
-    by v (due.Nothing e) tied =
+    by v (due.Nothing none e) tied =
         subst (λ (v : World). HoldsSome came (fold passed_on (heard w v) v.answers)) (sym e)
         (subst (λ answers. HoldsSome came (fold passed_on (heard w w.rooms) answers)) (sym met.quiet)
         (un, heard-holds came un w w.rooms h (grows-same w.rooms.channels) h.asked))
@@ -513,9 +513,10 @@ start-holds = record {
   asked = tt;
 }
 
+one_reply : (list : List Act) (w : Script) (place : ℕ) → Always list w → Always list (tick place w)
+one_reply list w place h = (due.tick-holds place w h.0, tick-holds (so_far list) h.1.0 w place h.0 h.1.1)
+
 pub talks : TalksLaw
 talks ls =
-    let h =
-    lines-keep Always one_more (λ list w place h. (due.tick-holds place w h.0, tick-holds (so_far list) h.1.0 w place h.0 h.1.1)) same [] start ls
-    (due.start-holds, ((λ n. []), start-holds)) in
+    let h = lines-keep Always (done-keeps Always one_more one_reply) same [] start ls (due.start-holds, ((λ n. []), start-holds)) in
     (h.1.1.parts, h.1.1.text, λ n. (h.1.0 n, h.1.1.served n))

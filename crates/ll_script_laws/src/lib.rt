@@ -3,7 +3,7 @@
 //! draft-pantos-hls-rfc8216bis.
 #![tactic(auto)]
 
-ghost use Rattle.ll_script_laws.specs.Laws.{AtOnceLaw, DueLaw, LaterLaw, LeastReadyLaw, OpenOrderLaw, PiecesLaw, PlayersLaw, PublishedLaw, VerdictLaw};
+ghost use Rattle.ll_script_laws.specs.Laws.{AtOnceLaw, DueLaw, LaterLaw, LeastReadyLaw, NoneLeftLaw, OpenOrderLaw, PiecesLaw, PlayersLaw, PublishedLaw, VerdictLaw, WaitsLaw};
 ghost use Rattle.ll_script_laws.specs.Talks.{TalksLaw};
 
 /// For every input of `ll_replay::run`, at each moment of each of its channels: the settings are within their limits, and the items
@@ -36,10 +36,14 @@ pub fn pieces_law()
     ensures { PiecesLaw }
 {}
 
-/// At each moment of every script, a reply that is due finds the request that waits for it and who asked: for a connection's, its
-/// session is open and has a want out. And of each connection as many requests wait as its session has wants out.
+/// No reply is lost in a script. At each moment, a reply that is due finds the request that waits for it and who asked: for a connection's,
+/// its session is open and has a want out; and of each connection as many requests wait as its session has wants out, one or none
+/// (`finds`). Those who wait at a channel are its open requests, in their order (`waits`). And after each line no reply is due: all are
+/// written, or put out on their connections (`left`).
 pub fn due_law()
-    ensures { DueLaw }
+    ensures finds { DueLaw }
+    ensures waits { WaitsLaw }
+    ensures left { NoneLeftLaw }
 {}
 
 /// What came and what was sent on each connection of a script are those of calls on one session: so, by `session_law` of `ll_session`, each
