@@ -8,6 +8,7 @@ pub mod ItemTexts
 pub mod LawProofs
 pub mod LeftLemmas
 pub mod OrderLemmas
+pub mod PartLemmas
 pub mod PieceLemmas
 pub mod ReplyLemmas
 pub mod ScriptLemmas

@@ -16,10 +16,10 @@ use Rattle.ll_held.specs.Waits.{is_same, under}
 use Rattle.ll_held.specs.declared.owner.Owner.{Owner}
 use Rattle.ll_held.specs.declared.owner.Owner.TheVariants.{Get, Connection}
 use Rattle.ll_held.specs.declared.wait.Wait.{Wait}
-use Rattle.ll_script.specs.Answers.{sent_line}
 use Rattle.ll_script.specs.declared.act.Act.{Act}
 use Rattle.ll_script.specs.declared.act.Act.TheVariants.{Declare, Offer, Refuse, Ask, Answer, Close, Clock, RefuseClock, Bytes, Drop}
-use Rattle.ll_session.specs.Past.{Past, Send, before_any, called, past}
+use Rattle.ll_session.proofs.PastLemmas.{is_talk}
+use Rattle.ll_session.specs.Past.{Past, Send, before_any, called, conversation, past}
 use Rattle.ll_session.specs.Talk.{SessionValue, fresh, replied}
 use Rattle.ll_room.specs.Full.{is_full}
 use Rattle.ll_verdict.specs.Events.{Collect, asks}
@@ -35,60 +35,15 @@ use Rattle.ll_world.specs.declared.answer.Answer as answer
 use Rattle.ll_world.specs.declared.answer.Answer.TheVariants as said
 use Rattle.ll_world.proofs.TieLemmas.{equal, same_test}
 use Rattle.ll_world.proofs.WaitLemmas.{IsOpen, tick-open}
-use Rattle.ll_replay.specs.Script.{Script, Ending, act, heard, passed_on, passed_to, spelled, start, tick, turned}
+use Rattle.ll_replay.specs.Script.{Script, Ending, act, heard, passed_on, passed_to, start, tick, turned}
 use Rattle.ll_script_laws.proofs.AskLemmas.{AreAsked, AskedBy, asked-at, asked-closes, asked-less, asked-stays, due-right}
 use Rattle.ll_script_laws.proofs.DueLemmas as due
 use Rattle.ll_script_laws.proofs.GrowLemmas.{Grows, answer-stays, answers-stay, declare-grows, event-grows, grows-same}
+use Rattle.ll_script_laws.proofs.PartLemmas.{said-sent, said-text, turn-sent, turn-text, turn_parts}
 use Rattle.ll_script_laws.proofs.ScriptLemmas.{done-keeps, lines-keep}
 use Rattle.ll_script_laws.proofs.ServeLemmas.{Serves, Keeps, ask-grows, asks-keep, came-serves, close-grows, clock-grows, none-keeps, offer-grows, reply-serves, same-asked, unanswered-same, unanswered_at}
-use Rattle.ll_script_laws.specs.Talks.{IsServed, Late, Faulty, Part, Refused, Said, Sent, Shut, StandsAt, TalksLaw, brought_by, part_text, sent_by}
+use Rattle.ll_script_laws.specs.Talks.{AnswersLaw, IsServed, Late, Faulty, Part, Refused, Said, StandsAt, TalksLaw, brought_by, part_text, sent_by}
 use Rattle.ll_script_laws.specs.Verdicts.{AreAnswered, IsAnswer, wants_of}
-
--- ---- parts
-
--- the answers of a turn, and whether the connection has shut
-abbrev shut_parts : Bool → ℕ → List Part
-shut_parts true n = Shut n ∷ []
-shut_parts false n = []
-
-abbrev turn_parts : ℕ → List (List ℕ) → Bool → List Part
-turn_parts n answers shut = map (λ bytes. Sent n bytes) answers ++ shut_parts shut n
-
-shut-text : (shut : Bool) (n : ℕ) → flat_map part_text (shut_parts shut n) ≡ shut_text shut n
-shut-text true n = append-nil (part_text (Shut n))
-shut-text false n = refl
-
-sent-text : (n : ℕ) (answers : List (List ℕ)) → flat_map part_text (map (λ bytes. Sent n bytes) answers) ≡ flat_map (sent_line n) answers
-sent-text n [] = refl
-sent-text n (a ∷ answers) = ap (λ t. sent_line n a ++ t) (sent-text n answers)
-
-turn-text : (n : ℕ) (answers : List (List ℕ)) (shut : Bool) → flat_map part_text (turn_parts n answers shut) ≡ flat_map (sent_line n) answers ++ shut_text shut n
-turn-text n answers shut =
-    flat_map-append part_text (map (λ bytes. Sent n bytes) answers) (shut_parts shut n) ∙ ap₂ (λ x y. x ++ y) (sent-text n answers) (shut-text shut n)
-
-shut-sent : (m n : ℕ) (shut : Bool) → flat_map (sent_by m) (shut_parts shut n) ≡ []
-shut-sent m n true = refl
-shut-sent m n false = refl
-
-own-sent : (m n : ℕ) (b : Bool) (answers : List (List ℕ)) → (n == m) ≡ b → flat_map (sent_by m) (map (λ bytes. Sent n bytes) answers) ≡ (if b then concat answers else [])
-own-sent m n true [] e = refl
-own-sent m n false [] e = refl
-own-sent m n true (a ∷ answers) e = ap₂ (λ x y. x ++ y) (ap (λ b. if b then a else []) e) (own-sent m n true answers e)
-own-sent m n false (a ∷ answers) e = ap₂ (λ x y. x ++ y) (ap (λ b. if b then a else []) e) (own-sent m n false answers e)
-
-turn-sent : (m n : ℕ) (b : Bool) (answers : List (List ℕ)) (shut : Bool) → (n == m) ≡ b
-    → flat_map (sent_by m) (turn_parts n answers shut) ≡ (if b then concat answers else [])
-turn-sent m n b answers shut e =
-    flat_map-append (sent_by m) (map (λ bytes. Sent n bytes) answers) (shut_parts shut n)
-    ∙ ap₂ (λ x y. x ++ y) (own-sent m n b answers e) (shut-sent m n shut) ∙ append-nil (if b then concat answers else [])
-
-said-text : (list : List answer.Answer) → flat_map part_text (map (λ a. Said a) list) ≡ flat_map spelled list
-said-text [] = refl
-said-text (a ∷ list) = ap (λ t. spelled a ++ t) (said-text list)
-
-said-sent : (m : ℕ) (list : List answer.Answer) → flat_map (sent_by m) (map (λ a. Said a) list) ≡ []
-said-sent m [] = refl
-said-sent m (a ∷ list) = said-sent m list
 
 -- ---- what holds after each act
 
@@ -520,3 +475,29 @@ pub talks : TalksLaw
 talks ls =
     let h = lines-keep Always (done-keeps Always one_more one_reply) same [] start ls (due.start-holds, ((λ n. []), start-holds)) in
     (h.1.1.parts, h.1.1.text, λ n. (h.1.0 n, h.1.1.served n))
+
+-- the same without the calls
+pub answers : AnswersLaw
+answers ls =
+    let t = talks ls in (
+      t.0,
+      t.1,
+      λ n.
+          let s = t.2 n in
+          let talk = is_talk s.1.calls in
+          let sent : flat_map (sent_by n) t.0 ++ [] ≡ concat (conversation (past s.1.calls).overflowed (past s.1.calls).entries (past s.1.calls).replies) =
+          ap₂ (λ x y. x ++ y) s.1.gone (ap concat (sym s.1.all_sent)) ∙ talk.answers in
+          record {
+            taken = (past s.1.calls).fed;
+            untaken = s.1.untaken;
+            came_is = s.1.fed;
+            entries = (past s.1.calls).entries;
+            later = talk.first.0;
+            requests_are = talk.first.1;
+            answers = (past s.1.calls).replies;
+            unanswered = s.0;
+            right = s.1.answered;
+            overflowed = (past s.1.calls).overflowed;
+            sent_is = sym (append-nil (flat_map (sent_by n) t.0)) ∙ sent;
+          },
+    )
