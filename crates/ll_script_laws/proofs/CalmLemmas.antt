@@ -189,7 +189,8 @@ module _ (c : Channel) (low : 1 ≤ c.settings.target) where
   still-calm n (Publish item) m few = absurd m
   still-calm n (Ask want) m few =
       let st = state_of c.settings c.events in
-      omega (arith, after (Ask want) (new_slots c.settings st (Ask want)) refl (none_new c.settings (answer_of c.settings st want) st (wanted_of c.settings want)), fewer now_settled (stays (Ask want)) slots same_slots, few)
+      let none = none_new c.settings (answer_of c.settings st want) st (wanted_of c.settings want) in
+      omega (arith, after (Ask want) (new_slots c.settings st (Ask want)) refl none, fewer now_settled (stays (Ask want)) slots same_slots, few)
   still-calm n (Collect t) m few = omega (arith, after (Collect t) [] refl refl, fewer now_settled (stays (Collect t)) slots same_slots, few)
   still-calm n (Close t) m few = omega (arith, after (Close t) [] refl refl, fewer now_settled (stays (Close t)) slots same_slots, few)
   still-calm n (Clock ms) m few = absurd m

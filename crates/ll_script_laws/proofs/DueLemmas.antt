@@ -1,7 +1,8 @@
 -- A reply that is due finds who asked, at each moment of a script.
-use Rattle.std.proofs.Common.{◌≡◌, ℕ, ◌+◌, List, [], ◌∷◌, ◌++◌, Bool, true, false, Option, Some, None, is_some, refl, ap, sym, ◌∙◌, subst, arith, fold, length, slice_get, if◌then◌else◌}
+use Rattle.std.proofs.Common.{◌≡◌, ℕ, ◌+◌, List, [], ◌∷◌, ◌++◌, Bool, true, false, Option, Some, None, is_some, refl, ap, sym, ◌∙◌, subst, subst₂, arith, fold, length, slice_get, if◌then◌else◌}
 use Rattle.ll_connection.specs.Met.{waiting_of, wants_out}
-use Rattle.ll_connection.specs.Turn.{Connections, session_of}
+use Rattle.ll_connection.specs.Turn as connection
+use Rattle.ll_connection.specs.Turn.{Connections, Turn, bytes, end, session_of}
 use Rattle.ll_connection.proofs.MetLemmas.{AreMet, HasOut, bytes-met, count-less, count-more, end-met, few_out, has_out, is_its_own, own_ticket, reply-met}
 use Rattle.ll_session.specs.Talk.{SessionValue}
 use Rattle.ll_held.specs.Waits.{is_of, is_same, under, wait_of, without}
@@ -20,7 +21,7 @@ use Rattle.ll_world.specs.declared.answer.Answer as answer
 use Rattle.ll_world.specs.declared.answer.Answer.TheVariants as said
 use Rattle.ll_world.proofs.TieLemmas.{none_some, same_test, some_is}
 use Rattle.ll_world.proofs.WaitLemmas.{IsOpen, ask-open, clock-open, close-open, declare-open, due_waits, offer-open, opens, tick-open}
-use Rattle.ll_replay.specs.Script.{Script, Ending, act, done, heard, line, passed_on, start, tick}
+use Rattle.ll_replay.specs.Script.{Script, Ending, act, done, heard, line, passed_on, start, tick, turned}
 use Rattle.ll_directive.specs.Targets.{WantValue}
 use Rattle.ll_item.specs.declared.item.Item.{Item}
 use Rattle.ll_room.specs.Full.{is_full, refusal_after}
@@ -32,9 +33,6 @@ use Rattle.ll_script_laws.proofs.ScriptLemmas.{acts-keep, done-keeps, lines-keep
 use Rattle.ll_script_laws.specs.Laws.{DueLaw, FindsAsker, IsThere, WaitsLaw, moment, open_tickets}
 
 -- ---- what changes no request of a connection
-
-rooms-met : (w v : World) (all : Connections) → AreMet w all → IsOpen v → ((m : ℕ) → waiting_of m v.waits ≡ waiting_of m w.waits) → AreMet v all
-rooms-met w v all h tied same = record { rooms = tied; matched = λ m. same m ∙ h.matched m; going = h.going }
 
 pub offer-same : (w : World) (i : ℕ) (item : Item) → (rooms.offer i item w).waits ≡ w.waits
 offer-same w i item = at (slice_get w.channels i)
@@ -103,30 +101,34 @@ pub record Holds (w : Script) : Type 0 where
   pub met : AreMet w.rooms w.connections
   pub quiet : w.rooms.answers ≡ []
 
-pub act-holds : (w : Script) (a : Act) → Holds w → Holds (act w a)
-act-holds w (Declare c) h = record { met = rooms-met w.rooms (rooms.silent (rooms.declare c w.rooms)) w.connections h.met (declare-open w.rooms c h.met.rooms) (λ m. refl); quiet = refl }
-act-holds w (Offer i item) h = record {
+-- the rooms changed, and their answers are heard
+rooms-hold : (w v : Script) (u : World) → v.rooms ≡ rooms.silent u → v.connections ≡ w.connections → Holds w → IsOpen u
+    → ((m : ℕ) → waiting_of m u.waits ≡ waiting_of m w.rooms.waits) → Holds v
+rooms-hold w v u is same h tied counts = record {
   met =
-      rooms-met w.rooms (rooms.silent (rooms.offer i item w.rooms)) w.connections h.met (offer-open w.rooms i item h.met.rooms) (λ m. ap (waiting_of m) (offer-same w.rooms i item));
-  quiet = refl;
+      subst₂ AreMet (sym is) (sym same)
+      (record { rooms = tied; matched = λ m. counts m ∙ h.met.matched m; going = h.met.going });
+  quiet = ap (λ (r : World). r.answers) is;
 }
+
+turn-holds : (w : Script) (t : Turn) → AreMet t.rooms t.connections → Holds (turned w t)
+turn-holds w t m = record { met = record { rooms = m.rooms; matched = m.matched; going = m.going }; quiet = refl }
+
+pub act-holds : (w : Script) (a : Act) → Holds w → Holds (act w a)
+act-holds w (Declare c) h = rooms-hold w (act w (Declare c)) (rooms.declare c w.rooms) refl refl h (declare-open w.rooms c h.met.rooms) (λ m. refl)
+act-holds w (Offer i item) h =
+    rooms-hold w (act w (Offer i item)) (rooms.offer i item w.rooms) refl refl h (offer-open w.rooms i item h.met.rooms) (λ m. ap (waiting_of m) (offer-same w.rooms i item))
 act-holds w (Refuse reason) h = record { met = h.met; quiet = h.quiet }
-act-holds w (Ask id i want) h = record {
-  met = rooms-met w.rooms (rooms.silent (rooms.ask (Get id) i want w.rooms)) w.connections h.met (ask-open w.rooms (Get id) i want h.met.rooms) (ask-same w.rooms id i want);
-  quiet = refl;
-}
+act-holds w (Ask id i want) h =
+    rooms-hold w (act w (Ask id i want)) (rooms.ask (Get id) i want w.rooms) refl refl h (ask-open w.rooms (Get id) i want h.met.rooms) (ask-same w.rooms id i want)
 act-holds w (Answer id reason) h = record { met = h.met; quiet = h.quiet }
-act-holds w (Close id) h = record {
-  met = rooms-met w.rooms (rooms.silent (rooms.close (Get id) w.rooms)) w.connections h.met (close-open w.rooms (Get id) h.met.rooms) (λ m. close-same w.rooms id m h.met.rooms);
-  quiet = refl;
-}
-act-holds w (Clock i ms) h = record {
-  met = rooms-met w.rooms (rooms.silent (rooms.clock i ms w.rooms)) w.connections h.met (clock-open w.rooms i ms h.met.rooms) (λ m. ap (waiting_of m) (clock-same w.rooms i ms));
-  quiet = refl;
-}
+act-holds w (Close id) h =
+    rooms-hold w (act w (Close id)) (rooms.close (Get id) w.rooms) refl refl h (close-open w.rooms (Get id) h.met.rooms) (λ m. close-same w.rooms id m h.met.rooms)
+act-holds w (Clock i ms) h =
+    rooms-hold w (act w (Clock i ms)) (rooms.clock i ms w.rooms) refl refl h (clock-open w.rooms i ms h.met.rooms) (λ m. ap (waiting_of m) (clock-same w.rooms i ms))
 act-holds w RefuseClock h = record { met = h.met; quiet = h.quiet }
-act-holds w (Bytes n piece) h = let m = bytes-met n piece w.connections w.rooms h.met in record { met = record { rooms = m.rooms; matched = m.matched; going = m.going }; quiet = refl }
-act-holds w (Drop n) h = let m = end-met n w.connections w.rooms h.met in record { met = record { rooms = m.rooms; matched = m.matched; going = m.going }; quiet = refl }
+act-holds w (Bytes n piece) h = turn-holds w (bytes n piece w.connections w.rooms) (bytes-met n piece w.connections w.rooms h.met)
+act-holds w (Drop n) h = turn-holds w (end n w.connections w.rooms) (end-met n w.connections w.rooms h.met)
 
 -- ---- a reply that is due
 
@@ -190,24 +192,19 @@ tick-holds place w h = by (rooms.tick place w.rooms) (ticks w.rooms place h.met.
   where
     passed : (t : ℕ) (x : Wait) (o : Owner) (a : Reply) (v : World) → under place t w.rooms.waits ≡ Some x → x.owner ≡ o → v.waits ≡ without place t w.rooms.waits → IsOpen v
         → Holds (fold passed_on (heard w v) (said.Replied o a ∷ []))
-    passed t x (Get id) a v e is waits tied = record {
-      met =
-          rooms-met w.rooms (rooms.silent v) w.connections h.met tied
-          (λ m. ap (waiting_of m) waits ∙ of_other m w.rooms place t x e (ap (λ o. is_same o (Connection m)) is));
-      quiet = refl;
-    }
+    passed t x (Get id) a v e is waits tied =
+        rooms-hold w (heard w v) v refl refl h tied (λ m. ap (waiting_of m) waits ∙ of_other m w.rooms place t x e (ap (λ o. is_same o (Connection m)) is))
     passed t x (Connection n) a v e is waits tied =
-        let m =
-        reply-met n a w.connections w.rooms (rooms.silent v) h.met tied (ap (waiting_of n) waits ∙ own_gone n w.connections w.rooms place t x h.met e is)
+        turn-holds (heard w v) (connection.reply n a w.connections (rooms.silent v))
+        (reply-met n a w.connections w.rooms (rooms.silent v) h.met tied (ap (waiting_of n) waits ∙ own_gone n w.connections w.rooms place t x h.met e is)
         (λ m f. ap (waiting_of m) waits ∙ of_other m w.rooms place t x e (ap (λ o. is_same o (Connection m)) is ∙ f))
-        (asker n w.connections w.rooms place t x h.met e is) in
-        record { met = record { rooms = m.rooms; matched = m.matched; going = m.going }; quiet = refl }
+        (asker n w.connections w.rooms place t x h.met e is))
 
     by : (v : World) → Ticks w.rooms place v → IsOpen v → Holds (fold passed_on (heard w v) v.answers)
     by v (Nothing none e) tied =
         subst (λ (v : World). Holds (fold passed_on (heard w v) v.answers)) (sym e)
         (subst (λ answers. Holds (fold passed_on (heard w w.rooms) answers)) (sym h.quiet)
-        (record { met = record { rooms = h.met.rooms; matched = h.met.matched; going = h.met.going }; quiet = refl }))
+        (rooms-hold w (heard w w.rooms) w.rooms refl refl h h.met.rooms (λ m. refl)))
     by v (Tells c r x s at is found told e) tied =
         let u = told_in w.rooms place c r x s in
         subst (λ (v : World). Holds (fold passed_on (heard w v) v.answers)) (sym e)

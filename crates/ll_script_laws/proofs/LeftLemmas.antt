@@ -55,12 +55,15 @@ one-event most more cs i c e same calm at h place d there = by (place == i) refl
   where
     by : (b : Bool) → (place == i) ≡ b → IsCalm (more place) d
     by true f =
-        let is : with_event e c ≡ d = some_is (with_event e c) d (sym (get_set cs i c (with_event e c) at) ∙ ap (slice_get (slice_set cs i (with_event e c))) (sym (equal place i f)) ∙ there) in
+        let is : with_event e c ≡ d =
+        some_is (with_event e c) d
+        (sym (get_set cs i c (with_event e c) at) ∙ ap (slice_get (slice_set cs i (with_event e c))) (sym (equal place i f)) ∙ there) in
         subst (λ j. IsCalm (more j) d) (sym (equal place i f)) (subst (IsCalm (more i)) is calm)
     by false f = subst (λ k. IsCalm k d) (same place f) (h place d (sym (get_other cs i place (with_event e c) f) ∙ there))
 
 module _ (most : ℕ → ℕ) where
-  silent-event : (cs : List Channel) (i : ℕ) (c : Channel) (e : event.Event) → IsSilent e → slice_get cs i ≡ Some c → AreCalm most cs → AreCalm most (slice_set cs i (with_event e c))
+  silent-event : (cs : List Channel) (i : ℕ) (c : Channel) (e : event.Event) → IsSilent e → slice_get cs i ≡ Some c → AreCalm most cs
+      → AreCalm most (slice_set cs i (with_event e c))
   silent-event cs i c e m at h = one-event most most cs i c e (λ j f. refl) (silent-calm (most i) c e m (h i c at)) at h
 
   asks : (w : World) (o : Owner) (place : ℕ) (want : WantValue) → AreCalm most w.channels → AreCalm most (silent (rooms.ask o place want (silent w))).channels
@@ -99,7 +102,8 @@ tick-calm place k w met h = by (rooms.tick place w.rooms) (due.ticks w.rooms pla
         let calm : IsCalm (at_most place k place) (with_event (event.Collect r.ticket) c) =
         subst (λ n. IsCalm n (with_event (event.Collect r.ticket) c)) (sym (at_place k)) (told-calm k c r is (subst (λ n. IsCalm n c) (at_place (k + 1)) (h place c at))) in
         subst (λ (v : World). AreCalm (at_most place k) (fold passed_on (heard w v) v.answers).rooms.channels) (sym e)
-        (subst (λ (answers : List answer.Answer). AreCalm (at_most place k) (fold passed_on (heard w u) (answers ++ said.Replied x.owner (reply_of s) ∷ [])).rooms.channels) (sym met.quiet)
+        (subst (λ (answers : List answer.Answer). AreCalm (at_most place k) (fold passed_on (heard w u) (answers ++ said.Replied x.owner (reply_of s) ∷ [])).rooms.channels)
+        (sym met.quiet)
         (passed (at_most place k) (heard w u) x.owner (reply_of s)
         (one-event (at_most place (k + 1)) (at_most place k) w.rooms.channels place c (event.Collect r.ticket) (λ j f. swap place j (k + 1) k f) calm at h)))
 
@@ -137,7 +141,10 @@ made-due w v place c e at is tied h =
     let most : at_most place (length v.waits) place ≡ length v.waits = ap (λ b. if b then length v.waits else 0) (same_test place) in
     let there : slice_get v.channels place ≡ Some (with_event e c) = ap (λ cs. slice_get cs place) is ∙ get_set w.channels place c (with_event e c) at in
     let calm : IsCalm (at_most place (length v.waits) place) (with_event e c) =
-    record { low = (h place c at).low; few = subst (λ n. length (filter is_ready (state_of c.settings (c.events ++ e ∷ [])).slots) ≤ n) (sym most) (few-there v place (with_event e c) tied there) } in
+    record {
+      low = (h place c at).low;
+      few = subst (λ n. length (filter is_ready (state_of c.settings (c.events ++ e ∷ [])).slots) ≤ n) (sym most) (few-there v place (with_event e c) tied there);
+    } in
     subst (AreCalm (at_most place (length v.waits))) (sym is)
     (one-event none_there (at_most place (length v.waits)) w.channels place c e (λ j f. sym (ap (λ b. if b then length v.waits else 0) f)) calm at h)
 
@@ -183,7 +190,9 @@ declare-calm (x ∷ cs) c low h (suc j) d e = declare-calm cs c low (λ k d ther
 -- ---- acts and lines
 
 all-told : (place : ℕ) (v : Script) → due.Holds v → AreCalm (at_most place (length v.rooms.waits)) v.rooms.channels → AreCalm none_there (rest_at place v).rooms.channels
-all-told place v met h j c there = subst (λ n. IsCalm n c) (none (j == place)) ((ticks-calm place (length v.rooms.waits) 0 v met (subst (λ n. AreCalm (at_most place n) v.rooms.channels) same h)).1 j c there)
+all-told place v met h j c there =
+    subst (λ n. IsCalm n c) (none (j == place))
+    ((ticks-calm place (length v.rooms.waits) 0 v met (subst (λ n. AreCalm (at_most place n) v.rooms.channels) same h)).1 j c there)
   where
     none : (b : Bool) → ◌≡◌ {A = ℕ} (if b then 0 else 0) 0
     none true = refl

@@ -184,15 +184,13 @@ bytes-holds : (n : ℕ) (piece : List ℕ) (came : ℕ → List ℕ) (un : ℕ �
     → HoldsSome (and_on n piece came) (turned w (connection.bytes n piece w.connections w.rooms))
 bytes-holds n piece came un w met h = by (session_of n w.connections) refl (h.served n).stands
   where
-    counts : ℕ → ℕ
-    counts m = wants_out (session_of m w.connections)
-
     goes : (s : SessionValue) → (past (h.served n).calls).session ≡ s → s.shut ≡ false → (h.served n).untaken ≡ [] → waiting_of n w.rooms.waits ≡ outs s.out
         → HoldsSome (and_on n piece came) (turned w (turn n w.connections (arrived n piece (record { session = s; rooms = w.rooms }))))
     goes s e going none own =
+        let counts = λ (m : ℕ). wants_out (session_of m w.connections) in
         let v : Visit = record { session = s; rooms = w.rooms } in
         let q = past (h.served n).calls in
-        let is_met : IsMet n (λ m. wants_out (session_of m w.connections)) v =
+        let is_met : IsMet n counts v =
         record { rooms = met.met.rooms; own = own; other = λ m f. met.met.matched m; sound = λ shut. absurd (true≢false (sym shut ∙ going)) } in
         let serves : Serves n un w.rooms.channels w.rooms q = record {
           unanswered = un n;
@@ -201,13 +199,13 @@ bytes-holds n piece came un w met h = by (session_of n w.connections) refl (h.se
           asked = same-asked un (unanswered_at n (un n) un) w.rooms.channels w.rooms.waits (λ m. unanswered-same n m (n == m) refl un) h.asked;
           count = (h.served n).is_out;
         } in
-        let K = Keeps n un w.rooms.channels (λ m. wants_out (session_of m w.connections)) in
+        let K = Keeps n un w.rooms.channels counts in
         let d =
-        bytes-talked n K (none-keeps n un w.rooms.channels (λ m. wants_out (session_of m w.connections))) (asks-keep n un w.rooms.channels (λ m. wants_out (session_of m w.connections)))
+        bytes-talked n K (none-keeps n un w.rooms.channels counts) (asks-keep n un w.rooms.channels counts)
         q s piece w.connections w.rooms e going
-        (came-serves n un w.rooms.channels piece v q serves, came-met n (λ m. wants_out (session_of m w.connections)) piece v is_met) in (
+        (came-serves n un w.rooms.channels piece v q serves, came-met n counts piece v is_met) in (
           unanswered_at n d.kept.0.unanswered un,
-          turned-holds n piece came un (λ m. wants_out (session_of m w.connections)) w h none (arrived n piece v) d,
+          turned-holds n piece came un counts w h none (arrived n piece v) d,
         )
 
     by : (o : Option (Option SessionValue)) → session_of n w.connections ≡ o → StandsAt o (past (h.served n).calls) (h.served n).untaken
@@ -275,7 +273,8 @@ end-holds n came un w h = by (session_of n w.connections)
           is_out = t.is_out;
         }
         ended m false f t =
-            stays w (turned w (connection.end_of n w.connections w.rooms (Some (Some s)))) (came m) (came m) (flat_map (sent_by m) h.parts) (flat_map (sent_by m) h.parts) m (un m) refl refl
+            stays w (turned w (connection.end_of n w.connections w.rooms (Some (Some s)))) (came m) (came m) (flat_map (sent_by m) h.parts) (flat_map (sent_by m) h.parts) m
+            (un m) refl refl
             (kept_other n m None w.connections f) (close-grows w.rooms.channels w.rooms (Connection n) (grows-same w.rooms.channels)) t
 
 -- ---- a reply is due
@@ -366,7 +365,9 @@ tick-holds came un w place met h = by (rooms.tick place w.rooms) (due.ticks w.ro
         (un, heard-holds came un w w.rooms h (grows-same w.rooms.channels) h.asked))
     by v (due.Tells c r x s at is found told e) tied =
         subst (λ (v : World). HoldsSome came (fold passed_on (heard w v) v.answers)) (sym e)
-        (subst (λ (answers : List answer.Answer). HoldsSome came (fold passed_on (heard w (due.told_in w.rooms place c r x s)) (answers ++ said.Replied x.owner (reply_of s) ∷ []))) (sym met.quiet)
+        (subst
+        (λ (answers : List answer.Answer). HoldsSome came (fold passed_on (heard w (due.told_in w.rooms place c r x s)) (answers ++ said.Replied x.owner (reply_of s) ∷ [])))
+        (sym met.quiet)
         (told_by c r x s x.owner at is found told refl (subst IsOpen e tied)))
 
 -- ---- acts

@@ -80,7 +80,8 @@ LaterLaw = (c : Configuration) (events : List Event) (place : ℕ) (r : Request)
 -- A text that is the verdict of a request is the playlist that it wants, of a moment of the channel that is not before it.
 abbrev pub VerdictLaw : Type 0
 VerdictLaw = (c : Configuration) (before later : List Event) (want : WantValue) (page : Paged) → verdict c (before ++ Ask want ∷ later) before want ≡ Some (now.Text page)
-    → (a : Wanted) × (since : List Event) × (rest : List Event) × (before ++ Ask want ∷ later ≡ (before ++ since) ++ rest) × (wanted_of c want ≡ Some a) × IsWanted c (before ++ since) a page
+    → (a : Wanted) × (since : List Event) × (rest : List Event) × (before ++ Ask want ∷ later ≡ (before ++ since) ++ rest) × (wanted_of c want ≡ Some a)
+    × IsWanted c (before ++ since) a page
 
 -- a line says, wherever it stands, that these bytes came on the connection of this number
 abbrev pub Brings : ℕ → List ℕ → List ℕ → Type 0
