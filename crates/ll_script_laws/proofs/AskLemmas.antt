@@ -98,7 +98,8 @@ module _ (outs : ℕ → List WantValue) where
   asked-at cs place t [] x h e = absurd (none_some x e)
   asked-at cs place t (y ∷ waits) x h e = by (y.place == place) (y.ticket == t) refl refl (asked-at cs place t waits x h.1) e
     where
-      by : (a b : Bool) → (y.place == place) ≡ a → (y.ticket == t) ≡ b → (under place t waits ≡ Some x → AskedBy outs cs place t x.owner) → cond (a && b) (Some y) (under place t waits) ≡ Some x → AskedBy outs cs place t x.owner
+      by : (a b : Bool) → (y.place == place) ≡ a → (y.ticket == t) ≡ b → (under place t waits ≡ Some x → AskedBy outs cs place t x.owner)
+          → cond (a && b) (Some y) (under place t waits) ≡ Some x → AskedBy outs cs place t x.owner
       by true true f g ih e =
           subst (λ (z : Wait). AskedBy outs cs place t z.owner) (some_is y x e)
           (subst (λ i. AskedBy outs cs i t y.owner) (equal y.place place f) (subst (λ k. AskedBy outs cs y.place k y.owner) (equal y.ticket t g) h.0))
@@ -111,8 +112,8 @@ pub asked-others : (n : ℕ) (outs other : ℕ → List WantValue) (cs : List Ch
 asked-others n outs other cs [] none same h = tt
 asked-others n outs other cs (x ∷ waits) none same h = by x.owner (is_of (Connection n) x) refl refl (λ none. asked-others n outs other cs waits none same h.1) none
   where
-    by : (o : Owner) (b : Bool) → x.owner ≡ o → is_of (Connection n) x ≡ b → (waiting_of n waits ≡ 0 → AreAsked other cs waits) → length (cond b (x ∷ filter (is_of (Connection n)) waits) (filter (is_of (Connection n)) waits)) ≡ 0
-        → AreAsked other cs (x ∷ waits)
+    by : (o : Owner) (b : Bool) → x.owner ≡ o → is_of (Connection n) x ≡ b → (waiting_of n waits ≡ 0 → AreAsked other cs waits)
+        → length (cond b (x ∷ filter (is_of (Connection n)) waits) (filter (is_of (Connection n)) waits)) ≡ 0 → AreAsked other cs (x ∷ waits)
     by o true e f ih none = absurd (omega (arith, none))
     by (Get id) false e f ih none = (subst (AskedBy other cs x.place x.ticket) (sym e) tt, ih none)
     by (Connection m) false e f ih none =
@@ -222,7 +223,8 @@ due-right cs place c want r s at due told made =
     let same = same_ask 0 made.before r.before made.later a.1 want a.0 (sym events ∙ a.2) (sym counts) in
     let wanted : wanted_of c.settings want ≡ Some r.wanted = ap (wanted_of c.settings) same.1 ∙ a.3 in
     let is : verdict c.settings c.events made.before want ≡ Some (reply_of s) =
-    ap₂ (λ o w. option_or o (later_by c.settings c.events made.before w)) (ap (λ (c : Channel). at_once c.settings (held c.settings made.before) made.before want) (sym here) ∙ made.waits) wanted
+    ap₂ (λ o w. option_or o (later_by c.settings c.events made.before w))
+    (ap (λ (c : Channel). at_once c.settings (held c.settings made.before) made.before want) (sym here) ∙ made.waits) wanted
     ∙ ap₂ (λ t b. option_map reply_of (reply c.settings c.events (record { ticket = t; wanted = r.wanted; before = b }))) (sym made.ticket_is) same.0
     ∙ ap (option_map reply_of) told in
     Replied place c made.before made.later (reply_of s) (subst (IsWantedOf cs want place) here made.named) events is refl

@@ -1,7 +1,8 @@
 -- A reply that is due finds who asked, at each moment of a script.
-use Rattle.std.proofs.Common.{◌≡◌, ℕ, ◌+◌, List, [], ◌∷◌, ◌++◌, Bool, true, false, Option, Some, None, is_some, refl, ap, sym, ◌∙◌, subst, arith, fold, length, slice_get, if◌then◌else◌}
+use Rattle.std.proofs.Common.{◌≡◌, ℕ, ◌+◌, List, [], ◌∷◌, ◌++◌, Bool, true, false, Option, Some, None, is_some, refl, ap, sym, ◌∙◌, subst, subst₂, arith, fold, length, slice_get, if◌then◌else◌}
 use Rattle.ll_connection.specs.Met.{waiting_of, wants_out}
-use Rattle.ll_connection.specs.Turn.{Connections, session_of}
+use Rattle.ll_connection.specs.Turn as connection
+use Rattle.ll_connection.specs.Turn.{Connections, Turn, bytes, end, session_of}
 use Rattle.ll_connection.proofs.MetLemmas.{AreMet, HasOut, bytes-met, count-less, count-more, end-met, few_out, has_out, is_its_own, own_ticket, reply-met}
 use Rattle.ll_session.specs.Talk.{SessionValue}
 use Rattle.ll_held.specs.Waits.{is_of, is_same, under, wait_of, without}
@@ -18,9 +19,9 @@ use Rattle.ll_world.specs.World as rooms
 use Rattle.ll_world.specs.World.{Channel, World, all_settings, first_due, happens, tick_at, tick_of, told, told_to, waits_less}
 use Rattle.ll_world.specs.declared.answer.Answer as answer
 use Rattle.ll_world.specs.declared.answer.Answer.TheVariants as said
-use Rattle.ll_world.proofs.TieLemmas.{same_test}
-use Rattle.ll_world.proofs.WaitLemmas.{IsOpen, ask-open, clock-open, close-open, declare-open, due_waits, offer-open, tick-open}
-use Rattle.ll_replay.specs.Script.{Script, Ending, act, done, heard, line, passed_on, start, tick}
+use Rattle.ll_world.proofs.TieLemmas.{none_some, same_test, some_is}
+use Rattle.ll_world.proofs.WaitLemmas.{IsOpen, ask-open, clock-open, close-open, declare-open, due_waits, offer-open, opens, tick-open}
+use Rattle.ll_replay.specs.Script.{Script, Ending, act, done, heard, line, passed_on, start, tick, turned}
 use Rattle.ll_directive.specs.Targets.{WantValue}
 use Rattle.ll_item.specs.declared.item.Item.{Item}
 use Rattle.ll_room.specs.Full.{is_full, refusal_after}
@@ -28,13 +29,10 @@ use Rattle.ll_room.specs.declared.fault.ClockFault.{ClockFault}
 use Rattle.ll_verdict.specs.Verdict.{at_once, held}
 use Rattle.ll_verdict.specs.declared.fault.PublishFault.{PublishFault}
 use Rattle.ll_world.proofs.WaitLemmas.{due_told, once_each}
-use Rattle.ll_script_laws.proofs.ScriptLemmas.{acts-keep, lines-keep, ticks-keep}
-use Rattle.ll_script_laws.specs.Laws.{DueLaw, FindsAsker, IsThere, moment}
+use Rattle.ll_script_laws.proofs.ScriptLemmas.{acts-keep, done-keeps, lines-keep, ticks-keep}
+use Rattle.ll_script_laws.specs.Laws.{DueLaw, FindsAsker, IsThere, WaitsLaw, moment, open_tickets}
 
 -- ---- what changes no request of a connection
-
-rooms-met : (w v : World) (all : Connections) → AreMet w all → IsOpen v → ((m : ℕ) → waiting_of m v.waits ≡ waiting_of m w.waits) → AreMet v all
-rooms-met w v all h tied same = record { rooms = tied; matched = λ m. same m ∙ h.matched m; going = h.going }
 
 pub offer-same : (w : World) (i : ℕ) (item : Item) → (rooms.offer i item w).waits ≡ w.waits
 offer-same w i item = at (slice_get w.channels i)
@@ -103,30 +101,34 @@ pub record Holds (w : Script) : Type 0 where
   pub met : AreMet w.rooms w.connections
   pub quiet : w.rooms.answers ≡ []
 
-pub act-holds : (w : Script) (a : Act) → Holds w → Holds (act w a)
-act-holds w (Declare c) h = record { met = rooms-met w.rooms (rooms.silent (rooms.declare c w.rooms)) w.connections h.met (declare-open w.rooms c h.met.rooms) (λ m. refl); quiet = refl }
-act-holds w (Offer i item) h = record {
+-- the rooms changed, and their answers are heard
+rooms-hold : (w v : Script) (u : World) → v.rooms ≡ rooms.silent u → v.connections ≡ w.connections → Holds w → IsOpen u
+    → ((m : ℕ) → waiting_of m u.waits ≡ waiting_of m w.rooms.waits) → Holds v
+rooms-hold w v u is same h tied counts = record {
   met =
-      rooms-met w.rooms (rooms.silent (rooms.offer i item w.rooms)) w.connections h.met (offer-open w.rooms i item h.met.rooms) (λ m. ap (waiting_of m) (offer-same w.rooms i item));
-  quiet = refl;
+      subst₂ AreMet (sym is) (sym same)
+      (record { rooms = tied; matched = λ m. counts m ∙ h.met.matched m; going = h.met.going });
+  quiet = ap (λ (r : World). r.answers) is;
 }
+
+turn-holds : (w : Script) (t : Turn) → AreMet t.rooms t.connections → Holds (turned w t)
+turn-holds w t m = record { met = record { rooms = m.rooms; matched = m.matched; going = m.going }; quiet = refl }
+
+pub act-holds : (w : Script) (a : Act) → Holds w → Holds (act w a)
+act-holds w (Declare c) h = rooms-hold w (act w (Declare c)) (rooms.declare c w.rooms) refl refl h (declare-open w.rooms c h.met.rooms) (λ m. refl)
+act-holds w (Offer i item) h =
+    rooms-hold w (act w (Offer i item)) (rooms.offer i item w.rooms) refl refl h (offer-open w.rooms i item h.met.rooms) (λ m. ap (waiting_of m) (offer-same w.rooms i item))
 act-holds w (Refuse reason) h = record { met = h.met; quiet = h.quiet }
-act-holds w (Ask id i want) h = record {
-  met = rooms-met w.rooms (rooms.silent (rooms.ask (Get id) i want w.rooms)) w.connections h.met (ask-open w.rooms (Get id) i want h.met.rooms) (ask-same w.rooms id i want);
-  quiet = refl;
-}
+act-holds w (Ask id i want) h =
+    rooms-hold w (act w (Ask id i want)) (rooms.ask (Get id) i want w.rooms) refl refl h (ask-open w.rooms (Get id) i want h.met.rooms) (ask-same w.rooms id i want)
 act-holds w (Answer id reason) h = record { met = h.met; quiet = h.quiet }
-act-holds w (Close id) h = record {
-  met = rooms-met w.rooms (rooms.silent (rooms.close (Get id) w.rooms)) w.connections h.met (close-open w.rooms (Get id) h.met.rooms) (λ m. close-same w.rooms id m h.met.rooms);
-  quiet = refl;
-}
-act-holds w (Clock i ms) h = record {
-  met = rooms-met w.rooms (rooms.silent (rooms.clock i ms w.rooms)) w.connections h.met (clock-open w.rooms i ms h.met.rooms) (λ m. ap (waiting_of m) (clock-same w.rooms i ms));
-  quiet = refl;
-}
+act-holds w (Close id) h =
+    rooms-hold w (act w (Close id)) (rooms.close (Get id) w.rooms) refl refl h (close-open w.rooms (Get id) h.met.rooms) (λ m. close-same w.rooms id m h.met.rooms)
+act-holds w (Clock i ms) h =
+    rooms-hold w (act w (Clock i ms)) (rooms.clock i ms w.rooms) refl refl h (clock-open w.rooms i ms h.met.rooms) (λ m. ap (waiting_of m) (clock-same w.rooms i ms))
 act-holds w RefuseClock h = record { met = h.met; quiet = h.quiet }
-act-holds w (Bytes n piece) h = let m = bytes-met n piece w.connections w.rooms h.met in record { met = record { rooms = m.rooms; matched = m.matched; going = m.going }; quiet = refl }
-act-holds w (Drop n) h = let m = end-met n w.connections w.rooms h.met in record { met = record { rooms = m.rooms; matched = m.matched; going = m.going }; quiet = refl }
+act-holds w (Bytes n piece) h = turn-holds w (bytes n piece w.connections w.rooms) (bytes-met n piece w.connections w.rooms h.met)
+act-holds w (Drop n) h = turn-holds w (end n w.connections w.rooms) (end-met n w.connections w.rooms h.met)
 
 -- ---- a reply that is due
 
@@ -159,12 +161,12 @@ told_in w place c r x s = waits_less (told (happens w place c (Collect r.ticket)
 
 -- what telling the first reply that is due at a place comes to
 pub data Ticks (w : World) (place : ℕ) (v : World) : Type 0 where
-  Nothing : v ≡ w → Ticks w place v
+  Nothing : ((c : Channel) → slice_get w.channels place ≡ Some c → first_due c.settings c.events ≡ None) → v ≡ w → Ticks w place v
   Tells : (c : Channel) (r : Request) (x : Wait) (s : Settled) → slice_get w.channels place ≡ Some c → first_due c.settings c.events ≡ Some r
       → under place r.ticket w.waits ≡ Some x → reply c.settings c.events r ≡ Some s → v ≡ told_in w place c r x s → Ticks w place v
 
-pub ticks : (w : World) (place : ℕ) → Ticks w place (rooms.tick place w)
-ticks w place = at (slice_get w.channels place) refl
+pub ticks : (w : World) (place : ℕ) → IsOpen w → Ticks w place (rooms.tick place w)
+ticks w place tied = at (slice_get w.channels place) refl
   where
     told_by : (c : Channel) (r : Request) (x : Wait) (o : Option Settled) → slice_get w.channels place ≡ Some c → first_due c.settings c.events ≡ Some r
         → under place r.ticket w.waits ≡ Some x → reply c.settings c.events r ≡ o
@@ -174,40 +176,35 @@ ticks w place = at (slice_get w.channels place) refl
 
     found : (c : Channel) (r : Request) (o : Option Wait) → slice_get w.channels place ≡ Some c → first_due c.settings c.events ≡ Some r
         → under place r.ticket w.waits ≡ o → Ticks w place (told_to w place c r o)
-    found c r None at is e = Nothing refl
+    found c r None at is e = let never : false ≡ true = ap is_some (sym e) ∙ due_waits w place c r tied at is in absurd (cc)
     found c r (Some x) at is e = told_by c r x (reply c.settings c.events r) at is e refl
 
     by : (c : Channel) (o : Option Request) → slice_get w.channels place ≡ Some c → first_due c.settings c.events ≡ o → Ticks w place (tick_of w place c o)
-    by c None at is = Nothing refl
+    by c None at is = Nothing (λ d there. ap (λ (c : Channel). first_due c.settings c.events) (some_is d c (sym there ∙ at)) ∙ is) refl
     by c (Some r) at is = found c r (under place r.ticket w.waits) at is refl
 
     at : (o : Option Channel) → slice_get w.channels place ≡ o → Ticks w place (tick_at w place o)
-    at None e = Nothing refl
+    at None e = Nothing (λ d there. absurd (none_some d (sym e ∙ there))) refl
     at (Some c) e = by c (first_due c.settings c.events) e refl
 
 pub tick-holds : (place : ℕ) (w : Script) → Holds w → Holds (tick place w)
-tick-holds place w h = by (rooms.tick place w.rooms) (ticks w.rooms place) (tick-open w.rooms place h.met.rooms)
+tick-holds place w h = by (rooms.tick place w.rooms) (ticks w.rooms place h.met.rooms) (tick-open w.rooms place h.met.rooms)
   where
     passed : (t : ℕ) (x : Wait) (o : Owner) (a : Reply) (v : World) → under place t w.rooms.waits ≡ Some x → x.owner ≡ o → v.waits ≡ without place t w.rooms.waits → IsOpen v
         → Holds (fold passed_on (heard w v) (said.Replied o a ∷ []))
-    passed t x (Get id) a v e is waits tied = record {
-      met =
-          rooms-met w.rooms (rooms.silent v) w.connections h.met tied
-          (λ m. ap (waiting_of m) waits ∙ of_other m w.rooms place t x e (ap (λ o. is_same o (Connection m)) is));
-      quiet = refl;
-    }
+    passed t x (Get id) a v e is waits tied =
+        rooms-hold w (heard w v) v refl refl h tied (λ m. ap (waiting_of m) waits ∙ of_other m w.rooms place t x e (ap (λ o. is_same o (Connection m)) is))
     passed t x (Connection n) a v e is waits tied =
-        let m =
-        reply-met n a w.connections w.rooms (rooms.silent v) h.met tied (ap (waiting_of n) waits ∙ own_gone n w.connections w.rooms place t x h.met e is)
+        turn-holds (heard w v) (connection.reply n a w.connections (rooms.silent v))
+        (reply-met n a w.connections w.rooms (rooms.silent v) h.met tied (ap (waiting_of n) waits ∙ own_gone n w.connections w.rooms place t x h.met e is)
         (λ m f. ap (waiting_of m) waits ∙ of_other m w.rooms place t x e (ap (λ o. is_same o (Connection m)) is ∙ f))
-        (asker n w.connections w.rooms place t x h.met e is) in
-        record { met = record { rooms = m.rooms; matched = m.matched; going = m.going }; quiet = refl }
+        (asker n w.connections w.rooms place t x h.met e is))
 
     by : (v : World) → Ticks w.rooms place v → IsOpen v → Holds (fold passed_on (heard w v) v.answers)
-    by v (Nothing e) tied =
+    by v (Nothing none e) tied =
         subst (λ (v : World). Holds (fold passed_on (heard w v) v.answers)) (sym e)
         (subst (λ answers. Holds (fold passed_on (heard w w.rooms) answers)) (sym h.quiet)
-        (record { met = record { rooms = h.met.rooms; matched = h.met.matched; going = h.met.going }; quiet = refl }))
+        (rooms-hold w (heard w w.rooms) w.rooms refl refl h h.met.rooms (λ m. refl)))
     by v (Tells c r x s at is found told e) tied =
         let u = told_in w.rooms place c r x s in
         subst (λ (v : World). Holds (fold passed_on (heard w v) v.answers)) (sym e)
@@ -241,13 +238,23 @@ Always list w = Holds w
 
 moment-holds : (before : List (List ℕ)) (list : List Act) (last : Act) (place n : ℕ) → Holds (moment before list last place n)
 moment-holds before list last place n =
-    let acts-hold = λ (all : List Act) (w : Script) (a : Act) (h : Holds w). act-holds w a h in
-    let ticks-hold = λ (all : List Act) (w : Script) (place : ℕ) (h : Holds w). tick-holds place w h in
-    let same-hold = λ (all : List Act) (w : Script) (lines : ℕ) (ending : Option Ending) (h : Holds w). same-holds w lines ending h in
+    let acts = λ (all : List Act) (w : Script) (a : Act) (h : Holds w). act-holds w a h in
+    let ticks = λ (all : List Act) (w : Script) (place : ℕ) (h : Holds w). tick-holds place w h in
+    let same = λ (all : List Act) (w : Script) (lines : ℕ) (ending : Option Ending) (h : Holds w). same-holds w lines ending h in
     let w = fold line start before in
     let v = fold done w list in
-    ticks-keep Always acts-hold ticks-hold same-hold [] (act v last) place n
-    (act-holds v last (acts-keep Always acts-hold ticks-hold same-hold [] list w (lines-keep Always acts-hold ticks-hold same-hold [] start before start-holds)))
+    ticks-keep Always acts ticks [] (act v last) place n
+    (act-holds v last (acts-keep Always (done-keeps Always acts ticks) same [] list w (lines-keep Always (done-keeps Always acts ticks) same [] start before start-holds)))
 
 pub due : DueLaw
 due before list last place n = let h = moment-holds before list last place n in (finds (moment before list last place n) h, h.met.matched)
+
+pub waits : WaitsLaw
+waits before list last place n i =
+    let h = moment-holds before list last place n in
+    let w = (moment before list last place n).rooms in
+    (h.met.rooms i ∙ open-is (slice_get w.channels i), once_each w.channels w.waits h.met.rooms i)
+  where
+    open-is : (o : Option Channel) → opens o ≡ open_tickets o
+    open-is None = refl
+    open-is (Some c) = refl

@@ -1,11 +1,14 @@
 pub mod ActLemmas
 pub mod AskLemmas
+pub mod CalmLemmas
 pub mod ChannelLemmas
 pub mod DueLemmas
 pub mod GrowLemmas
 pub mod ItemTexts
 pub mod LawProofs
+pub mod LeftLemmas
 pub mod OrderLemmas
+pub mod PartLemmas
 pub mod PieceLemmas
 pub mod ReplyLemmas
 pub mod ScriptLemmas

@@ -14,14 +14,13 @@ use Rattle.ll_verdict.specs.declared.reply.Reply.TheVariants as now
 use Rattle.ll_verdict.specs.declared.reply.Settled.TheVariants.{Text, Timeout}
 use Rattle.ll_verdict.specs.declared.wanted.Wanted.{Wanted}
 use Rattle.ll_verdict.proofs.LawProofs.{first_state}
-use Rattle.ll_verdict.proofs.ListLemmas.{Each, each-append, each-map}
+use Rattle.ll_verdict.proofs.ListLemmas.{Each, each-append, each-at, each-map}
 use Rattle.ll_verdict.proofs.StepLemmas.{along, held-snoc}
 use Rattle.ll_window.specs.Segments.{own}
 use Rattle.ll_script_laws.specs.Laws.{AtOnceLaw, IsWanted, LaterLaw, VerdictLaw}
 use Rattle.ll_script_laws.specs.Verdicts.{later_by}
 use Rattle.std.specs.Option.{option_or}
 use Rattle.ll_verdict.specs.declared.reply.Settled.{Settled}
-use Rattle.ll_script_laws.proofs.ChannelLemmas.{each-at}
 
 -- what is wanted is of a rendition of the channel
 wanted-at : (c : Configuration) (want : WantValue) (a : Wanted) (o : Option ℕ) → rendition_named c want.rendition ≡ o → option_map (wanted_at want) o ≡ Some a

@@ -9,8 +9,7 @@ use Rattle.ll_script_laws.specs.Talks.{acts_in, acts_of, listed}
 -- it may speak of all acts so far
 module _ (P : List Act → Script → Type 0)
     (act-keeps : (list : List Act) (w : Script) (a : Act) → P list w → P (list ++ a ∷ []) (act w a))
-    (tick-keeps : (list : List Act) (w : Script) (place : ℕ) → P list w → P list (tick place w))
-    (same : (list : List Act) (w : Script) (lines : ℕ) (ending : Option Ending) → P list w → P list (record w { lines = lines; ending = ending })) where
+    (tick-keeps : (list : List Act) (w : Script) (place : ℕ) → P list w → P list (tick place w)) where
   pub ticks-keep : (list : List Act) (w : Script) (place n : ℕ) → P list w → P list (repeat (tick place) n w)
   ticks-keep list w place zero h = h
   ticks-keep list w place (suc n) h = tick-keeps list (repeat (tick place) n w) place (ticks-keep list w place n h)
@@ -19,14 +18,19 @@ module _ (P : List Act → Script → Type 0)
   rest-keeps list w None h = h
   rest-keeps list w (Some place) h = ticks-keep list w place (length w.rooms.waits) h
 
+  pub done-keeps : (list : List Act) (w : Script) (a : Act) → P list w → P (list ++ a ∷ []) (done w a)
+  done-keeps list w a h = rest-keeps (list ++ a ∷ []) (act w a) (makes_due a) (act-keeps list w a h)
+
+module _ (P : List Act → Script → Type 0)
+    (done-keeps : (list : List Act) (w : Script) (a : Act) → P list w → P (list ++ a ∷ []) (done w a))
+    (same : (list : List Act) (w : Script) (lines : ℕ) (ending : Option Ending) → P list w → P list (record w { lines = lines; ending = ending })) where
   no_more : (list : List Act) (w : Script) → P list w → P (list ++ []) w
   no_more list w h = subst (λ all. P all w) (sym (append-nil list)) h
 
   pub acts-keep : (list more : List Act) (w : Script) → P list w → P (list ++ more) (fold done w more)
   acts-keep list [] w h = no_more list w h
   acts-keep list (a ∷ more) w h =
-      subst (λ all. P all (fold done (done w a) more)) (append_assoc list (a ∷ []) more)
-      (acts-keep (list ++ a ∷ []) more (done w a) (rest-keeps (list ++ a ∷ []) (act w a) (makes_due a) (act-keeps list w a h)))
+      subst (λ all. P all (fold done (done w a) more)) (append_assoc list (a ∷ []) more) (acts-keep (list ++ a ∷ []) more (done w a) (done-keeps list w a h))
 
   acted-keeps : (list : List Act) (w : Script) (o : Option (List Act)) → P list w → P (list ++ listed o) (acted w o)
   acted-keeps list w None h = no_more list (acted w None) (same list w w.lines (Some (BadLine w.lines)) h)

@@ -16,10 +16,10 @@ use Rattle.ll_held.specs.Waits.{is_same, under}
 use Rattle.ll_held.specs.declared.owner.Owner.{Owner}
 use Rattle.ll_held.specs.declared.owner.Owner.TheVariants.{Get, Connection}
 use Rattle.ll_held.specs.declared.wait.Wait.{Wait}
-use Rattle.ll_script.specs.Answers.{sent_line}
 use Rattle.ll_script.specs.declared.act.Act.{Act}
 use Rattle.ll_script.specs.declared.act.Act.TheVariants.{Declare, Offer, Refuse, Ask, Answer, Close, Clock, RefuseClock, Bytes, Drop}
-use Rattle.ll_session.specs.Past.{Past, Send, before_any, called, past}
+use Rattle.ll_session.proofs.PastLemmas.{is_talk}
+use Rattle.ll_session.specs.Past.{Past, Send, before_any, called, conversation, past}
 use Rattle.ll_session.specs.Talk.{SessionValue, fresh, replied}
 use Rattle.ll_room.specs.Full.{is_full}
 use Rattle.ll_verdict.specs.Events.{Collect, asks}
@@ -35,60 +35,15 @@ use Rattle.ll_world.specs.declared.answer.Answer as answer
 use Rattle.ll_world.specs.declared.answer.Answer.TheVariants as said
 use Rattle.ll_world.proofs.TieLemmas.{equal, same_test}
 use Rattle.ll_world.proofs.WaitLemmas.{IsOpen, tick-open}
-use Rattle.ll_replay.specs.Script.{Script, Ending, act, heard, passed_on, passed_to, spelled, start, tick, turned}
+use Rattle.ll_replay.specs.Script.{Script, Ending, act, heard, passed_on, passed_to, start, tick, turned}
 use Rattle.ll_script_laws.proofs.AskLemmas.{AreAsked, AskedBy, asked-at, asked-closes, asked-less, asked-stays, due-right}
 use Rattle.ll_script_laws.proofs.DueLemmas as due
 use Rattle.ll_script_laws.proofs.GrowLemmas.{Grows, answer-stays, answers-stay, declare-grows, event-grows, grows-same}
-use Rattle.ll_script_laws.proofs.ScriptLemmas.{lines-keep}
+use Rattle.ll_script_laws.proofs.PartLemmas.{said-sent, said-text, turn-sent, turn-text, turn_parts}
+use Rattle.ll_script_laws.proofs.ScriptLemmas.{done-keeps, lines-keep}
 use Rattle.ll_script_laws.proofs.ServeLemmas.{Serves, Keeps, ask-grows, asks-keep, came-serves, close-grows, clock-grows, none-keeps, offer-grows, reply-serves, same-asked, unanswered-same, unanswered_at}
-use Rattle.ll_script_laws.specs.Talks.{IsServed, Late, Faulty, Part, Refused, Said, Sent, Shut, StandsAt, TalksLaw, brought_by, part_text, sent_by}
+use Rattle.ll_script_laws.specs.Talks.{AnswersLaw, IsServed, Late, Faulty, Part, Refused, Said, StandsAt, TalksLaw, brought_by, part_text, sent_by}
 use Rattle.ll_script_laws.specs.Verdicts.{AreAnswered, IsAnswer, wants_of}
-
--- ---- parts
-
--- the answers of a turn, and whether the connection has shut
-abbrev shut_parts : Bool → ℕ → List Part
-shut_parts true n = Shut n ∷ []
-shut_parts false n = []
-
-abbrev turn_parts : ℕ → List (List ℕ) → Bool → List Part
-turn_parts n answers shut = map (λ bytes. Sent n bytes) answers ++ shut_parts shut n
-
-shut-text : (shut : Bool) (n : ℕ) → flat_map part_text (shut_parts shut n) ≡ shut_text shut n
-shut-text true n = append-nil (part_text (Shut n))
-shut-text false n = refl
-
-sent-text : (n : ℕ) (answers : List (List ℕ)) → flat_map part_text (map (λ bytes. Sent n bytes) answers) ≡ flat_map (sent_line n) answers
-sent-text n [] = refl
-sent-text n (a ∷ answers) = ap (λ t. sent_line n a ++ t) (sent-text n answers)
-
-turn-text : (n : ℕ) (answers : List (List ℕ)) (shut : Bool) → flat_map part_text (turn_parts n answers shut) ≡ flat_map (sent_line n) answers ++ shut_text shut n
-turn-text n answers shut =
-    flat_map-append part_text (map (λ bytes. Sent n bytes) answers) (shut_parts shut n) ∙ ap₂ (λ x y. x ++ y) (sent-text n answers) (shut-text shut n)
-
-shut-sent : (m n : ℕ) (shut : Bool) → flat_map (sent_by m) (shut_parts shut n) ≡ []
-shut-sent m n true = refl
-shut-sent m n false = refl
-
-own-sent : (m n : ℕ) (b : Bool) (answers : List (List ℕ)) → (n == m) ≡ b → flat_map (sent_by m) (map (λ bytes. Sent n bytes) answers) ≡ (if b then concat answers else [])
-own-sent m n true [] e = refl
-own-sent m n false [] e = refl
-own-sent m n true (a ∷ answers) e = ap₂ (λ x y. x ++ y) (ap (λ b. if b then a else []) e) (own-sent m n true answers e)
-own-sent m n false (a ∷ answers) e = ap₂ (λ x y. x ++ y) (ap (λ b. if b then a else []) e) (own-sent m n false answers e)
-
-turn-sent : (m n : ℕ) (b : Bool) (answers : List (List ℕ)) (shut : Bool) → (n == m) ≡ b
-    → flat_map (sent_by m) (turn_parts n answers shut) ≡ (if b then concat answers else [])
-turn-sent m n b answers shut e =
-    flat_map-append (sent_by m) (map (λ bytes. Sent n bytes) answers) (shut_parts shut n)
-    ∙ ap₂ (λ x y. x ++ y) (own-sent m n b answers e) (shut-sent m n shut) ∙ append-nil (if b then concat answers else [])
-
-said-text : (list : List answer.Answer) → flat_map part_text (map (λ a. Said a) list) ≡ flat_map spelled list
-said-text [] = refl
-said-text (a ∷ list) = ap (λ t. spelled a ++ t) (said-text list)
-
-said-sent : (m : ℕ) (list : List answer.Answer) → flat_map (sent_by m) (map (λ a. Said a) list) ≡ []
-said-sent m [] = refl
-said-sent m (a ∷ list) = said-sent m list
 
 -- ---- what holds after each act
 
@@ -229,15 +184,13 @@ bytes-holds : (n : ℕ) (piece : List ℕ) (came : ℕ → List ℕ) (un : ℕ �
     → HoldsSome (and_on n piece came) (turned w (connection.bytes n piece w.connections w.rooms))
 bytes-holds n piece came un w met h = by (session_of n w.connections) refl (h.served n).stands
   where
-    counts : ℕ → ℕ
-    counts m = wants_out (session_of m w.connections)
-
     goes : (s : SessionValue) → (past (h.served n).calls).session ≡ s → s.shut ≡ false → (h.served n).untaken ≡ [] → waiting_of n w.rooms.waits ≡ outs s.out
         → HoldsSome (and_on n piece came) (turned w (turn n w.connections (arrived n piece (record { session = s; rooms = w.rooms }))))
     goes s e going none own =
+        let counts = λ (m : ℕ). wants_out (session_of m w.connections) in
         let v : Visit = record { session = s; rooms = w.rooms } in
         let q = past (h.served n).calls in
-        let is_met : IsMet n (λ m. wants_out (session_of m w.connections)) v =
+        let is_met : IsMet n counts v =
         record { rooms = met.met.rooms; own = own; other = λ m f. met.met.matched m; sound = λ shut. absurd (true≢false (sym shut ∙ going)) } in
         let serves : Serves n un w.rooms.channels w.rooms q = record {
           unanswered = un n;
@@ -246,13 +199,13 @@ bytes-holds n piece came un w met h = by (session_of n w.connections) refl (h.se
           asked = same-asked un (unanswered_at n (un n) un) w.rooms.channels w.rooms.waits (λ m. unanswered-same n m (n == m) refl un) h.asked;
           count = (h.served n).is_out;
         } in
-        let K = Keeps n un w.rooms.channels (λ m. wants_out (session_of m w.connections)) in
+        let K = Keeps n un w.rooms.channels counts in
         let d =
-        bytes-talked n K (none-keeps n un w.rooms.channels (λ m. wants_out (session_of m w.connections))) (asks-keep n un w.rooms.channels (λ m. wants_out (session_of m w.connections)))
+        bytes-talked n K (none-keeps n un w.rooms.channels counts) (asks-keep n un w.rooms.channels counts)
         q s piece w.connections w.rooms e going
-        (came-serves n un w.rooms.channels piece v q serves, came-met n (λ m. wants_out (session_of m w.connections)) piece v is_met) in (
+        (came-serves n un w.rooms.channels piece v q serves, came-met n counts piece v is_met) in (
           unanswered_at n d.kept.0.unanswered un,
-          turned-holds n piece came un (λ m. wants_out (session_of m w.connections)) w h none (arrived n piece v) d,
+          turned-holds n piece came un counts w h none (arrived n piece v) d,
         )
 
     by : (o : Option (Option SessionValue)) → session_of n w.connections ≡ o → StandsAt o (past (h.served n).calls) (h.served n).untaken
@@ -320,7 +273,8 @@ end-holds n came un w h = by (session_of n w.connections)
           is_out = t.is_out;
         }
         ended m false f t =
-            stays w (turned w (connection.end_of n w.connections w.rooms (Some (Some s)))) (came m) (came m) (flat_map (sent_by m) h.parts) (flat_map (sent_by m) h.parts) m (un m) refl refl
+            stays w (turned w (connection.end_of n w.connections w.rooms (Some (Some s)))) (came m) (came m) (flat_map (sent_by m) h.parts) (flat_map (sent_by m) h.parts) m
+            (un m) refl refl
             (kept_other n m None w.connections f) (close-grows w.rooms.channels w.rooms (Connection n) (grows-same w.rooms.channels)) t
 
 -- ---- a reply is due
@@ -372,7 +326,7 @@ reply-holds n a came un w h t =
     )
 
 tick-holds : (came : ℕ → List ℕ) (un : ℕ → List WantValue) (w : Script) (place : ℕ) → due.Holds w → Holds came un w → HoldsSome came (tick place w)
-tick-holds came un w place met h = by (rooms.tick place w.rooms) (due.ticks w.rooms place) (tick-open w.rooms place met.met.rooms)
+tick-holds came un w place met h = by (rooms.tick place w.rooms) (due.ticks w.rooms place met.met.rooms) (tick-open w.rooms place met.met.rooms)
   where
     told_by : (c : Channel) (r : Request) (x : Wait) (s : Settled) (o : Owner) → slice_get w.rooms.channels place ≡ Some c → first_due c.settings c.events ≡ Some r
         → under place r.ticket w.rooms.waits ≡ Some x → reply c.settings c.events r ≡ Some s → x.owner ≡ o → IsOpen (due.told_in w.rooms place c r x s)
@@ -405,13 +359,15 @@ tick-holds came un w place met h = by (rooms.tick place w.rooms) (due.ticks w.ro
             })
 
     by : (v : World) → due.Ticks w.rooms place v → IsOpen v → HoldsSome came (fold passed_on (heard w v) v.answers)
-    by v (due.Nothing e) tied =
+    by v (due.Nothing none e) tied =
         subst (λ (v : World). HoldsSome came (fold passed_on (heard w v) v.answers)) (sym e)
         (subst (λ answers. HoldsSome came (fold passed_on (heard w w.rooms) answers)) (sym met.quiet)
         (un, heard-holds came un w w.rooms h (grows-same w.rooms.channels) h.asked))
     by v (due.Tells c r x s at is found told e) tied =
         subst (λ (v : World). HoldsSome came (fold passed_on (heard w v) v.answers)) (sym e)
-        (subst (λ (answers : List answer.Answer). HoldsSome came (fold passed_on (heard w (due.told_in w.rooms place c r x s)) (answers ++ said.Replied x.owner (reply_of s) ∷ []))) (sym met.quiet)
+        (subst
+        (λ (answers : List answer.Answer). HoldsSome came (fold passed_on (heard w (due.told_in w.rooms place c r x s)) (answers ++ said.Replied x.owner (reply_of s) ∷ [])))
+        (sym met.quiet)
         (told_by c r x s x.owner at is found told refl (subst IsOpen e tied)))
 
 -- ---- acts
@@ -513,9 +469,36 @@ start-holds = record {
   asked = tt;
 }
 
+one_reply : (list : List Act) (w : Script) (place : ℕ) → Always list w → Always list (tick place w)
+one_reply list w place h = (due.tick-holds place w h.0, tick-holds (so_far list) h.1.0 w place h.0 h.1.1)
+
 pub talks : TalksLaw
 talks ls =
-    let h =
-    lines-keep Always one_more (λ list w place h. (due.tick-holds place w h.0, tick-holds (so_far list) h.1.0 w place h.0 h.1.1)) same [] start ls
-    (due.start-holds, ((λ n. []), start-holds)) in
+    let h = lines-keep Always (done-keeps Always one_more one_reply) same [] start ls (due.start-holds, ((λ n. []), start-holds)) in
     (h.1.1.parts, h.1.1.text, λ n. (h.1.0 n, h.1.1.served n))
+
+-- the same without the calls
+pub answers : AnswersLaw
+answers ls =
+    let t = talks ls in (
+      t.0,
+      t.1,
+      λ n.
+          let s = t.2 n in
+          let talk = is_talk s.1.calls in
+          let sent : flat_map (sent_by n) t.0 ++ [] ≡ concat (conversation (past s.1.calls).overflowed (past s.1.calls).entries (past s.1.calls).replies) =
+          ap₂ (λ x y. x ++ y) s.1.gone (ap concat (sym s.1.all_sent)) ∙ talk.answers in
+          record {
+            taken = (past s.1.calls).fed;
+            untaken = s.1.untaken;
+            came_is = s.1.fed;
+            entries = (past s.1.calls).entries;
+            later = talk.first.0;
+            requests_are = talk.first.1;
+            answers = (past s.1.calls).replies;
+            unanswered = s.0;
+            right = s.1.answered;
+            overflowed = (past s.1.calls).overflowed;
+            sent_is = sym (append-nil (flat_map (sent_by n) t.0)) ∙ sent;
+          },
+    )

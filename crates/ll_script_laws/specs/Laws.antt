@@ -1,8 +1,8 @@
 -- Laws of what a script comes to: of its channels, and of the texts that their requests get.
-use Rattle.std.specs.Prelude.{◌≡◌, ℕ, ◌+◌, ◌≤◌, ◌<◌, List, [], ◌∷◌, ◌++◌, Option, Some, Ok, true, is_some, fold, length, slice_get}
+use Rattle.std.specs.Prelude.{◌≡◌, ℕ, ◌+◌, ◌≤◌, ◌<◌, List, [], ◌∷◌, ◌++◌, Option, Some, None, Ok, true, is_some, fold, length, map, slice_get}
 use Rattle.std.specs.Str.Lines.{lines}
 use Rattle.ll_item.specs.Settings.{Configuration, IsWithin}
-use Rattle.ll_book.specs.Waiting.{IsRising, first_ready, is_ready}
+use Rattle.ll_book.specs.Waiting.{IsRising, first_ready, is_ready, ticket_in}
 use Rattle.ll_directive.specs.Targets.{WantValue}
 use Rattle.ll_window.specs.Segments.{own, end_time}
 use Rattle.ll_window.specs.Window.{skip_limit}
@@ -14,6 +14,7 @@ use Rattle.ll_page.specs.declared.skip_kind.SkipKind.{SkipKind}
 use Rattle.ll_script.specs.Lines.{acts}
 use Rattle.ll_script.specs.declared.act.Act.{Act}
 use Rattle.ll_script.specs.declared.act.Act.TheVariants.{Bytes}
+use Rattle.ll_room.specs.Home.{AreDistinct}
 use Rattle.ll_held.specs.Waits.{under}
 use Rattle.ll_held.specs.declared.owner.Owner.{Owner}
 use Rattle.ll_held.specs.declared.owner.Owner.TheVariants.{Get, Connection}
@@ -28,7 +29,8 @@ use Rattle.ll_verdict.specs.declared.entry.Slot.{Slot}
 use Rattle.ll_verdict.specs.declared.reply.Reply.TheVariants as now
 use Rattle.ll_verdict.specs.declared.reply.Settled.TheVariants.{Text}
 use Rattle.ll_verdict.specs.declared.wanted.Wanted.{Wanted}
-use Rattle.ll_world.specs.World.{Channel, first_due, repeat}
+use Rattle.ll_world.specs.Kept.{tickets_at}
+use Rattle.ll_world.specs.World.{Channel, World, first_due, repeat}
 use Rattle.ll_replay.specs.Stream.{script, world_of}
 use Rattle.ll_replay.specs.Script.{Script, act, done, line, longest_line, start, tick}
 use Rattle.ll_apply.specs.Texts.{applied_text}
@@ -78,7 +80,8 @@ LaterLaw = (c : Configuration) (events : List Event) (place : ℕ) (r : Request)
 -- A text that is the verdict of a request is the playlist that it wants, of a moment of the channel that is not before it.
 abbrev pub VerdictLaw : Type 0
 VerdictLaw = (c : Configuration) (before later : List Event) (want : WantValue) (page : Paged) → verdict c (before ++ Ask want ∷ later) before want ≡ Some (now.Text page)
-    → (a : Wanted) × (since : List Event) × (rest : List Event) × (before ++ Ask want ∷ later ≡ (before ++ since) ++ rest) × (wanted_of c want ≡ Some a) × IsWanted c (before ++ since) a page
+    → (a : Wanted) × (since : List Event) × (rest : List Event) × (before ++ Ask want ∷ later ≡ (before ++ since) ++ rest) × (wanted_of c want ≡ Some a)
+    × IsWanted c (before ++ since) a page
 
 -- a line says, wherever it stands, that these bytes came on the connection of this number
 abbrev pub Brings : ℕ → List ℕ → List ℕ → Type 0
@@ -108,12 +111,30 @@ FindsAsker w = (place : ℕ) (channel : Channel) (r : Request)
     → slice_get w.rooms.channels place ≡ Some channel → first_due channel.settings channel.events ≡ Some r
     → (x : Wait) × (under place r.ticket w.rooms.waits ≡ Some x) × IsThere x.owner w.connections
 
+-- the tickets of the open requests of a channel, where there is one, in order of asking
+abbrev pub open_tickets : Option Channel → List ℕ
+open_tickets None = []
+open_tickets (Some c) = map ticket_in (state_of c.settings c.events).slots
+
+-- At each place those who wait are the open requests of the channel there, in their order, each once.
+abbrev pub AreOpen : World → Type 0
+AreOpen w = (place : ℕ) → (tickets_at place w.waits ≡ open_tickets (slice_get w.channels place)) × AreDistinct (tickets_at place w.waits)
+
 -- At each moment of each script: a reply that is due finds who asked, and of each connection as many requests wait as its session has wants
 -- out, one or none.
 abbrev pub DueLaw : Type 0
 DueLaw = (before : List (List ℕ)) (list : List Act) (last : Act) (place n : ℕ)
     → FindsAsker (moment before list last place n)
     × AreMatched (moment before list last place n).rooms.waits (moment before list last place n).connections
+
+-- At each moment of each script: who waits is who has an open request.
+abbrev pub WaitsLaw : Type 0
+WaitsLaw = (before : List (List ℕ)) (list : List Act) (last : Act) (place n : ℕ) → AreOpen (moment before list last place n).rooms
+
+-- after each line no reply is due in any channel
+abbrev pub NoneLeftLaw : Type 0
+NoneLeftLaw = (lines : List (List ℕ)) (place : ℕ) (channel : Channel) → slice_get (fold line start lines).rooms.channels place ≡ Some channel
+    → first_due channel.settings channel.events ≡ None
 
 -- the open requests of a channel are kept in the order of their numbers
 abbrev pub OpenOrderLaw : Type 0

@@ -1,5 +1,6 @@
 -- What comes and what is sent on each connection of a script.
-use Rattle.std.specs.Prelude.{◌≡◌, ℕ, ◌==◌, ◌||◌, List, [], ◌∷◌, ◌++◌, false, Option, Some, None, is_some, flat_map, fold, length, nat_lt, if◌then◌else◌}
+use Rattle.std.specs.Prelude.{◌≡◌, ℕ, ◌==◌, ◌||◌, List, [], ◌∷◌, ◌++◌, Bool, false, Option, Some, None, is_some, flat_map, fold, length, nat_lt, if◌then◌else◌}
+use Rattle.std.specs.List.{concat}
 use Rattle.ll_connection.specs.Met.{outs}
 use Rattle.ll_connection.specs.Turn.{session_of}
 use Rattle.ll_directive.specs.Targets.{WantValue}
@@ -12,8 +13,10 @@ use Rattle.ll_script.specs.Lines.{acts}
 use Rattle.ll_script.specs.declared.act.Act.{Act}
 use Rattle.ll_script.specs.declared.act.Act.TheVariants.{Bytes}
 use Rattle.ll_script.specs.declared.clock.ClockRefusal.TheVariants as refused
-use Rattle.ll_session.specs.Past.{Call, Past, past}
+use Rattle.ll_session.specs.Past.{Call, Past, conversation, past}
+use Rattle.ll_session.specs.Requests.{Entry, requests}
 use Rattle.ll_session.specs.Talk.{SessionValue, fresh}
+use Rattle.ll_wire.specs.declared.answer.Answer.{Answer}
 use Rattle.ll_world.specs.World.{all_settings}
 use Rattle.ll_world.specs.declared.answer.Answer as rooms
 use Rattle.ll_script_laws.specs.Verdicts.{AreAnswered, wants_of}
@@ -91,3 +94,26 @@ TalksLaw = (lines : List (List ℕ))
     → (parts : List Part) × ((fold line start lines).text ≡ flat_map part_text parts)
     × ((n : ℕ) → (unanswered : List WantValue)
     × IsServed (fold line start lines) (flat_map (brought_by n) (acts_of start lines)) (flat_map (sent_by n) parts) n unanswered)
+
+-- What came on a connection holds requests, and what was sent on it is the answers to the first of them, in their order. Those that want something
+-- of a channel are answered right, but for these, which have no answer yet.
+pub record IsAnswered (w : Script) (came sent : List ℕ) : Type 0 where
+  -- a connection that has ended takes no more bytes
+  pub taken : List ℕ
+  pub untaken : List ℕ
+  pub came_is : came ≡ taken ++ untaken
+  pub entries : List Entry
+  pub later : List Entry
+  pub requests_are : requests taken ≡ entries ++ later
+  pub answers : List Answer
+  pub unanswered : List WantValue
+  pub right : AreAnswered w.rooms.channels (wants_of entries) answers unanswered
+  -- whether too many bytes came after a request that waited, which are answered in its place
+  pub overflowed : Bool
+  pub sent_is : sent ≡ concat (conversation overflowed entries answers)
+
+-- For each script: each of its connections gets the answers to its requests, in order, each the right one, and nothing else is sent on it.
+abbrev pub AnswersLaw : Type 0
+AnswersLaw = (lines : List (List ℕ))
+    → (parts : List Part) × ((fold line start lines).text ≡ flat_map part_text parts)
+    × ((n : ℕ) → IsAnswered (fold line start lines) (flat_map (brought_by n) (acts_of start lines)) (flat_map (sent_by n) parts))

@@ -3,8 +3,8 @@
 //! draft-pantos-hls-rfc8216bis.
 #![tactic(auto)]
 
-ghost use Rattle.ll_script_laws.specs.Laws.{AtOnceLaw, DueLaw, LaterLaw, LeastReadyLaw, OpenOrderLaw, PiecesLaw, PlayersLaw, PublishedLaw, VerdictLaw};
-ghost use Rattle.ll_script_laws.specs.Talks.{TalksLaw};
+ghost use Rattle.ll_script_laws.specs.Laws.{AtOnceLaw, DueLaw, LaterLaw, LeastReadyLaw, NoneLeftLaw, OpenOrderLaw, PiecesLaw, PlayersLaw, PublishedLaw, VerdictLaw, WaitsLaw};
+ghost use Rattle.ll_script_laws.specs.Talks.{AnswersLaw, TalksLaw};
 
 /// For every input of `ll_replay::run`, at each moment of each of its channels: the settings are within their limits, and the items
 /// that the channel has accepted by then are such as the laws of `ll_laws` speak of. A moment is a prefix of the channel's events.
@@ -36,18 +36,23 @@ pub fn pieces_law()
     ensures { PiecesLaw }
 {}
 
-/// At each moment of every script, a reply that is due finds the request that waits for it and who asked: for a connection's, its
-/// session is open and has a want out. And of each connection as many requests wait as its session has wants out.
+/// No reply is lost in a script. At each moment, a reply that is due finds the request that waits for it and who asked: for a connection's,
+/// its session is open and has a want out; and of each connection as many requests wait as its session has wants out, one or none
+/// (`finds`). Those who wait at a channel are its open requests, in their order (`waits`). And after each line no reply is due: all are
+/// written, or put out on their connections (`left`).
 pub fn due_law()
-    ensures { DueLaw }
+    ensures finds { DueLaw }
+    ensures waits { WaitsLaw }
+    ensures left { NoneLeftLaw }
 {}
 
-/// What came and what was sent on each connection of a script are those of calls on one session: so, by `session_law` of `ll_session`, each
-/// connection is sent the answers to the requests in its bytes, in their order, and nothing else. And each answer is right for the request
-/// at its place: it is the channel's verdict of that request, or the channel had taken as many events as it takes, or no channel had the
-/// name. At most one request has no answer: the one that the session has out, or that was given up.
+/// Each connection of a script is sent the answers to the requests in its bytes, in their order, and nothing else, and each answer is right
+/// for the request at its own place: it is the channel's verdict of that request, or the channel had taken as many events as it takes, or
+/// no channel had the name (`answers`). At most one request has no answer: the one that the session has out, or that was given up. All that
+/// came and was sent are those of calls on one session, of which `session_law` of `ll_session` speaks (`calls`).
 pub fn talks_law()
-    ensures { TalksLaw }
+    ensures calls { TalksLaw }
+    ensures answers { AnswersLaw }
 {}
 
 /// The open requests of a channel are kept in the order of their numbers, whatever happened; so the first whose reply is there is the one

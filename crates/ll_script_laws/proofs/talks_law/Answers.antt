@@ -1,5 +1,8 @@
-use Rattle.ll_script_laws.proofs.TalkLemmas.{talks}
+use Rattle.ll_script_laws.proofs.TalkLemmas.{answers, talks}
 use Rattle.ll_script_laws.proofs.talks_law.Goals as goal
 
-pub returns : goal.returns
-returns c = talks
+pub returns-clause-calls : goal.returns-clause-calls
+returns-clause-calls c = talks
+
+pub returns-clause-answers : goal.returns-clause-answers
+returns-clause-answers c = answers
