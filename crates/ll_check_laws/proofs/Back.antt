@@ -1,10 +1,10 @@
 -- The record of some events is found right: chunk by chunk, and in each chunk line by line.
-use Rattle.std.proofs.Common.{◌≡◌, ℕ, ◌+◌, ◌≤◌, List, [], ◌∷◌, ◌++◌, Bool, true, false, cond, Some, Result, Ok, refl, ap, ◌∙◌, sym, subst, append_assoc, append-nil, length, length-append, map, bytes_eq, codes, arith}
+use Rattle.std.proofs.Common.{◌≡◌, ℕ, ◌+◌, ◌≤◌, ◌^◌, List, [], ◌∷◌, ◌++◌, Bool, true, false, cond, Some, Result, Ok, refl, ap, ◌∙◌, sym, subst, append_assoc, append-nil, length, length-append, map, bytes_eq, codes, arith}
 use Rattle.std.proofs.lemmas.List.{length-map}
 use Rattle.std.proofs.lemmas.List.Elements.{All-head, All-tail}
 use Rattle.std.proofs.lemmas.Slice.Eq.{bytes_eq-Decides}
 use Rattle.std.specs.List.{All, flat_map}
-use Rattle.ll_check.specs.Chain.{Between, Chain, Inside, begun, chain_of, checked_from, counted, ended_line, go_on, start, text_in, with_line}
+use Rattle.ll_check.specs.Chain.{Between, Chain, Inside, begun, chain_of, checked, checked_from, counted, ended_line, go_on, start, text_in, with_line}
 use Rattle.ll_check.specs.declared.fault.CheckFault.{CheckFault}
 use Rattle.ll_entry.specs.Entries.{entry_in}
 use Rattle.ll_entry.specs.Replies.{most}
@@ -16,7 +16,8 @@ use Rattle.ll_record_laws.proofs.ToldLemmas.{steps-many, told-right}
 use Rattle.ll_record_laws.specs.Leads.{IsOf}
 use Rattle.ll_record_laws.specs.Told.{entry_of}
 use Rattle.ll_verdict.specs.Events.{Event, steps_from}
-use Rattle.ll_check_laws.specs.Records.{Chunk, RightLaw, entries_in, lines_of}
+use Rattle.ll_check_laws.specs.Records.{Chunk, IsRecord, entries_in, lines_of}
+use Rattle.ll_check_laws.proofs.Few.{few}
 use Rattle.ll_check_laws.proofs.Walk.{IsText, Names, none_more, one_longer}
 
 abbrev AreRead : Configuration → List (List ℕ) → List Recorded → Type 0
@@ -140,15 +141,16 @@ started c (k ∷ chunks) some texts named =
     let text = All-head IsText k.settings (at_line 0 ∷ rest_of k.entries later) (All-tail IsText first_line (k.settings ∷ at_line 0 ∷ rest_of k.entries later) texts) in
     begun-on c start k later names text (omega arith) tt ∙ sym (begun-on c (chain_of c []) k later names text (omega arith) refl)
 
-many : (n lines entries events : ℕ) → lines ≡ entries → events ≡ entries → events ≡ n → n ≤ most → 0 + lines ≤ most
-many n lines entries events a b e h = omega (arith, a, b, e, h)
+small : (lines entries events : ℕ) → lines ≡ entries → events ≡ entries → events ≤ 2 ^ 61 → 0 + lines ≤ most
+small lines entries events a b e = omega (arith, a, b, e)
 
-pub right_law : RightLaw
-right_law text n r small =
+pub found_right : (text : List ℕ) (n : ℕ) → IsRecord text n → checked text ≡ Ok n
+found_right text n r =
     let c = r.settings in
     let lines = flat_map entries_in r.chunks in
-    let few = many n (length lines) (length r.entries) (length r.events)
+    let all = small (length lines) (length r.entries) (length r.events)
     (sym (length-map lines (entry_in c)) ∙ ap length r.read ∙ length-map r.entries Ok)
-    (sym (steps-many [] r.events) ∙ sym (length-map (steps_from [] r.events) (entry_of c)) ∙ ap length r.told ∙ length-map r.entries Some) r.many small in
-    ap counted (ap (checked_from Between start) r.lines ∙ started c r.chunks r.some r.utf8 r.named ∙ between c [] r.chunks r.events r.entries r.utf8 r.named r.read r.told few)
+    (sym (steps-many [] r.events) ∙ sym (length-map (steps_from [] r.events) (entry_of c)) ∙ ap length r.told ∙ length-map r.entries Some)
+    (few c r.events r.entries r.told) in
+    ap counted (ap (checked_from Between start) r.lines ∙ started c r.chunks r.some r.utf8 r.named ∙ between c [] r.chunks r.events r.entries r.utf8 r.named r.read r.told all)
     ∙ ap Ok r.many

@@ -6,7 +6,7 @@ use Rattle.std.proofs.lemmas.Slice.Eq.{bytes_eq-Decides}
 use Rattle.std.specs.List.{All, flat_map}
 use Rattle.std.specs.Str.{is_utf8}
 use Rattle.ll_attr.specs.Words.{after, pieces_at}
-use Rattle.ll_check.specs.Chain.{Between, Chain, Inside, Place, begun, begun_at, chain_of, checked_from, counted, ended_line, entry_at, go_on, joined, joined_by, known_by, place_in, start, text_in, with_line, wrong}
+use Rattle.ll_check.specs.Chain.{Between, Chain, Inside, Place, begun, begun_at, chain_of, checked, checked_from, counted, ended_line, entry_at, go_on, joined, joined_by, known_by, place_in, start, text_in, with_line, wrong}
 use Rattle.ll_check.specs.Entered.{event_of, fault_in}
 use Rattle.ll_check.specs.declared.fault.CheckFault.{CheckFault}
 use Rattle.ll_check.specs.declared.fault.CheckKind.{CheckKind}
@@ -26,7 +26,7 @@ use Rattle.ll_record_laws.proofs.ToldLemmas.{right-told}
 use Rattle.ll_record_laws.specs.Leads.{IsOf}
 use Rattle.ll_record_laws.specs.Told.{entry_of}
 use Rattle.ll_verdict.specs.Events.{Event, steps_from}
-use Rattle.ll_check_laws.specs.Records.{Chunk, IsRecord, RecordLaw, entries_in, lines_of}
+use Rattle.ll_check_laws.specs.Records.{Chunk, IsRecord, entries_in, lines_of}
 
 -- what a chain comes to that goes on after these events: chunks of these settings, with the entries of further events
 record Chunks (c : Configuration) (known : Option Configuration) (before : List Event) (lines : List (List ℕ)) (after : List Event) : Type 0 where
@@ -288,7 +288,8 @@ walk c Between ch end [] k h is = cc
 walk c Between ch end (rest ∷ []) k h is = at_end c ch end rest (bytes_eq rest []) refl h is
 walk c Between ch end (first ∷ settings ∷ []) k h is = cc
 walk c Between ch end (first ∷ settings ∷ at ∷ more) k h is =
-    let g = gone_on ch.events (begun ch (text_in first) (text_in settings) (text_in at)) (λ d. checked_from (Inside d) (chain_of d ch.events) more) end (ended more ch end _ h) in
+    let g = gone_on ch.events (begun ch (text_in first) (text_in settings) (text_in at)) (λ d. checked_from (Inside d) (chain_of d ch.events) more) end
+    (ended more ch end _ h) in
     first-of c g.0 ch end.events first settings at more (begun_by ch first settings at g.0 (is_utf8 first) (is_utf8 settings) (is_utf8 at) refl refl refl g.1)
     (walk c (Inside g.0) (chain_of g.0 ch.events) end more refl g.2 is)
 walk c (Inside d) ch end [] k h is = cc
@@ -327,5 +328,5 @@ right : (text : List ℕ) (n : ℕ) (r : Result Chain CheckFault) → checked_fr
 right text n (Ok ch) h e = counted_all text n ch.known ch.events h e
 right text n (Err fault) h e = cc
 
-pub record_law : RecordLaw
-record_law text n h = right text n (checked_from Between start (pieces_at 10 text)) refl h
+pub is_record : (text : List ℕ) (n : ℕ) → checked text ≡ Ok n → IsRecord text n
+is_record text n h = right text n (checked_from Between start (pieces_at 10 text)) refl h

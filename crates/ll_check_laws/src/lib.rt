@@ -1,19 +1,14 @@
-//! Laws of `ll_check`: what it means that a text is found right, said of a channel's events and verdicts and not of its lines one by one.
-//! Each is proved once, as the contract of an empty function; none of these does anything.
+//! What it means that `ll_check` finds a text right, said of a channel's events and verdicts and not line by line. It is proved once, as the
+//! contract of an empty function, which does nothing.
 #![tactic(auto)]
 
-ghost use Rattle.ll_check_laws.specs.Records.{RecordLaw, RightLaw};
+ghost use Rattle.ll_check_laws.specs.Records.{RecordLaw};
 
-/// A text that `ll_check::check` finds right is a record: there is a list of events of one channel such that each of the text's entries, in
-/// order, is the one of its event. Each item was accepted by every rule; each request tells the verdict that it gets at once over the
-/// events before it, or that it has to wait; each reply that was handed out is the verdict of an open request; each request that was
-/// given up was open.
+/// A text is found right by `ll_check::check`, with so many entries, exactly where it is the record of so many events of a channel: it is cut
+/// into chunks that name the channel and where they stand, and the lines of their entries, in order, read as the entries of these events.
+/// Of these, no rule refuses an item after the events before it; each request tells the verdict that it gets at once by then, or that it has to
+/// wait; no reading of the clock is past 2^60 milliseconds; each reply that was handed out is the verdict of a request that is open by then; each
+/// request that was given up is open by then.
 pub fn record_law()
     ensures { RecordLaw }
-{}
-
-/// Every such record, of fewer than 2^64 events, is found right: so `ll_check::check` answers how many entries a text has exactly where it is
-/// the record of so many events.
-pub fn right_law()
-    ensures { RightLaw }
 {}

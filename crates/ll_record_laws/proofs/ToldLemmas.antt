@@ -32,13 +32,13 @@ same_outcomes Busy Busy h = refl
 same_outcomes Timeout Timeout h = refl
 same_outcomes a b h = cc
 
-same_answers : (a b : Option Outcome) → same_answer a b ≡ true → a ≡ b
+pub same_answers : (a b : Option Outcome) → same_answer a b ≡ true → a ≡ b
 same_answers None None h = refl
 same_answers (Some a) (Some b) h = ap Some (same_outcomes a b h)
 same_answers a b h = cc
 
 -- it can happen, and its reply is right
-both : (can right : Bool) → where_it_can can right ≡ None → (can ≡ true) × (right ≡ true)
+pub both : (can right : Bool) → where_it_can can right ≡ None → (can ≡ true) × (right ≡ true)
 both true true h = (refl, refl)
 both true false h = cc
 both false right h = cc
@@ -140,14 +140,15 @@ right-told c before (recorded.Ask ask want reply) h =
 right-told c before (recorded.Clock ms) h = clock-told ms (nat_le ms (2 ^ 60)) (is_full (length before)) h
 right-told c before (recorded.Collect ask reply) h =
     ap (option_map (recorded.Collect ask))
-    (sym (settled-is c before ask) ∙ sym (same_answers (Some reply) (settled_after c before ask) (both (is_open_after c before ask) (same_answer (Some reply) (settled_after c before ask)) h).1))
+    (sym (settled-is c before ask)
+    ∙ sym (same_answers (Some reply) (settled_after c before ask) (both (is_open_after c before ask) (same_answer (Some reply) (settled_after c before ask)) h).1))
 right-told c before (recorded.Close ask) h =
     ap (λ b. cond b (Some (recorded.Close ask)) None) (sym (open-is c before ask) ∙ (both (is_open_after c before ask) true h).0)
 
 abbrev IsRight : Configuration → List Event → Event → Recorded → Type 0
 IsRight c before e entry = (fault_in c before entry ≡ None) × (event_of entry ≡ e)
 
-answered : (o : Option Settled) (reply : Outcome) → option_map (λ (s : Settled). outcome_of (reply_of s)) o ≡ Some reply → is_some o ≡ true
+pub answered : (o : Option Settled) (reply : Outcome) → option_map (λ (s : Settled). outcome_of (reply_of s)) o ≡ Some reply → is_some o ≡ true
 answered None reply h = cc
 answered (Some s) reply h = refl
 

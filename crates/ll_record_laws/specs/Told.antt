@@ -23,9 +23,9 @@ replied c before ask = find (λ r. r.ticket == ask && is_some (reply c before r)
 abbrev pub outcome_of_reply : Configuration → List Event → ℕ → Option Outcome
 outcome_of_reply c before ask = option_map (λ (s : Settled). outcome_of (reply_of s)) (option_and_then (reply c before) (replied c before ask))
 
--- The entry of an event after these events of its channel; none where it can't happen. An item has one where no rule refuses it. A
--- request has the next number, and tells what it gets at once, or that it waits. A reading goes up to 2^60 milliseconds. A reply that is
--- handed out is that of an open request which has one, and tells just what it comes to. Only an open request is given up. A channel that has
+-- The entry of an event after these events of its channel; none where it can't happen. An item has an entry where no rule refuses it; a
+-- request has the next number, and tells what it gets at once, or that it waits; a reading is at most 2^60 milliseconds; a reply that is
+-- handed out is the one of an open request, and tells what it comes to; a request that is given up is open. A channel that has
 -- taken as many events as it takes has no more items, requests and readings.
 abbrev pub entry_after : Configuration → List Event → Event → Option Recorded
 entry_after c before (Publish item) = if is_none (refusal_after c before item) then Some (recorded.Publish item) else None

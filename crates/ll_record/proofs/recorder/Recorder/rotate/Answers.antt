@@ -24,7 +24,11 @@ anew : (c : goal.After-clear) (events : List Event) → IsRecorded (the_view c.s
 anew c events r = recorded-anew (the_view c.self.inside) c.events-events.result c.clear.new.self.lines events c.events-events.ensures.value c.clear.ensures.lines r
 
 pub invariant_of-self-2 : goal.invariant_of-self-2
-invariant_of-self-2 c = record { events = c.self.invariant.events; recorded = anew c c.self.invariant.events c.self.invariant.recorded; room = omega (arith, c.self.invariant.room, c.clear.ensures.no_less) }
+invariant_of-self-2 c = record {
+  events = c.self.invariant.events;
+  recorded = anew c c.self.invariant.events c.self.invariant.recorded;
+  room = omega (arith, c.self.invariant.room, c.clear.ensures.no_less);
+}
 
 pub returns-clause-recorded : goal.returns-clause-recorded
 returns-clause-recorded c events r = anew c events (subst (λ (x : Recording). IsRecorded x events) (sym c.self.view_is) r)
