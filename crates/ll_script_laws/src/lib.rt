@@ -1,6 +1,6 @@
-//! Laws of whole scripts: what the channels of a script have accepted, and what the playlists that their requests get are good for.
-//! Each is proved once, as the contract of an empty function; none of these does anything. Sections are those of
-//! draft-pantos-hls-rfc8216bis.
+//! Laws of whole scripts: what the channels of a script have accepted, what the playlists that their requests get are good for, that no
+//! reply is lost, and what each connection is sent. Each is proved once, as the contract of an empty function; none of these does
+//! anything. Sections are those of draft-pantos-hls-rfc8216bis.
 #![tactic(auto)]
 
 ghost use Rattle.ll_script_laws.specs.Laws.{AtOnceLaw, DueLaw, LaterLaw, LeastReadyLaw, NoneLeftLaw, OpenOrderLaw, PiecesLaw, PlayersLaw, PublishedLaw, VerdictLaw, WaitsLaw};
