@@ -183,7 +183,7 @@ no_more : (x : ℕ) (b : Bool) → x ≡ x + (if b then 0 else 0)
 no_more x true = omega arith
 no_more x false = omega arith
 
-pub get-map : (cs : List Channel) (i : ℕ) (c : Configuration) → slice_get (map (λ (c : Channel). c.settings) cs) i ≡ Some c → is_some (slice_get cs i) ≡ true
+get-map : (cs : List Channel) (i : ℕ) (c : Configuration) → slice_get (map (λ (c : Channel). c.settings) cs) i ≡ Some c → is_some (slice_get cs i) ≡ true
 get-map [] i c h = absurd (none_some c h)
 get-map (d ∷ cs) zero c h = refl
 get-map (d ∷ cs) (suc i) c h = get-map cs i c h
@@ -192,7 +192,8 @@ module _ (n m : ℕ) (want : WantValue) (w : World) where
   abbrev Adds : World → Option Answer → Type 0
   Adds v a = waiting_of m v.waits ≡ waiting_of m w.waits + (if n == m then unanswered a else 0)
 
-  asked_by : (i : ℕ) (c : Channel) (o : Option Reply) → Adds (world.asked (silent w) (Connection n) i c want o) (first_spoken (world.asked (silent w) (Connection n) i c want o).answers)
+  asked_by : (i : ℕ) (c : Channel) (o : Option Reply)
+      → Adds (world.asked (silent w) (Connection n) i c want o) (first_spoken (world.asked (silent w) (Connection n) i c want o).answers)
   asked_by i c (Some r) = no_more (waiting_of m w.waits) (n == m)
   asked_by i c None = count-more m w.waits (record { owner = Connection n; place = i; ticket = asks c.events + 1 })
 
@@ -287,7 +288,7 @@ module _ (n : ℕ) (others : ℕ → ℕ) where
   abbrev rooms_after : WantValue → Visit → World
   rooms_after want v = (asked n want v.rooms).rooms
 
-  pub answered_by-met : (want : WantValue) (v : Visit) (a : Option Answer) → next_want v.session ≡ Some want → (asked n want v.rooms).answer ≡ a → IsMet n others v
+  answered_by-met : (want : WantValue) (v : Visit) (a : Option Answer) → next_want v.session ≡ Some want → (asked n want v.rooms).answer ≡ a → IsMet n others v
       → IsMet n others (answered_by n (pulled v.session) (asked n want v.rooms).rooms a)
   answered_by-met want v a e is h = by a is
     where

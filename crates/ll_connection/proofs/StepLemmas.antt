@@ -97,7 +97,7 @@ module _ (n : ℕ) where
   answered_short : (a : Option Answer) (s : SessionValue) (w : World) → length (answered_by n s w a).session.unread ≤ length s.unread
   answered_short a s w = grind (arith, append-nil {A = ℕ})
 
-  shrinks : (v : Visit) (want : WantValue) → next_want v.session ≡ Some want → length (step n v).session.unread < length v.session.unread
+  pub shrinks : (v : Visit) (want : WantValue) → next_want v.session ≡ Some want → length (step n v).session.unread < length v.session.unread
   shrinks v want e =
       let a = asked n want v.rooms in
       let less : length (pulled v.session).unread < length v.session.unread = grind (arith, (is_taken v.session.unread).shortens) in

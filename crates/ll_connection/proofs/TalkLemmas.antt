@@ -171,7 +171,7 @@ module _ (n : ℕ) (K : Visit → Past → Type 0)
 abbrev Any : Visit → Past → Type 0
 Any v q = Unit {0}
 
-pub bytes-talk : (n : ℕ) (piece : List ℕ) (all : Connections) (w : World) (p : Past) (o : Option (Option SessionValue)) → opened o ≡ Some p.session
+bytes-talk : (n : ℕ) (piece : List ℕ) (all : Connections) (w : World) (p : Past) (o : Option (Option SessionValue)) → opened o ≡ Some p.session
     → p.session.shut ≡ false → IsTalked n p piece all (bytes_to n piece all w o)
 bytes-talk n piece all w p None e going =
     (bytes-talked n Any (λ v q s e k. tt) (λ v q want a s e is k. tt) p fresh piece all w (sym (some_is fresh p.session e)) refl tt).talk

@@ -40,7 +40,7 @@ abbrev pub open_in : Option (Option SessionValue) → Option SessionValue
 open_in None = None
 open_in (Some s) = s
 
--- for private contracts: the same, or a new one where nothing stands there
+-- the session that is open under a number, of what stands there, or a new one where nothing does
 abbrev pub opened : Option (Option SessionValue) → Option SessionValue
 opened None = Some fresh
 opened (Some s) = s

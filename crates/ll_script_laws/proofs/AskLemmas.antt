@@ -26,7 +26,7 @@ use Rattle.ll_world.proofs.SettingsLaws.{set_keeps}
 use Rattle.ll_world.proofs.TieLemmas.{equal, get_set, none_some, some_is, turn}
 use Rattle.ll_script_laws.proofs.GrowLemmas.{Grows, event-grows, since}
 use Rattle.ll_script_laws.proofs.ReplyLemmas.{IsAsked, held_asked}
-use Rattle.ll_script_laws.specs.Verdicts.{Full, IsAnswer, IsWantedOf, Replied, Unknown, later_by, verdict}
+use Rattle.ll_script_laws.specs.Verdicts.{Full, IsAnswer, IsNamed, Replied, Unknown, later_by, verdict}
 
 -- ---- requests that wait
 
@@ -35,7 +35,7 @@ pub record IsMade (cs : List Channel) (want : WantValue) (place ticket : ℕ) : 
   pub channel : Channel
   pub before : List Event
   pub later : List Event
-  pub named : IsWantedOf cs want place channel
+  pub named : IsNamed cs want place channel
   pub is : channel.events ≡ before ++ Ask want ∷ later
   pub ticket_is : ticket ≡ asks before + 1
   pub waits : at_once channel.settings (held channel.settings before) before want ≡ None
@@ -135,8 +135,8 @@ module _ (n : ℕ) (want : WantValue) (w : World) where
   abbrev Heard : World → Type 0
   Heard v = IsRight (silent v) (first_spoken v.answers)
 
-  module _ (i : ℕ) (c : Channel) (named : IsWantedOf w.channels want i c) where
-    named_now : IsWantedOf (slice_set w.channels i (with_event (Ask want) c)) want i (with_event (Ask want) c)
+  module _ (i : ℕ) (c : Channel) (named : IsNamed w.channels want i c) where
+    named_now : IsNamed (slice_set w.channels i (with_event (Ask want) c)) want i (with_event (Ask want) c)
     named_now = record {
       there = get_set w.channels i c (with_event (Ask want) c) named.there;
       named = ap (λ l. channel_of_name l 0 want.channel) (set_keeps w.channels i c (Ask want) named.there) ∙ named.named;
@@ -227,4 +227,4 @@ due-right cs place c want r s at due told made =
     (ap (λ (c : Channel). at_once c.settings (held c.settings made.before) made.before want) (sym here) ∙ made.waits) wanted
     ∙ ap₂ (λ t b. option_map reply_of (reply c.settings c.events (record { ticket = t; wanted = r.wanted; before = b }))) (sym made.ticket_is) same.0
     ∙ ap (option_map reply_of) told in
-    Replied place c made.before made.later (reply_of s) (subst (IsWantedOf cs want place) here made.named) events is refl
+    Replied place c made.before made.later (reply_of s) (subst (IsNamed cs want place) here made.named) events is refl

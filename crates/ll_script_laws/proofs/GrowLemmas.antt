@@ -14,7 +14,7 @@ use Rattle.ll_wire.specs.declared.answer.Answer.{Answer}
 use Rattle.ll_world.specs.World.{Channel, with_event}
 use Rattle.ll_world.proofs.SettingsLaws.{set_keeps}
 use Rattle.ll_world.proofs.TieLemmas.{equal, get_other, get_set, none_some, some_is}
-use Rattle.ll_script_laws.specs.Verdicts.{AreAnswered, Full, IsAnswer, IsWantedOf, Replied, Unknown, later_by, settings_of, verdict}
+use Rattle.ll_script_laws.specs.Verdicts.{AreAnswered, Full, IsAnswer, IsNamed, Replied, Unknown, later_by, settings_of, verdict}
 
 abbrev pub grown : Channel → List Event → Channel
 grown c more = record { settings = c.settings; events = c.events ++ more }
@@ -114,7 +114,7 @@ named-stays (c ∷ cs) more first name f h = by (bytes_eq name c.channel) (named
 
 module _ (cs ds : List Channel) (g : Grows cs ds) where
   -- so much happened since in this channel
-  pub since : (want : WantValue) (place : ℕ) (c : Channel) → IsWantedOf cs want place c → (more : List Event) × IsWantedOf ds want place (grown c more)
+  pub since : (want : WantValue) (place : ℕ) (c : Channel) → IsNamed cs want place c → (more : List Event) × IsNamed ds want place (grown c more)
   since want place c w =
       let m = g.events place c w.there in (
         m.0,

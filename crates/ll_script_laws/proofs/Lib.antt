@@ -4,6 +4,7 @@ pub mod CalmLemmas
 pub mod ChannelLemmas
 pub mod DueLemmas
 pub mod GrowLemmas
+pub mod IdleLemmas
 pub mod ItemTexts
 pub mod LawProofs
 pub mod LeftLemmas

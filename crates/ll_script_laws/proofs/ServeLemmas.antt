@@ -81,7 +81,7 @@ fed_on s piece e = grind (arith, nat_tests, e)
 fed_out : (s : SessionValue) (piece : List ℕ) → (fed s piece).shut ≡ false → (fed s piece).out ≡ s.out
 fed_out s piece e = grind (arith, nat_tests, e)
 
-pulled_on : (s : SessionValue) → (pulled s).shut ≡ false → s.shut ≡ false
+pub pulled_on : (s : SessionValue) → (pulled s).shut ≡ false → s.shut ≡ false
 pulled_on s e = grind (arith, e)
 
 given_on : (s : SessionValue) (want : WantValue) → next_want s ≡ Some want → s.shut ≡ false

@@ -117,3 +117,11 @@ abbrev pub AnswersLaw : Type 0
 AnswersLaw = (lines : List (List ℕ))
     → (parts : List Part) × ((fold line start lines).text ≡ flat_map part_text parts)
     × ((n : ℕ) → IsAnswered (fold line start lines) (flat_map (brought_by n) (acts_of start lines)) (flat_map (sent_by n) parts))
+
+-- where a session goes on and has no want out, its unread bytes hold no request
+abbrev pub IsIdle : SessionValue → Type 0
+IsIdle s = s.shut ≡ false → s.out ≡ None → requests s.unread ≡ []
+
+-- After each line no request of a connection is left lying that could be handed in.
+abbrev pub IdleLaw : Type 0
+IdleLaw = (lines : List (List ℕ)) (n : ℕ) (s : SessionValue) → session_of n (fold line start lines).connections ≡ Some (Some s) → IsIdle s

@@ -28,19 +28,19 @@ verdict c events before want = option_or (at_once c (held c before) before want)
 abbrev pub settings_of : List Channel → List Configuration
 settings_of channels = map (λ (c : Channel). c.settings) channels
 
--- the channel at this place is the one of the name that is wanted
-pub record IsWantedOf (channels : List Channel) (want : WantValue) (place : ℕ) (channel : Channel) : Type 0 where
+-- the channel at this place is the one that a request names
+pub record IsNamed (channels : List Channel) (want : WantValue) (place : ℕ) (channel : Channel) : Type 0 where
   pub there : slice_get channels place ≡ Some channel
   pub named : channel_of_name (settings_of channels) 0 want.channel ≡ Some (place, channel.settings)
 
 -- an answer is right for a request, by all that happened in the channels
 pub data IsAnswer (channels : List Channel) (want : WantValue) (answer : Answer) : Type 0 where
   -- it is one of its channel's events, and this is its verdict
-  Replied : (place : ℕ) (channel : Channel) (before later : List Event) (a : Reply) → IsWantedOf channels want place channel
+  Replied : (place : ℕ) (channel : Channel) (before later : List Event) (a : Reply) → IsNamed channels want place channel
       → channel.events ≡ before ++ Ask want ∷ later → verdict channel.settings channel.events before want ≡ Some a
       → answer ≡ player.Reply a → IsAnswer channels want answer
   -- its channel had taken as many events as a channel takes
-  Full : (place : ℕ) (channel : Channel) (before later : List Event) → IsWantedOf channels want place channel → channel.events ≡ before ++ later
+  Full : (place : ℕ) (channel : Channel) (before later : List Event) → IsNamed channels want place channel → channel.events ≡ before ++ later
       → is_full (length before) ≡ true → answer ≡ player.Unavailable RecordFull → IsAnswer channels want answer
   -- of the channels that were declared by then none has the name
   Unknown : (declared later : List Configuration) → settings_of channels ≡ declared ++ later → channel_of_name declared 0 want.channel ≡ None

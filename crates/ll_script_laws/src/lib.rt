@@ -1,10 +1,10 @@
-//! Laws of whole scripts: what the channels of a script have accepted, and what the playlists that their requests get are good for.
-//! Each is proved once, as the contract of an empty function; none of these does anything. Sections are those of
-//! draft-pantos-hls-rfc8216bis.
+//! Laws of whole scripts: what the channels of a script have accepted, what the playlists that their requests get are good for, that no
+//! reply is lost, and what each connection is sent. Each is proved once, as the contract of an empty function; none of these does
+//! anything. Sections are those of draft-pantos-hls-rfc8216bis.
 #![tactic(auto)]
 
 ghost use Rattle.ll_script_laws.specs.Laws.{AtOnceLaw, DueLaw, LaterLaw, LeastReadyLaw, NoneLeftLaw, OpenOrderLaw, PiecesLaw, PlayersLaw, PublishedLaw, VerdictLaw, WaitsLaw};
-ghost use Rattle.ll_script_laws.specs.Talks.{AnswersLaw, TalksLaw};
+ghost use Rattle.ll_script_laws.specs.Talks.{AnswersLaw, IdleLaw, TalksLaw};
 
 /// For every input of `ll_replay::run`, at each moment of each of its channels: the settings are within their limits, and the items
 /// that the channel has accepted by then are such as the laws of `ll_laws` speak of. A moment is a prefix of the channel's events.
@@ -49,10 +49,12 @@ pub fn due_law()
 /// Each connection of a script is sent the answers to the requests in its bytes, in their order, and nothing else, and each answer is right
 /// for the request at its own place: it is the channel's verdict of that request, or the channel had taken as many events as it takes, or
 /// no channel had the name (`answers`). At most one request has no answer: the one that the session has out, or that was given up. All that
-/// came and was sent are those of calls on one session, of which `session_law` of `ll_session` speaks (`calls`).
+/// came and was sent are those of calls on one session, of which `session_law` of `ll_session` speaks (`calls`). And after each line no
+/// request is left lying: where a session goes on and has no want out, its unread bytes hold no whole request (`idle`).
 pub fn talks_law()
     ensures calls { TalksLaw }
     ensures answers { AnswersLaw }
+    ensures idle { IdleLaw }
 {}
 
 /// The open requests of a channel are kept in the order of their numbers, whatever happened; so the first whose reply is there is the one

@@ -1,3 +1,4 @@
+use Rattle.ll_script_laws.proofs.IdleLemmas.{idle}
 use Rattle.ll_script_laws.proofs.TalkLemmas.{answers, talks}
 use Rattle.ll_script_laws.proofs.talks_law.Goals as goal
 
@@ -6,3 +7,6 @@ returns-clause-calls c = talks
 
 pub returns-clause-answers : goal.returns-clause-answers
 returns-clause-answers c = answers
+
+pub returns-clause-idle : goal.returns-clause-idle
+returns-clause-idle c = idle

@@ -1,0 +1,137 @@
+-- No request of a connection is left lying: where its session is open and has no want out, its unread bytes hold none.
+use Rattle.std.proofs.Common.{◌≡◌, ◌⊎◌, inl, inr, ℕ, zero, suc, ◌+◌, ◌≤◌, ◌==◌, List, [], ◌∷◌, Bool, true, false, Option, Some, None, refl, ap, sym, ◌∙◌, subst, fold, length, arith, if◌then◌else◌}
+use Rattle.ll_connection.specs.Turn as connection
+use Rattle.ll_connection.specs.Turn.{Connections, left, session_of, turn, with_session}
+use Rattle.ll_connection.specs.Visit.{Visit, arrived, came, hand_in, released, step, step_by}
+use Rattle.ll_connection.proofs.MetLemmas.{pulled_none}
+use Rattle.ll_connection.proofs.StepLemmas.{hand_in-is, shrinks, still}
+use Rattle.ll_connection.proofs.TurnLemmas.{found, kept_other}
+use Rattle.ll_directive.specs.Targets.{WantValue}
+use Rattle.ll_held.specs.declared.owner.Owner.TheVariants.{Get, Connection}
+use Rattle.ll_script.specs.declared.act.Act.{Act}
+use Rattle.ll_script.specs.declared.act.Act.TheVariants.{Bytes, Drop}
+use Rattle.ll_session.specs.Requests.{requests}
+use Rattle.ll_session.specs.Talk.{SessionValue, fresh, next_want, pulled, replied}
+use Rattle.ll_session.proofs.SplitLemmas.{none_is_left}
+use Rattle.ll_verdict.specs.declared.reply.Reply.{Reply}
+use Rattle.ll_wire.specs.declared.answer.Answer.TheVariants as player
+use Rattle.ll_world.specs.World as rooms
+use Rattle.ll_world.specs.World.{World, repeat}
+use Rattle.ll_world.specs.declared.answer.Answer as answer
+use Rattle.ll_world.specs.declared.answer.Answer.TheVariants as said
+use Rattle.ll_world.proofs.TieLemmas.{equal, none_some, some_is}
+use Rattle.ll_replay.specs.Script.{Script, act, heard, passed_on, start, turned}
+use Rattle.ll_script_laws.proofs.ScriptLemmas.{done-keeps, lines-keep}
+use Rattle.ll_script_laws.proofs.ServeLemmas.{pulled_on}
+use Rattle.ll_script_laws.specs.Talks.{IdleLaw, IsIdle}
+
+-- ---- all requests are handed in
+
+no_bytes : (bytes : List ℕ) → length bytes ≤ 0 → requests bytes ≡ []
+unfolding requests
+no_bytes [] h = refl
+no_bytes (b ∷ bytes) h = absurd (omega (arith, h))
+
+module _ (n : ℕ) where
+  -- a further step changes nothing
+  record IsDone (v : Visit) : Type 0 where
+    still : step n v ≡ v
+    idle : IsIdle v.session
+
+  last_step : (v : Visit) → next_want v.session ≡ None → IsDone (step n v)
+  last_step v e = record {
+    still = still n v e;
+    idle = subst (λ o. IsIdle (step_by n (record v { session = pulled v.session }) o).session) (sym e) (λ on out.
+        none_is_left v.session (pulled_on v.session on) (sym (pulled_none v.session e) ∙ out) e on);
+  }
+
+  handed : (v : Visit) (k : ℕ) → IsDone (repeat (step n) k v) ⊎ (length (repeat (step n) k v).session.unread + k ≤ length v.session.unread)
+  handed v zero = inr (omega arith)
+  handed v (suc k) = by (handed v k)
+    where
+      at : (o : Option WantValue) → next_want (repeat (step n) k v).session ≡ o → length (repeat (step n) k v).session.unread + k ≤ length v.session.unread
+          → IsDone (step n (repeat (step n) k v)) ⊎ (length (step n (repeat (step n) k v)).session.unread + suc k ≤ length v.session.unread)
+      at None e h = inl (last_step (repeat (step n) k v) e)
+      at (Some want) e h = inr (omega (arith, shrinks n (repeat (step n) k v) want e, h))
+
+      by : IsDone (repeat (step n) k v) ⊎ (length (repeat (step n) k v).session.unread + k ≤ length v.session.unread)
+          → IsDone (step n (repeat (step n) k v)) ⊎ (length (step n (repeat (step n) k v)).session.unread + suc k ≤ length v.session.unread)
+      by (inl d) = inl (subst IsDone (sym d.still) d)
+      by (inr h) = at (next_want (repeat (step n) k v).session) refl h
+
+  handed-idle : (v : Visit) → IsIdle (hand_in n v).session
+  handed-idle v = subst (λ (u : Visit). IsIdle u.session) (sym (hand_in-is n v)) (by (handed v (length v.session.unread)))
+    where
+      by : IsDone (repeat (step n) (length v.session.unread) v)
+          ⊎ (length (repeat (step n) (length v.session.unread) v).session.unread + length v.session.unread ≤ length v.session.unread)
+          → IsIdle (repeat (step n) (length v.session.unread) v).session
+      by (inl d) = d.idle
+      by (inr h) = λ on out. no_bytes (repeat (step n) (length v.session.unread) v).session.unread (omega (arith, h))
+
+-- ---- all connections
+
+abbrev AreIdle : Connections → Type 0
+AreIdle all = (n : ℕ) (s : SessionValue) → session_of n all ≡ Some (Some s) → IsIdle s
+
+with-idle : (n : ℕ) (o : Option SessionValue) (all : Connections) → ((s : SessionValue) → o ≡ Some s → IsIdle s) → AreIdle all → AreIdle (with_session n o all)
+with-idle n o all own h m s e = by (n == m) refl
+  where
+    by : (b : Bool) → (n == m) ≡ b → IsIdle s
+    by true f = own s (some_is o (Some s) (sym (found n o all) ∙ ap (λ k. session_of k (with_session n o all)) (equal n m f) ∙ e))
+    by false f = h m s (sym (kept_other n m o all f) ∙ e)
+
+left-idle : (s t : SessionValue) → IsIdle s → left s ≡ Some t → IsIdle t
+left-idle s t h e = by s.shut e
+  where
+    by : (b : Bool) → (if b then None else Some (record s { answers = [] })) ≡ Some t → IsIdle t
+    by true e = absurd (none_some t e)
+    by false e = subst IsIdle (some_is (record s { answers = [] }) t e) h
+
+turn-idle : (n : ℕ) (all : Connections) (v : Visit) → AreIdle all → IsIdle v.session → AreIdle (with_session n (left v.session) all)
+turn-idle n all v h idle = with-idle n (left v.session) all (λ t e. left-idle v.session t idle e) h
+
+bytes-idle : (n : ℕ) (piece : List ℕ) (all : Connections) (w : World) (o : Option (Option SessionValue)) → AreIdle all → AreIdle (connection.bytes_to n piece all w o).connections
+bytes-idle n piece all w None h =
+    let v : Visit = record { session = fresh; rooms = w } in
+    turn-idle n all (arrived n piece v) h (handed-idle n (came n piece v))
+bytes-idle n piece all w (Some None) h = h
+bytes-idle n piece all w (Some (Some s)) h =
+    let v : Visit = record { session = s; rooms = w } in
+    turn-idle n all (arrived n piece v) h (handed-idle n (came n piece v))
+
+end-idle : (n : ℕ) (all : Connections) (w : World) (o : Option (Option SessionValue)) → AreIdle all → AreIdle (connection.end_of n all w o).connections
+end-idle n all w None h = h
+end-idle n all w (Some None) h = h
+end-idle n all w (Some (Some s)) h = with-idle n None all (λ t e. absurd (none_some t e)) h
+
+reply-idle : (n : ℕ) (a : Reply) (all : Connections) (w : World) (o : Option (Option SessionValue)) → AreIdle all → AreIdle (connection.reply_to n a all w o).connections
+reply-idle n a all w None h = h
+reply-idle n a all w (Some None) h = h
+reply-idle n a all w (Some (Some s)) h =
+    let v : Visit = record { session = s; rooms = w } in
+    turn-idle n all (released n a v) h (handed-idle n (record v { session = replied s (player.Reply a) }))
+
+act-idle : (w : Script) (a : Act) → AreIdle w.connections → AreIdle (act w a).connections
+act-idle w (Bytes n piece) h = bytes-idle n piece w.connections w.rooms (session_of n w.connections) h
+act-idle w (Drop n) h = end-idle n w.connections w.rooms (session_of n w.connections) h
+act-idle w other h = h
+
+passed-idle : (w : Script) (list : List answer.Answer) → AreIdle w.connections → AreIdle (fold passed_on w list).connections
+passed-idle w [] h = h
+passed-idle w (said.Replied (Connection n) a ∷ list) h =
+    passed-idle (turned w (connection.reply n a w.connections w.rooms)) list (reply-idle n a w.connections w.rooms (session_of n w.connections) h)
+passed-idle w (said.Replied (Get id) a ∷ list) h = passed-idle w list h
+passed-idle w (said.Accepted count ∷ list) h = passed-idle w list h
+passed-idle w (said.Refused reason ∷ list) h = passed-idle w list h
+passed-idle w (said.ClockRefused reason ∷ list) h = passed-idle w list h
+passed-idle w (said.Unavailable owner ∷ list) h = passed-idle w list h
+
+abbrev Always : List Act → Script → Type 0
+Always list w = AreIdle w.connections
+
+pub idle : IdleLaw
+idle ls n s e =
+    let h =
+    lines-keep Always (done-keeps Always (λ list w a h. act-idle w a h) (λ list w place h. passed-idle (heard w (rooms.tick place w.rooms)) (rooms.tick place w.rooms).answers h))
+    (λ list w lines ending h. h) [] start ls (λ n s e. absurd (none_some (Some s) e)) in
+    h n s e
