@@ -17,7 +17,7 @@ use Rattle.ll_verdict.specs.Events.{Event, Publish, Ask, Collect, Close, Clock, 
 use Rattle.ll_verdict.specs.Verdict.{Request, at_once, held, reply, reply_of, wanted_of}
 use Rattle.ll_verdict.specs.declared.reply.Reply.{Reply}
 use Rattle.ll_verdict.specs.declared.reply.Settled.{Settled}
-use Rattle.ll_verdict.proofs.ListLemmas.{Each, each-map}
+use Rattle.ll_verdict.proofs.ListLemmas.{Each, each-append, each-map}
 use Rattle.ll_wire.specs.declared.answer.Answer.{Answer}
 use Rattle.ll_wire.specs.declared.answer.Answer.TheVariants as player
 use Rattle.ll_world.specs.World.{Channel, World, all_settings, ask_at, asked_if, close, close_at, close_of, first_due, silent, with_event}
@@ -105,6 +105,28 @@ module _ (outs : ℕ → List WantValue) where
           (subst (λ i. AskedBy outs cs i t y.owner) (equal y.place place f) (subst (λ k. AskedBy outs cs y.place k y.owner) (equal y.ticket t g) h.0))
       by true false f g ih e = ih e
       by false b f g ih e = ih e
+
+-- the request of a `get` line is no connection's
+pub ask-asked : (un : ℕ → List WantValue) (w : World) (id i : ℕ) (want : WantValue) → AreAsked un w.channels w.waits
+    → AreAsked un (rooms.ask (Get id) i want w).channels (rooms.ask (Get id) i want w).waits
+ask-asked un w id i want h = at (slice_get w.channels i) refl
+  where
+    by : (c : Channel) (o : Option Reply) → slice_get w.channels i ≡ Some c
+        → AreAsked un (rooms.asked w (Get id) i c want o).channels (rooms.asked w (Get id) i c want o).waits
+    by c (Some r) e = asked-stays un w.channels (slice_set w.channels i (with_event (Ask want) c)) w.waits (event-grows w.channels i c (Ask want) e) h
+    by c None e =
+        let cs = slice_set w.channels i (with_event (Ask want) c) in
+        each-append (λ (x : Wait). AskedBy un cs x.place x.ticket x.owner) w.waits ((record { owner = Get id; place = i; ticket = asks c.events + 1 }) ∷ [])
+        (asked-stays un w.channels cs w.waits (event-grows w.channels i c (Ask want) e) h) (tt, tt)
+
+    if-full : (c : Channel) (full : Bool) → slice_get w.channels i ≡ Some c
+        → AreAsked un (rooms.asked_if full w (Get id) i c want).channels (rooms.asked_if full w (Get id) i c want).waits
+    if-full c true e = h
+    if-full c false e = by c (at_once c.settings (held c.settings c.events) c.events want) e
+
+    at : (o : Option Channel) → slice_get w.channels i ≡ o → AreAsked un (rooms.ask_at w (Get id) i want o).channels (rooms.ask_at w (Get id) i want o).waits
+    at None e = h
+    at (Some c) e = if-full c (is_full (length c.events)) e
 
 -- where none of a connection waits, it may have any request out
 pub asked-others : (n : ℕ) (outs other : ℕ → List WantValue) (cs : List Channel) (waits : List Wait) → waiting_of n waits ≡ 0

@@ -1,5 +1,5 @@
 -- Whatever comes to a connection, each of its requests is answered right, or it is the one that waits.
-use Rattle.std.proofs.Common.{◌≡◌, ℕ, ◌==◌, List, [], ◌∷◌, ◌++◌, Bool, true, false, Option, Some, None, refl, ap, sym, ◌∙◌, subst, length, slice_get, slice_set, append-nil, arith, if◌then◌else◌}
+use Rattle.std.proofs.Common.{◌≡◌, ℕ, ◌≤◌, ◌==◌, List, [], ◌∷◌, ◌++◌, Bool, true, false, Option, Some, None, refl, ap, sym, ◌∙◌, subst, length, slice_get, slice_set, append-nil, arith, if◌then◌else◌}
 use Rattle.std.proofs.lemmas.Bool.Decides.{nat_tests}
 use Rattle.std.proofs.lemmas.Grind.{flat_map-append}
 use Rattle.ll_connection.specs.Met.{outs, waiting_of}
@@ -120,6 +120,7 @@ pub record Serves (n : ℕ) (others : ℕ → List WantValue) (old : List Channe
   pub grows : Grows old w.channels
   pub answered : AreAnswered w.channels (wants_of q.entries) q.replies unanswered
   pub asked : AreAsked (unanswered_at n unanswered others) w.channels w.waits
+  pub few : length unanswered ≤ 1
   pub count : q.session.shut ≡ false → length unanswered ≡ outs q.session.out
 
 module _ (n : ℕ) (others : ℕ → List WantValue) (old : List Channel) where
@@ -142,6 +143,7 @@ module _ (n : ℕ) (others : ℕ → List WantValue) (old : List Channel) where
         grows = close-grows old w (Connection n) s.grows;
         answered = answers-stay w.channels (close (Connection n) w).channels g (wants_of q.entries) q.replies s.unanswered s.answered;
         asked = asked-closes (unanswered_at n s.unanswered others) w (Connection n) s.asked;
+        few = s.few;
         count = s.count;
       }
   closes w q false s = s
@@ -154,6 +156,7 @@ module _ (n : ℕ) (others : ℕ → List WantValue) (old : List Channel) where
         grows = t.grows;
         answered = t.answered;
         asked = t.asked;
+        few = t.few;
         count = λ on. t.count (fed_on q.session piece on) ∙ ap outs (sym (fed_out q.session piece on));
       }
 
@@ -170,6 +173,7 @@ module _ (n : ℕ) (others : ℕ → List WantValue) (old : List Channel) where
             subst (λ es. AreAnswered w.channels (wants_of es) (called q (Reply a)).replies []) (sym t.1)
             (subst (λ rs. AreAnswered w.channels (wants_of q.entries) rs []) (sym t.2) (answers-more w.channels (wants_of q.entries) q.replies want a answered right));
         asked = anew own [] w none asked;
+        few = omega arith;
         count = λ on. ap outs (sym (replied_out q.session a)) ∙ ap (λ (s : SessionValue). outs s.out) (sym t.0);
       }
 
@@ -184,6 +188,7 @@ module _ (n : ℕ) (others : ℕ → List WantValue) (old : List Channel) where
               subst (λ l. AreAnswered v.rooms.channels l q.replies s.unanswered)
               (sym (wants-next q None gives ∙ append-nil (wants_of q.entries))) s.answered;
           asked = s.asked;
+          few = s.few;
           count = λ on. s.count (pulled_on q.session on) ∙ ap outs (sym (pulled_none q.session gives));
         }
 
@@ -231,6 +236,7 @@ module _ (n : ℕ) (others : ℕ → List WantValue) (old : List Channel) where
                   subst (AreAsked (unanswered_at n (want ∷ []) others) rooms.channels) (sym r.2)
                   (each-append (λ (x : Wait). AskedBy (unanswered_at n (want ∷ []) others) rooms.channels x.place x.ticket x.owner) v.rooms.waits (x ∷ []) (asked_on (want ∷ []))
                   ((want, r.3, mine), tt));
+              few = omega arith;
               count = λ on. sym (given_out q.session want gives);
             })
 

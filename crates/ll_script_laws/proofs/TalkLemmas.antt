@@ -1,5 +1,5 @@
 -- What comes and what is sent on each connection of a script, and that its requests are answered right.
-use Rattle.std.proofs.Common.{◌≡◌, ℕ, ◌+◌, ◌==◌, List, [], ◌∷◌, ◌++◌, Bool, true, false, Option, Some, None, refl, ap, ap₂, sym, ◌∙◌, subst, true≢false, fold, length, map, slice_get, slice_set, append-nil, append_assoc}
+use Rattle.std.proofs.Common.{◌≡◌, ℕ, ◌==◌, List, [], ◌∷◌, ◌++◌, Bool, true, false, Option, Some, None, refl, ap, ap₂, sym, ◌∙◌, subst, true≢false, fold, length, map, slice_get, append-nil, append_assoc, arith}
 use Rattle.std.specs.Prelude.{flat_map, if◌then◌else◌}
 use Rattle.std.specs.List.{concat}
 use Rattle.std.proofs.lemmas.Grind.{flat_map-append}
@@ -21,13 +21,10 @@ use Rattle.ll_script.specs.declared.act.Act.TheVariants.{Declare, Offer, Refuse,
 use Rattle.ll_session.proofs.PastLemmas.{is_talk}
 use Rattle.ll_session.specs.Past.{Past, Send, before_any, called, conversation, past}
 use Rattle.ll_session.specs.Talk.{SessionValue, fresh, replied}
-use Rattle.ll_room.specs.Full.{is_full}
-use Rattle.ll_verdict.specs.Events.{Collect, asks}
-use Rattle.ll_verdict.specs.Events as event
-use Rattle.ll_verdict.specs.Verdict.{Request, at_once, held, reply, reply_of}
+use Rattle.ll_verdict.specs.Events.{Collect}
+use Rattle.ll_verdict.specs.Verdict.{Request, reply, reply_of}
 use Rattle.ll_verdict.specs.declared.reply.Reply as verdict
 use Rattle.ll_verdict.specs.declared.reply.Settled.{Settled}
-use Rattle.ll_verdict.proofs.ListLemmas.{each-append}
 use Rattle.ll_wire.specs.declared.answer.Answer.TheVariants as player
 use Rattle.ll_world.specs.World as rooms
 use Rattle.ll_world.specs.World.{Channel, World, first_due, with_event}
@@ -36,7 +33,7 @@ use Rattle.ll_world.specs.declared.answer.Answer.TheVariants as said
 use Rattle.ll_world.proofs.TieLemmas.{equal, same_test}
 use Rattle.ll_world.proofs.WaitLemmas.{IsOpen, tick-open}
 use Rattle.ll_replay.specs.Script.{Script, Ending, act, heard, passed_on, passed_to, start, tick, turned}
-use Rattle.ll_script_laws.proofs.AskLemmas.{AreAsked, AskedBy, asked-at, asked-closes, asked-less, asked-stays, due-right}
+use Rattle.ll_script_laws.proofs.AskLemmas.{AreAsked, AskedBy, ask-asked, asked-at, asked-closes, asked-less, asked-stays, due-right}
 use Rattle.ll_script_laws.proofs.DueLemmas as due
 use Rattle.ll_script_laws.proofs.GrowLemmas.{Grows, answer-stays, answers-stay, declare-grows, event-grows, grows-same}
 use Rattle.ll_script_laws.proofs.PartLemmas.{said-sent, said-text, turn-sent, turn-text, turn_parts}
@@ -65,6 +62,7 @@ stays w v came more sent text n un is out at g t = record {
   all_sent = t.all_sent;
   stands = subst (λ o. StandsAt o (past t.calls) t.untaken) (sym at) t.stands;
   answered = answers-stay w.rooms.channels v.rooms.channels g (wants_of (past t.calls).entries) (past t.calls).replies un t.answered;
+  few = t.few;
   is_out = t.is_out;
 }
 
@@ -154,6 +152,7 @@ module _ (n : ℕ) (piece : List ℕ) (came : ℕ → List ℕ) (un : ℕ → Li
             (subst (λ o. StandsAt o (past (p.calls ++ d.talk.calls)) []) (sym (found n (if last.session.shut then None else Some last.session) w.connections))
             (left_at last.session.shut last.session (past (p.calls ++ d.talk.calls)) (ap (λ (q : Past). q.session) all) refl));
         answered = subst (λ (q : Past). AreAnswered v.rooms.channels (wants_of q.entries) q.replies own) (sym told) d.kept.0.answered;
+        few = d.kept.0.few;
         is_out = subst (λ (q : Past). q.session.shut ≡ false → length own ≡ outs q.session.out) (sym told) d.kept.0.count;
       }
 
@@ -197,6 +196,7 @@ bytes-holds n piece came un w met h = by (session_of n w.connections) refl (h.se
           grows = grows-same w.rooms.channels;
           answered = (h.served n).answered;
           asked = same-asked un (unanswered_at n (un n) un) w.rooms.channels w.rooms.waits (λ m. unanswered-same n m (n == m) refl un) h.asked;
+          few = (h.served n).few;
           count = (h.served n).is_out;
         } in
         let K = Keeps n un w.rooms.channels counts in
@@ -232,6 +232,7 @@ bytes-holds n piece came un w met h = by (session_of n w.connections) refl (h.se
           all_sent = t.all_sent;
           stands = subst (λ o. StandsAt o (past t.calls) (t.untaken ++ piece)) (sym (ap (λ k. session_of k w.connections) (sym (equal n m f)) ∙ e)) tt;
           answered = t.answered;
+          few = t.few;
           is_out = t.is_out;
         }
         untaken m false f t =
@@ -270,6 +271,7 @@ end-holds n came un w h = by (session_of n w.connections)
           answered =
               answers-stay w.rooms.channels (rooms.close (Connection n) w.rooms).channels (close-grows w.rooms.channels w.rooms (Connection n) (grows-same w.rooms.channels))
               (wants_of (past t.calls).entries) (past t.calls).replies (un m) t.answered;
+          few = t.few;
           is_out = t.is_out;
         }
         ended m false f t =
@@ -372,27 +374,6 @@ tick-holds came un w place met h = by (rooms.tick place w.rooms) (due.ticks w.ro
 
 -- ---- acts
 
-ask-asked : (un : ℕ → List WantValue) (w : World) (id i : ℕ) (want : WantValue) → AreAsked un w.channels w.waits
-    → AreAsked un (rooms.ask (Get id) i want w).channels (rooms.ask (Get id) i want w).waits
-ask-asked un w id i want h = at (slice_get w.channels i) refl
-  where
-    by : (c : Channel) (o : Option verdict.Reply) → slice_get w.channels i ≡ Some c
-        → AreAsked un (rooms.asked w (Get id) i c want o).channels (rooms.asked w (Get id) i c want o).waits
-    by c (Some r) e = asked-stays un w.channels (slice_set w.channels i (with_event (event.Ask want) c)) w.waits (event-grows w.channels i c (event.Ask want) e) h
-    by c None e =
-        let cs = slice_set w.channels i (with_event (event.Ask want) c) in
-        each-append (λ (x : Wait). AskedBy un cs x.place x.ticket x.owner) w.waits ((record { owner = Get id; place = i; ticket = asks c.events + 1 }) ∷ [])
-        (asked-stays un w.channels cs w.waits (event-grows w.channels i c (event.Ask want) e) h) (tt, tt)
-
-    if-full : (c : Channel) (full : Bool) → slice_get w.channels i ≡ Some c
-        → AreAsked un (rooms.asked_if full w (Get id) i c want).channels (rooms.asked_if full w (Get id) i c want).waits
-    if-full c true e = h
-    if-full c false e = by c (at_once c.settings (held c.settings c.events) c.events want) e
-
-    at : (o : Option Channel) → slice_get w.channels i ≡ o → AreAsked un (rooms.ask_at w (Get id) i want o).channels (rooms.ask_at w (Get id) i want o).waits
-    at None e = h
-    at (Some c) e = if-full c (is_full (length c.events)) e
-
 abbrev after_act : Act → (ℕ → List ℕ) → ℕ → List ℕ
 after_act a came m = came m ++ brought_by m a
 
@@ -465,7 +446,7 @@ start-holds = record {
   parts = [];
   text = refl;
   served = λ n.
-      record { calls = []; untaken = []; fed = refl; gone = refl; all_sent = refl; stands = (refl, refl); answered = refl; is_out = λ going. refl };
+      record { calls = []; untaken = []; fed = refl; gone = refl; all_sent = refl; stands = (refl, refl); answered = refl; few = omega arith; is_out = λ going. refl };
   asked = tt;
 }
 
@@ -498,6 +479,7 @@ answers ls =
             answers = (past s.1.calls).replies;
             unanswered = s.0;
             right = s.1.answered;
+            few = s.1.few;
             overflowed = (past s.1.calls).overflowed;
             sent_is = sym (append-nil (flat_map (sent_by n) t.0)) ∙ sent;
           },

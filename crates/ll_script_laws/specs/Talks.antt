@@ -1,5 +1,5 @@
 -- What comes and what is sent on each connection of a script.
-use Rattle.std.specs.Prelude.{◌≡◌, ℕ, ◌==◌, ◌||◌, List, [], ◌∷◌, ◌++◌, Bool, false, Option, Some, None, is_some, flat_map, fold, length, nat_lt, if◌then◌else◌}
+use Rattle.std.specs.Prelude.{◌≡◌, ℕ, ◌≤◌, ◌==◌, ◌||◌, List, [], ◌∷◌, ◌++◌, Bool, false, Option, Some, None, is_some, flat_map, fold, length, nat_lt, if◌then◌else◌}
 use Rattle.std.specs.List.{concat}
 use Rattle.ll_connection.specs.Met.{outs}
 use Rattle.ll_connection.specs.Turn.{session_of}
@@ -84,7 +84,8 @@ pub record IsServed (w : Script) (came sent : List ℕ) (n : ℕ) (unanswered : 
   pub all_sent : (past calls).session.answers ≡ []
   pub stands : StandsAt (session_of n w.connections) (past calls) untaken
   pub answered : AreAnswered w.rooms.channels (wants_of (past calls).entries) (past calls).replies unanswered
-  -- at most one, which the session has out
+  -- at most one; where the session goes on, the one that it has out
+  pub few : length unanswered ≤ 1
   pub is_out : (past calls).session.shut ≡ false → length unanswered ≡ outs (past calls).session.out
 
 -- For each script: its text is made of parts, and what came and what was sent on each connection are those of calls on a session, in which each
@@ -96,7 +97,7 @@ TalksLaw = (lines : List (List ℕ))
     × IsServed (fold line start lines) (flat_map (brought_by n) (acts_of start lines)) (flat_map (sent_by n) parts) n unanswered)
 
 -- What came on a connection holds requests, and what was sent on it is the answers to the first of them, in their order. Those that want something
--- of a channel are answered right, but for these, which have no answer yet.
+-- of a channel are answered right, but for the last one, which may have no answer yet, or none at all where it was given up.
 pub record IsAnswered (w : Script) (came sent : List ℕ) : Type 0 where
   -- a connection that has ended takes no more bytes
   pub taken : List ℕ
@@ -108,6 +109,7 @@ pub record IsAnswered (w : Script) (came sent : List ℕ) : Type 0 where
   pub answers : List Answer
   pub unanswered : List WantValue
   pub right : AreAnswered w.rooms.channels (wants_of entries) answers unanswered
+  pub few : length unanswered ≤ 1
   -- whether too many bytes came after a request that waited, which are answered in its place
   pub overflowed : Bool
   pub sent_is : sent ≡ concat (conversation overflowed entries answers)

@@ -1,3 +1,4 @@
+-- The laws have files of their own.
 use Rattle.ll_script_laws.proofs.DueLemmas.{due, waits}
 use Rattle.ll_script_laws.proofs.LeftLemmas.{none-left}
 use Rattle.ll_script_laws.proofs.due_law.Goals as goal

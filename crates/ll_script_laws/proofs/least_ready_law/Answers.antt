@@ -1,3 +1,4 @@
+-- The laws have a file of their own.
 use Rattle.ll_script_laws.proofs.OrderLemmas.{least, order}
 use Rattle.ll_script_laws.proofs.least_ready_law.Goals as goal
 

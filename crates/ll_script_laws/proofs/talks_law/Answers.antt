@@ -1,3 +1,4 @@
+-- The laws have files of their own.
 use Rattle.ll_script_laws.proofs.IdleLemmas.{idle}
 use Rattle.ll_script_laws.proofs.TalkLemmas.{answers, talks}
 use Rattle.ll_script_laws.proofs.talks_law.Goals as goal
