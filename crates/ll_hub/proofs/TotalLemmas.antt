@@ -22,10 +22,11 @@ totals-more hub ts t n is so_far last place c total in_hub at =
     each-more (λ i t. (c : Configuration) → slice_get hub i ≡ Some c → IsTotal i c t) ts t (λ i u at c in_hub. so_far i c u in_hub at)
     (subst (λ i. (c : Configuration) → slice_get hub i ≡ Some c → IsTotal i c t) is last) place total at c in_hub
 
--- a channel at a place, and both of two tests
+-- the total of the channel at a place
 pub total-at : (r : Recording) (place : ℕ) (c : Configuration) (t : Total) → IsAt r place c → IsTotal r.room.channel r.room.settings t → IsTotal place c t
 total-at r place c t here total = subst (λ c. IsTotal place c t) here.settings (subst (λ n. IsTotal n r.room.settings t) here.number total)
 
+-- of two tests that are passed, the second is
 pub second : (a b : Bool) → IsTrue (a && b) → IsTrue b
 second true b h = h
 second false b h = cc

@@ -298,6 +298,7 @@ impl<L: Ledgers> Hub<L> {
         if returned != given {
             return Err(HubFault::Short);
         }
+        // never so: a channel stays where it was put
         if !at_home {
             return Err(HubFault::Memory);
         }
