@@ -10,11 +10,12 @@ use Rattle.ll_verdict.specs.declared.fault.PublishFault.TheVariants as refused
 use Rattle.ll_verdict.specs.declared.reply.Reply.{Reply}
 use Rattle.ll_hub.specs.Claim.{ClaimValue}
 use Rattle.ll_hub.specs.Passes.{noted, noted_reply}
-use Rattle.ll_locked.specs.Told.{IsAccepted, IsAnswered, IsDecided, IsHandedOut, IsHeld, IsRefused}
+use Rattle.ll_locked.specs.Told.{IsAccepted, IsAnswered, IsAskRefused, IsDecided, IsHandedOut, IsHeld, IsReadingRefused, IsRefused, IsTotal}
 use Rattle.ll_record.specs.Chunk.{ChunkValue}
 use Rattle.ll_locked.specs.declared.fault.HubFault.{HubFault}
 use Rattle.ll_locked.specs.declared.fault.HubFault.TheVariants.{UnknownChannel, WentBack, Room, Stranger, Short, Memory}
 use Rattle.ll_locked.specs.declared.fault.RoomFault.TheVariants as room
+use Rattle.ll_locked.specs.declared.total.Total.{Total}
 use Rattle.ll_hub.specs.declared.hub.HubAsked.{HubAsked}
 use Rattle.ll_hub.specs.declared.hub.HubAsked.TheVariants.{Now, Held}
 
@@ -100,12 +101,16 @@ abbrev pub IsAskedOf : List Configuration → ℕ → WantValue → List ℕ →
 IsAskedOf hub place want before after (Now mark) = IsAnsweredNow hub place want before after mark
 IsAskedOf hub place want before after (Held claim) = IsClaimed hub place want before after claim
 
-abbrev pub IsAskFault : List Configuration → ℕ → List ℕ → HubFault → Type 0
-IsAskFault hub place before (Room other (room.Publish fault)) = ⊥
-IsAskFault hub place before (Room other (room.Ask fault)) = other ≡ place
-IsAskFault hub place before (Room other (room.Clock fault)) = other ≡ place
-IsAskFault hub place before Memory = ⊤
-IsAskFault hub place before fault = IsUnmet hub before place fault
+-- a request was refused by the room of the channel at this place, or the reading before it was, which is one that the clock shows
+pub record IsAskedInVain (shows : ℕ → Type 0) (hub : List Configuration) (place : ℕ) (fault : HubFault) : Type 0 where
+  pub settings : Configuration
+  pub channel : slice_get hub place ≡ Some settings
+  pub refused : IsAskRefused shows place settings fault
+
+abbrev pub IsAskFault : (ℕ → Type 0) → List Configuration → ℕ → List ℕ → HubFault → Type 0
+IsAskFault shows hub place before (Room other fault) = IsAskedInVain shows hub place (Room other fault)
+IsAskFault shows hub place before Memory = ⊤
+IsAskFault shows hub place before fault = IsUnmet hub before place fault
 
 -- ---- wait
 
@@ -125,9 +130,9 @@ IsWaitFault hub place other = ⊥
 
 -- ---- tick
 
-abbrev pub IsTickFault : List Configuration → HubFault → Type 0
-IsTickFault hub (Room place (room.Clock fault)) = place < length hub
-IsTickFault hub other = ⊥
+abbrev pub IsTickFault : List Configuration → ℕ → HubFault → Type 0
+IsTickFault hub ms (Room place (room.Clock fault)) = (place < length hub) × IsReadingRefused ms fault
+IsTickFault hub ms other = ⊥
 
 -- ---- rotate
 
@@ -145,6 +150,11 @@ IsRotateFault hub place Memory = (settings : Configuration) × (slice_get hub pl
 IsRotateFault hub place other = ⊥
 
 -- ---- finish
+
+-- each channel's total is what some events come to that the channel at its place recorded
+abbrev pub AreTotals : List Configuration → List Total → Type 0
+AreTotals hub totals = (place : ℕ) (settings : Configuration) (total : Total) → slice_get hub place ≡ Some settings → slice_get totals place ≡ Some total
+    → IsTotal place settings total
 
 -- where the passes that were given didn't all come back, there are fewer than a hub gives
 abbrev pub IsFinishFault : ℕ → HubFault → Type 0

@@ -1,5 +1,6 @@
 pub mod Calls
 pub mod Claim
+pub mod Counted
 pub mod Passes
 pub use Rattle.ll_ledger.specs.Ledgers
 pub use Rattle.ll_locked.specs.Told

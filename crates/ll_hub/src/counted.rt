@@ -1,11 +1,15 @@
 //! What lies under a channel's lock: the channel, and its shares of what was counted. Each method is one locked section.
-ghost use Rattle.std.specs.Prelude.{◌≡◌, [], IfErr, IfOk, OnErr, OnOk, filter, length};
+ghost use Rattle.std.specs.Prelude.{◌≡◌, ◌+◌, ◌++◌, ◌∷◌, [], List, IfErr, IfOk, IsTrue, MatchBool, OnErr, OnOk, filter, length};
 ghost use Rattle.ll_book.specs.Waiting as waiting;
+ghost use Rattle.ll_hub.specs.Counted.{IsLeftBy, IsUnaskedBy, IsUnpublishedBy};
 ghost use Rattle.ll_ledger.specs.Ledgers.{blank, with_ask, with_publish};
 ghost use Rattle.ll_locked.specs.Section as spec;
-ghost use Rattle.ll_locked.specs.Told.{IsAccepted, IsHandedOut};
+ghost use Rattle.ll_locked.specs.Told.{IsAccepted, IsHandedOut, IsReadingRefused, IsTotal, IsTotalOf};
+ghost use Rattle.ll_record.specs.Chunk.{IsChunk, IsFaithful, emptied};
+ghost use Rattle.ll_record.specs.Recording.{GoesOn, IsRecorded};
 ghost use Rattle.ll_room.specs.Home.{home};
 ghost use Rattle.ll_room.specs.declared.stamped.Stamp.TheVariants as stamp;
+ghost use Rattle.ll_verdict.specs.Events.{Event, Clock, Publish};
 ghost use Rattle.ll_verdict.specs.State.{state_of};
 
 use ll_directive::Want;
@@ -27,13 +31,13 @@ pub(crate) struct Counted<L: Ledgers> {
 
 impl<L: Ledgers> Model for Counted<L> {
     ghost use Rattle.std.specs.Prelude.{◌≡◌};
-    ghost use Rattle.ll_room.specs.Home.{Home};
+    ghost use Rattle.ll_record.specs.Recording.{Recording};
 
-    ghost Value = { Home };
+    ghost Value = { Recording };
 
     ghost view = { λ c. c.channel };
 
-    ghost invariant = { λ c. c.counts ≡ record { parts = 1; publishes = c.channel.count; asks = c.channel.asks } };
+    ghost invariant = { λ c. c.counts ≡ record { parts = 1; publishes = c.channel.room.count; asks = c.channel.room.asks } };
 }
 
 impl<L: Ledgers> Counted<L> {
@@ -45,7 +49,8 @@ impl<L: Ledgers> Counted<L> {
         counts: ChannelCounts<L>,
     ) -> Result<Counted<L>, AllocError>
         requires { counts ≡ blank 1 }
-        ensures { IfOk result (λ c. c ≡ home place settings (state_of settings [])) }
+        ensures new { IfOk result (λ c. c ≡ record { room = home place settings (state_of settings []); at = 0; lines = []; calls = 0 }) }
+        ensures recorded { IfOk result (λ c. IsRecorded c []) }
     {
         Ok(Counted {
             channel: Channel::new(alloc, place, settings)?,
@@ -55,9 +60,16 @@ impl<L: Ledgers> Counted<L> {
 
     /// How many replies are there that weren't collected.
     pub(crate) fn ready(&self) -> usize
-        ensures { result ≡ length (filter waiting.is_ready self.now.slots) }
+        ensures { result ≡ length (filter waiting.is_ready self.now.room.slots) }
     {
         self.channel.ready()
+    }
+
+    /// Whether this is the channel that the caller knows, and has what the caller has seen.
+    pub(crate) fn is_met(&self, known: Known<'_>) -> bool
+        ensures { IsTrue result → spec.IsMet self.now known.entry.place known.entry.settings.now known.entry.seen }
+    {
+        self.channel.meet(known).is_ok()
     }
 
     /// Counts an item, and publishes it. An item that is refused isn't counted.
@@ -72,7 +84,12 @@ impl<L: Ledgers> Counted<L> {
         requires { theirs.old.parts ≡ 1 }
         ensures room { IfOk result (λ n. (n.room ≡ known.entry.place) × (n.stamp ≡ stamp.Publish item)) }
         ensures accepted { IfOk result (λ n. IsAccepted known.entry.settings.now item known.entry.seen n.value) }
-        ensures refused { IfErr result (λ f. spec.IsPublishFaultBy known.entry.place known.entry.settings.now known.entry.seen item f) }
+        ensures count { IfOk result (λ n. n.value ≡ self.old.room.count + 1) }
+        ensures recorded { (events : List Event) → IsRecorded self.old events → OnOk result (IsRecorded self.new (events ++ Publish item ∷ [])) }
+        ensures goes_on { GoesOn self.old self.new }
+        ensures rule { (events : List Event) → IsRecorded self.old events → IfErr result (λ f. spec.IsRuleBy self.old events item f) }
+        ensures refused { IfErr result (λ f. IsUnpublishedBy self.old known.entry.place known.entry.settings.now known.entry.seen item f) }
+        ensures published { OnOk result (spec.HasPublished self.old self.new) }
         ensures counted { OnOk result (theirs.new ≡ with_publish theirs.old) }
         ensures uncounted { OnErr result (theirs.new ≡ theirs.old) }
         ensures unchanged { OnErr result (self.new ≡ self.old) }
@@ -108,7 +125,12 @@ impl<L: Ledgers> Counted<L> {
     ) -> Result<Answer, HubFault>
         requires { theirs.old.parts ≡ 1 }
         ensures asked { IfOk result (λ a. spec.IsAskedBy known.entry.place known.entry.settings.now known.entry.seen want a) }
-        ensures refused { IfErr result (λ f. spec.IsAskFaultBy known.entry.place known.entry.seen f) }
+        ensures made { IfOk result (λ a. spec.IsMadeBy (C.shows clock.now) self.old self.new want a) }
+        ensures goes_on { GoesOn self.old self.new }
+        ensures refused { IfErr result (λ f. IsUnaskedBy (C.shows clock.now) self.old known.entry.place known.entry.settings.now known.entry.seen f) }
+        ensures left { IfErr result (λ f. IsLeftBy (C.shows clock.now) self.old self.new known.entry.place f) }
+        ensures made_once { OnOk result (spec.HasAsked self.old self.new) }
+        ensures not_made { OnErr result (spec.IsAsCounted self.old self.new) }
         ensures counted { OnOk result (theirs.new ≡ with_ask theirs.old) }
         ensures uncounted { OnErr result (theirs.new ≡ theirs.old) }
     {
@@ -128,32 +150,56 @@ impl<L: Ledgers> Counted<L> {
 
     /// Hands out the reply to a held request, where it is there.
     pub(crate) fn collect(&mut self, known: Known<'_>, entry: Entry) -> Tried
-        ensures { spec.IsTriedBy known.entry.place known.entry.settings.now entry result }
+        ensures tried { spec.IsTriedBy known.entry.place known.entry.settings.now entry result }
+        ensures counts { spec.IsAsCounted self.old self.new }
+        ensures collected { spec.IsCollectedBy self.old self.new known.entry.place known.entry.settings.now entry result }
+        ensures goes_on { GoesOn self.old self.new }
     {
         self.channel.collect(known, entry)
     }
 
     /// Gives a held request up: it gets no reply. Answers whether it was held here.
-    pub(crate) fn close(&mut self, known: Known<'_>, entry: Entry) -> bool {
+    pub(crate) fn close(&mut self, known: Known<'_>, entry: Entry) -> bool
+        ensures counts { spec.IsAsCounted self.old self.new }
+        ensures closed { MatchBool result (spec.IsClosed self.old self.new known.entry.place known.entry.settings.now entry)
+            (spec.IsNotOpen self.old self.new known.entry.place known.entry.settings.now entry) }
+        ensures goes_on { GoesOn self.old self.new }
+    {
         self.channel.close(known, entry)
     }
 
     /// Tells the channel what its clock shows, in milliseconds.
-    pub(crate) fn tick(&mut self, ms: u64) -> Result<(), ReadingFault> {
+    pub(crate) fn tick(&mut self, ms: u64) -> Result<(), ReadingFault>
+        ensures counts { spec.IsAsCounted self.old self.new }
+        ensures told { (events : List Event) → IsRecorded self.old events → OnOk result (IsRecorded self.new (events ++ Clock ms ∷ [])) }
+        ensures goes_on { GoesOn self.old self.new }
+        ensures refused { IfErr result (λ f. spec.IsReadingFault self.old ms f) }
+        ensures why { IfErr result (λ f. IsReadingRefused ms f) }
+        ensures unchanged { OnErr result (self.new ≡ self.old) }
+    {
         self.channel.tick(ms)
     }
 
     /// Hands out the record of the channel, and begins another.
     pub(crate) fn rotate(&mut self, known: Known<'_>) -> Result<Chunk, HubFault>
         ensures handed_out { IfOk result (λ k. IsHandedOut known.entry.settings.now k) }
-        ensures refused { IfErr result spec.IsRotateFault }
+        ensures known { OnOk result (spec.IsAt self.old known.entry.place known.entry.settings.now) }
+        ensures chunk { IfOk result (λ k. IsChunk self.old k) }
+        ensures faithful { (events : List Event) → IsRecorded self.old events → IfOk result (λ k. IsFaithful self.old events k) }
+        ensures recorded { (events : List Event) → IsRecorded self.old events → OnOk result (IsRecorded self.new events) }
+        ensures emptied { OnOk result (self.new ≡ emptied self.old) }
+        ensures refused { IfErr result (λ f. spec.IsRotateFault self.old known.entry.place known.entry.settings.now f) }
+        ensures unchanged { OnErr result (self.new ≡ self.old) }
     {
         self.channel.rotate(known)
     }
 
     /// Closes what is held, tells what the channel has come to, and gives its shares.
     pub(crate) fn finish(self) -> (Total, ChannelCounts<L>)
-        ensures { result.1 ≡ record { parts = 1; publishes = result.0.publishes; asks = result.0.asks } }
+        ensures shares { result.1 ≡ record { parts = 1; publishes = result.0.publishes; asks = result.0.asks } }
+        ensures counts { (result.0.publishes ≡ self.room.count) × (result.0.asks ≡ self.room.asks) × (result.0.held ≡ length self.room.slots) }
+        ensures of { (events : List Event) → IsRecorded self events → IsTotalOf self.room.settings events result.0 }
+        ensures total { IsTotal self.room.channel self.room.settings result.0 }
     {
         let Counted { channel, counts } = self;
         (channel.finish(), counts)

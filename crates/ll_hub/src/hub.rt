@@ -170,7 +170,7 @@ impl<L: Ledgers> Hub<L> {
     ) -> Result<HubAsked, HubFault>
         ensures asked { IfOk result (λ a. calls.IsAskedOf self.now channel want pass.old.seen pass.new.seen a) }
         ensures counted { OnOk result ((pass.new.publishes ≡ pass.old.publishes) × (pass.new.asks ≡ pass.old.asks + 1)) }
-        ensures refused { IfErr result (λ f. calls.IsAskFault self.now channel pass.old.seen f) }
+        ensures refused { IfErr result (λ f. calls.IsAskFault (C.shows clock.now) self.now channel pass.old.seen f) }
         ensures unchanged { OnErr result (pass.new ≡ pass.old) }
     {
         let (slot, known) = self.slots.reach(channel, pass.seen(channel))?;
@@ -221,7 +221,7 @@ impl<L: Ledgers> Hub<L> {
 
     /// Tells each channel, in their order, what the clock shows, in milliseconds, up to the first that refuses the reading.
     pub fn tick<R: Wait>(&self, rt: &R, ms: u64) -> Result<(), HubFault>
-        ensures { IfErr result (λ f. calls.IsTickFault self.now f) }
+        ensures { IfErr result (λ f. calls.IsTickFault self.now ms f) }
     {
         for channel in 0..self.slots.len() {
             if let Err(fault) = self.slots.tick(rt, channel, ms) {
@@ -271,6 +271,7 @@ impl<L: Ledgers> Hub<L> {
     /// 1. No memory is found: Memory.
     /// 2. Fewer passes come back than were given; there are never more: Short.
     pub fn finish(self, passes: Vec<Pass<L>>) -> Result<Totals, HubFault>
+        ensures totals { IfOk result (λ t. calls.AreTotals self t.channels.items) }
         ensures each { IfOk result (λ t. length t.channels.items ≡ length self) }
         ensures publishes { IfOk result (λ t. sum (map (λ c. c.publishes) t.channels.items) ≡ sum (map (λ p. p.publishes) passes.items)) }
         ensures asks { IfOk result (λ t. sum (map (λ c. c.asks) t.channels.items) ≡ sum (map (λ p. p.asks) passes.items)) }
@@ -291,11 +292,15 @@ impl<L: Ledgers> Hub<L> {
             passes: rest,
             given,
         } = seats.into_inner();
-        slots.finish(&mut channels, &mut all);
+        let at_home = slots.finish(&mut channels, &mut all);
         let returned = passes.len() as u64;
         let mut both = gather(rest, passes);
         if returned != given {
             return Err(HubFault::Short);
+        }
+        // never so: a channel stays where it was put
+        if !at_home {
+            return Err(HubFault::Memory);
         }
         publishes
             .into_inner()

@@ -1,9 +1,11 @@
 //! The channels of a hub, under a lock each.
-ghost use Rattle.std.specs.Prelude.{◌≡◌, ◌+◌, ◌<◌, ◌≤◌, ◌++◌, ◌∷◌, [], None, Some, IfErr, IfOk, MatchOption, OnErr, OnOk, false, length, map, slice_get, sum, vec_capacity};
+ghost use Rattle.std.specs.Prelude.{◌≡◌, ◌+◌, ◌<◌, ◌≤◌, ◌++◌, ◌∷◌, [], None, Some, IfErr, IfOk, IsTrue, MatchOption, OnErr, OnOk, false, length, map, slice_get, sum, vec_capacity};
 ghost use Rattle.ll_channels.specs.Channels.{channel_of_name};
 ghost use Rattle.ll_hub.specs.Calls as calls;
 ghost use Rattle.ll_ledger.specs.Ledgers.{blank};
-ghost use Rattle.ll_locked.specs.Told.{IsDecided};
+ghost use Rattle.ll_item.specs.Settings.{Configuration};
+ghost use Rattle.ll_locked.specs.Section.{IsAt};
+ghost use Rattle.ll_locked.specs.Told.{IsDecided, IsReadingRefused, IsTotal};
 ghost use Rattle.ll_room.specs.declared.stamped.Stamp.TheVariants as stamp;
 
 use crate::counted::Counted;
@@ -143,14 +145,17 @@ impl<L: Ledgers> Slots<L> {
     /// Tells the channel at this place what the clock shows, in milliseconds.
     pub(crate) fn tick<R: Wait>(&self, rt: &R, channel: usize, ms: u64) -> Result<(), ReadingFault>
         requires { channel < length self.now }
+        ensures { IfErr result (λ f. IsReadingRefused ms f) }
     {
         self.slots[channel].tick(rt, ms)
     }
 
-    /// Closes what is held, tells what each channel has come to, and takes their shares in. It takes no memory.
-    pub(crate) fn finish(self, found: &mut Vec<Total>, all: &mut ChannelCounts<L>)
+    /// Closes what is held, tells what each channel has come to, and takes their shares in. It takes no memory. Answers whether each
+    /// channel was found at its place, as it always is: no proof sees what lies under a lock, so this is looked at.
+    pub(crate) fn finish(self, found: &mut Vec<Total>, all: &mut ChannelCounts<L>) -> bool
         requires none { found.old.items ≡ [] }
         requires room { length self ≤ vec_capacity found.old }
+        ensures totals { IsTrue result → calls.AreTotals self found.new.items }
         ensures each { length found.new.items ≡ length self }
         ensures parts { all.new.parts ≡ all.old.parts + length self }
         ensures publishes { all.new.publishes ≡ all.old.publishes + sum (map (λ t. t.publishes) found.new.items) }
@@ -158,16 +163,18 @@ impl<L: Ledgers> Slots<L> {
     {
         let Slots {
             alloc: _,
-            declared: _declared,
+            declared,
             slots: mut left,
         } = self;
         left.reverse();
+        let mut at_home = true;
         while let Some(slot) = left.pop() {
-            let (total, counts) = slot.finish();
+            let (total, counts) = slot.finish(&declared, found.len(), &mut at_home);
             found.push_reserved(total);
             all.merge(counts);
         }
         left.destroy_empty();
+        at_home
     }
 
     /// Closes what is held.
@@ -178,7 +185,7 @@ impl<L: Ledgers> Slots<L> {
             slots: mut left,
         } = self;
         while let Some(slot) = left.pop() {
-            slot.finish();
+            slot.end();
         }
         left.destroy_empty();
     }
@@ -207,7 +214,9 @@ impl<L: Ledgers> Slot<L> {
     }
 
     /// Tells the channel what the clock shows, in milliseconds.
-    fn tick<R: Wait>(&self, rt: &R, ms: u64) -> Result<(), ReadingFault> {
+    fn tick<R: Wait>(&self, rt: &R, ms: u64) -> Result<(), ReadingFault>
+        ensures { IfErr result (λ f. IsReadingRefused ms f) }
+    {
         let mut state = self.state.lock(rt);
         let ready = state.ready();
         let told = state.tick(ms);
@@ -238,11 +247,40 @@ impl<L: Ledgers> Slot<L> {
         unreachable!()
     }
 
-    /// Closes what is held, tells what the channel has come to, and gives its shares.
-    fn finish(self) -> (Total, ChannelCounts<L>)
-        ensures { result.1 ≡ record { parts = 1; publishes = result.0.publishes; asks = result.0.asks } }
+    /// Closes what is held, tells what the channel has come to, and gives its shares. Notes where it isn't the channel of this place.
+    fn finish(
+        self,
+        declared: &Declared,
+        place: usize,
+        at_home: &mut bool,
+    ) -> (Total, ChannelCounts<L>)
+        ensures shares { result.1 ≡ record { parts = 1; publishes = result.0.publishes; asks = result.0.asks } }
+        ensures total { (settings : Configuration) → IsTrue at_home.new → slice_get declared.now place ≡ Some settings → IsTotal place settings result.0 }
+        ensures noted { IsTrue at_home.new → IsTrue at_home.old }
     {
         let Slot { state, changed: _ } = self;
-        state.into_inner().finish()
+        let channel = state.into_inner();
+        *at_home &= is_at(&channel, declared, place);
+        channel.finish()
+    }
+
+    /// Closes what is held.
+    fn end(self) {
+        let Slot { state, changed: _ } = self;
+        state.into_inner().finish();
+    }
+}
+
+/// Whether this is the channel at this place.
+fn is_at<L: Ledgers>(channel: &Counted<L>, declared: &Declared, place: usize) -> bool
+    ensures { (settings : Configuration) → IsTrue result → slice_get declared.now place ≡ Some settings → IsAt channel.now place settings }
+{
+    match declared.get(place) {
+        Some(settings) => channel.is_met(Known {
+            place,
+            settings,
+            seen: 0,
+        }),
+        None => false,
     }
 }

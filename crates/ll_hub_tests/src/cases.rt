@@ -43,6 +43,8 @@ const TURNS: u64 = 1_000_000;
 pub(crate) struct Stopped;
 
 impl Clock for Stopped {
+    ghost shows = { λ c ms. ms ≡ 0 };
+
     fn now(&self) -> u64 {
         0
     }
@@ -68,6 +70,8 @@ impl Waiting {
 }
 
 impl Clock for Waiting {
+    ghost shows = { λ c ms. ms ≡ 0 };
+
     fn now(&self) -> u64 {
         add_one(&self.readings);
         if comes_to(&self.came, 1) {

@@ -1,5 +1,5 @@
 //! The server.
-ghost use Rattle.std.specs.Prelude.{◌≡◌, ◌≤◌, length};
+ghost use Rattle.std.specs.Prelude.{◌≡◌, ◌≤◌, ◌^◌, length};
 
 use crate::door::Door;
 use ll_command::Fault;
@@ -36,6 +36,8 @@ struct Watch<'a, R> {
 }
 
 impl<R: time::Clock> Clock for Watch<'_, R> {
+    ghost shows = { λ w ms. ms ≤ 2 ^ 60 };
+
     /// A clock that can't be read shows 0, which changes no channel's time.
     fn now(&self) -> u64 {
         match self.start.elapsed(self.rt) {

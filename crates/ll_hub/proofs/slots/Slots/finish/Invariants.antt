@@ -1,8 +1,10 @@
-use Rattle.std.specs.Prelude.{◌≡◌, ◌+◌, ◌≤◌, length, map, sum, vec_capacity, vec_len}
+use Rattle.std.specs.Prelude.{◌≡◌, ◌+◌, ◌≤◌, IsTrue, length, map, sum, vec_capacity, vec_len}
+use Rattle.ll_hub.specs.Calls.{AreTotals}
 use Rattle.ll_hub.proofs.slots.Slots.finish.Given as goal
 
 abbrev pub invariant-loop-slot : goal.invariant-loop-slot
 invariant-loop-slot g l = record {
+  totals : IsTrue l.at_home → AreTotals l.fn.self l.found.items;
   each : vec_len l.found + vec_len l.left ≡ length l.fn.self;
   room : vec_len l.found + vec_len l.left ≤ vec_capacity l.found;
   parts : l.all.parts ≡ l.fn.all.parts + vec_len l.found;

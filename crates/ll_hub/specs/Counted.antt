@@ -1,0 +1,30 @@
+-- For private contracts: why a section of a channel refuses a call that is counted.
+use Rattle.std.specs.Prelude.{◌≡◌, ℕ, ⊤}
+use Rattle.ll_item.specs.Settings.{Configuration}
+use Rattle.ll_item.specs.declared.item.Item.{Item}
+use Rattle.ll_record.specs.Recording.{Recording}
+use Rattle.ll_locked.specs.Section.{IsAskFaultBy, IsPublishFaultBy, IsUnmetBy}
+use Rattle.ll_locked.specs.Told.{IsAskRefused}
+use Rattle.ll_locked.specs.declared.fault.HubFault.{HubFault}
+use Rattle.ll_locked.specs.declared.fault.HubFault.TheVariants.{Room, Short, Memory}
+
+-- the channel isn't the one that the caller has met, or as much was counted as is counted
+abbrev pub IsUncountedBy : Recording → ℕ → Configuration → ℕ → HubFault → Type 0
+IsUncountedBy r place c seen Short = ⊤
+IsUncountedBy r place c seen fault = IsUnmetBy r place c seen fault
+
+-- why an item isn't published
+abbrev pub IsUnpublishedBy : Recording → ℕ → Configuration → ℕ → Item → HubFault → Type 0
+IsUnpublishedBy r place c seen item (Room other fault) = IsPublishFaultBy place c seen item (Room other fault)
+IsUnpublishedBy r place c seen item fault = IsUncountedBy r place c seen fault
+
+-- why a request isn't made
+abbrev pub IsUnaskedBy : (ℕ → Type 0) → Recording → ℕ → Configuration → ℕ → HubFault → Type 0
+IsUnaskedBy shows r place c seen (Room other fault) = IsAskRefused shows place c (Room other fault)
+IsUnaskedBy shows r place c seen Memory = ⊤
+IsUnaskedBy shows r place c seen fault = IsUncountedBy r place c seen fault
+
+-- what it leaves: only where the room was asked may a reading be recorded
+abbrev pub IsLeftBy : (ℕ → Type 0) → Recording → Recording → ℕ → HubFault → Type 0
+IsLeftBy shows old new place (Room other fault) = IsAskFaultBy shows old new place (Room other fault)
+IsLeftBy shows old new place fault = new ≡ old
