@@ -156,7 +156,11 @@ fn run_by<L: Ledger, M: Ledger>(
 }
 
 fn run_with(alloc: Global, script: &[u8], from: Device, to: Device) -> Ran {
-    run_by::<Brand, Brand>(alloc, script, from, to, None, Blank::new(2), Blank::new(2))
+    run_most(alloc, script, from, to, None)
+}
+
+fn run_most(alloc: Global, script: &[u8], from: Device, to: Device, most: Option<u64>) -> Ran {
+    run_by::<Brand, Brand>(alloc, script, from, to, most, Blank::new(2), Blank::new(2))
 }
 
 /// The channel's line and these lines after it.
@@ -238,6 +242,7 @@ fn failed_writes_stop_a_run(rt: HostRuntime) -> Result<(), AllocError> {
 /// A script of ten empty lines that is read a byte at a time is at its end with the eleventh read; a reader that gives no end is left.
 #[test]
 fn reads_are_counted(rt: HostRuntime) {
+    let script = b"\n\n\n\n\n\n\n\n\n\n".as_slice();
     let from = Device { step: 1, times: 20 };
     let ended = Summary {
         events: 0,
@@ -250,16 +255,7 @@ fn reads_are_counted(rt: HostRuntime) {
         (11, Ok(ended)),
         (u64::MAX, Ok(ended)),
     ] {
-        let blanks = (Blank::new(2), Blank::new(2));
-        let ran = run_by::<Brand, Brand>(
-            rt.alloc(),
-            b"\n\n\n\n\n\n\n\n\n\n",
-            from,
-            WHOLE,
-            Some(most),
-            blanks.0,
-            blanks.1,
-        );
+        let ran = run_most(rt.alloc(), script, from, WHOLE, Some(most));
         assert_eq!(rt; ran.result, result, "{most} reads");
     }
 }
