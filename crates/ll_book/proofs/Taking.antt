@@ -5,7 +5,7 @@ use Rattle.std.proofs.lemmas.List.Filters.{length-filter_both}
 use Rattle.ll_book.proofs.Rising.{lower}
 use Rattle.std.specs.List.{position_or_len, position, remove}
 use Rattle.ll_verdict.specs.declared.entry.Slot.{Slot}
-use Rattle.ll_book.specs.Waiting.{IsRising, has_ticket, is_ready_at, reply_at, settled_in, without, without_ready}
+use Rattle.ll_verdict.specs.Waiting.{IsRising, has_ticket, is_ready_at, reply_at, settled_in, without, without_ready}
 
 abbrev place : ℕ → List Slot → ℕ
 place t ss = position_or_len (is_ready_at t) ss

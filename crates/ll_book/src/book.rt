@@ -3,7 +3,7 @@ ghost use Rattle.std.specs.List.{list_any};
 ghost use Rattle.ll_verdict.specs.State.{is_waiting, waiting_in};
 ghost use Rattle.ll_verdict.specs.Verdict.{waiting_limit};
 ghost use Rattle.ll_book.specs.Release.{AreThose, expired, holders_of, is_over, released, takes};
-ghost use Rattle.ll_book.specs.Waiting.{AreBelow, entry_in, found, has_ticket, is_ready, is_ready_at, first_ready, reply_at, without, without_ready};
+ghost use Rattle.ll_verdict.specs.Waiting.{AreBelow, entry_in, found, has_ticket, is_ready, is_ready_at, first_ready, reply_at, without, without_ready};
 
 use crate::holders::Holders;
 use crate::pages::Pages;
@@ -55,7 +55,7 @@ pub struct Book {
 impl Model for Book {
     ghost use Rattle.std.specs.Prelude.{List};
     ghost use Rattle.ll_verdict.specs.declared.entry.Slot.{Slot};
-    ghost use Rattle.ll_book.specs.Waiting.{IsRising};
+    ghost use Rattle.ll_verdict.specs.Waiting.{IsRising};
 
     ghost Value = { List Slot };
 

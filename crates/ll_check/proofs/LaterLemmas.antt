@@ -6,14 +6,14 @@ use Rattle.ll_entry.specs.declared.entry.EntryFault.{EntryFault}
 use Rattle.ll_entry.specs.declared.entry.Recorded.{Recorded}
 use Rattle.ll_item.specs.Settings.{Configuration}
 use Rattle.ll_verdict.specs.Events.{Event}
-use Rattle.ll_check.specs.Chain.{Between, Chain, Inside, Place, begun, chain_of, checked_from, counted, ended_line, entry_at, go_on, joined, joined_by, not_before, start, text_in, wrong}
+use Rattle.ll_entry.specs.Chain.{Between, Chain, Inside, Place, begun, chain_of, checked_from, counted, ended_line, entry_at, go_on, joined, joined_by, not_before, start, text_in, wrong}
 use Rattle.ll_attr.specs.Words.{pieces_at}
 use Rattle.ll_room.specs.Home.{Home}
 use Rattle.ll_check.specs.Found.{IsAt}
-use Rattle.ll_check.specs.Entered.{event_of, fault_in}
-use Rattle.ll_check.specs.declared.fault.CheckFault.{CheckFault}
-use Rattle.ll_check.specs.declared.fault.CheckKind.{CheckKind}
-use Rattle.ll_check.specs.declared.fault.CheckKind.TheVariants.{BadChunk, Memory}
+use Rattle.ll_entry.specs.Entered.{event_of, fault_in}
+use Rattle.ll_entry.specs.declared.fault.CheckFault.{CheckFault}
+use Rattle.ll_entry.specs.declared.fault.CheckKind.{CheckKind}
+use Rattle.ll_entry.specs.declared.fault.CheckKind.TheVariants.{BadChunk, Memory}
 
 own : (n : ℕ) → nat_le n n ≡ true
 own n = grind (arith, nat_tests)

@@ -9,7 +9,7 @@ use Rattle.std.specs.List.{position_or_len}
 use Rattle.std.specs.Str.{IsUtf8, is_utf8}
 use Rattle.memchr.specs.Find.{IsFirstByte, is_byte}
 use Rattle.ll_attr.specs.Words.{pieces_at}
-use Rattle.ll_check.specs.Chain.{text_in}
+use Rattle.ll_entry.specs.Chain.{text_in}
 
 abbrev is_lf : ℕ → Bool
 is_lf b = b == 10

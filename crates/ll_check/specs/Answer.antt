@@ -1,8 +1,8 @@
 -- The line that tells what a check came to.
 use Rattle.std.specs.Prelude.{ℕ, List, ◌++◌, Result, Ok, Err, codes, decimal}
-use Rattle.ll_check.specs.declared.fault.CheckFault.{CheckFault}
-use Rattle.ll_check.specs.declared.fault.CheckKind.{CheckKind}
-use Rattle.ll_check.specs.declared.fault.CheckKind.TheVariants.{BadChunk, Gap, OtherChannel, Refused, WrongReply, Memory}
+use Rattle.ll_entry.specs.declared.fault.CheckFault.{CheckFault}
+use Rattle.ll_entry.specs.declared.fault.CheckKind.{CheckKind}
+use Rattle.ll_entry.specs.declared.fault.CheckKind.TheVariants.{BadChunk, Gap, OtherChannel, Refused, WrongReply, Memory}
 
 abbrev pub kind_name : CheckKind → List ℕ
 kind_name BadChunk = codes "BadChunk"

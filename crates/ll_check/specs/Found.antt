@@ -3,8 +3,8 @@ use Rattle.std.specs.Prelude.{◌≡◌, ℕ, List, Option, Some, None, Result, 
 use Rattle.ll_item.specs.Settings.{Configuration}
 use Rattle.ll_room.specs.Home.{Home, Stands}
 use Rattle.ll_verdict.specs.Events.{Event}
-use Rattle.ll_check.specs.Chain.{Between, Chain, Inside, chain_of, checked_from, start}
-use Rattle.ll_check.specs.declared.fault.CheckKind.{CheckKind}
+use Rattle.ll_entry.specs.Chain.{Between, Chain, Inside, chain_of, checked_from, start}
+use Rattle.ll_entry.specs.declared.fault.CheckKind.{CheckKind}
 
 -- a room stands for the events of a chain
 abbrev pub IsAt : Option Home → Chain → Type 0

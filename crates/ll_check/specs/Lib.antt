@@ -1,4 +1,2 @@
 pub mod Answer
-pub mod Chain
-pub mod Entered
 pub mod Found

@@ -2,7 +2,7 @@
 ghost use Rattle.std.specs.Prelude.{◌≡◌, IfOk, string_bytes};
 ghost use Rattle.ll_check.specs.Answer as spec;
 
-use crate::fault::{CheckFault, CheckKind};
+use ll_entry::{CheckFault, CheckKind};
 use std::alloc::{AllocError, Global};
 
 /// `ok N` for a chain of N entries that is right, `bad ENTRY NAME` for one that isn't. It fails only where no memory is found.

@@ -1,11 +1,11 @@
 //! Chains of chunks.
 ghost use Rattle.std.specs.Prelude.{◌≡◌, ◌≢◌, ◌<◌, [], IfErr, IfOk, OnOk, None, Ok, Err, length, true};
 ghost use Rattle.ll_attr.specs.Words.{pieces_at};
-ghost use Rattle.ll_check.specs.Chain.{Between, Chain, checked, checked_from, counted, not_before, start};
+ghost use Rattle.ll_entry.specs.Chain.{Between, Chain, checked, checked_from, counted, not_before, start};
 ghost use Rattle.ll_check.specs.Found.{IsAt, Leads};
 
 use crate::chunk::{begin, entries_of, read_entries};
-use crate::fault::{CheckFault, CheckKind};
+use ll_entry::{CheckFault, CheckKind};
 use ll_room::Keeper;
 use std::alloc::Global;
 use std::marker::Model;

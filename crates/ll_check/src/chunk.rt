@@ -1,8 +1,8 @@
 //! One chunk: its first three lines, and the entries after them.
 ghost use Rattle.std.specs.Prelude.{◌≡◌, ◌≢◌, ◌+◌, ◌^◌, ◌≤◌, ◌<◌, List, IfErr, IfOk, IfSome, MatchOption, OnOk, Some, Ok, Err, is_some, length, true};
 ghost use Rattle.ll_attr.specs.Words.{pieces_at};
-ghost use Rattle.ll_check.specs.Chain as spec;
-ghost use Rattle.ll_check.specs.Chain.{Between, Chain, Inside, begun, begun_at, chain_of, checked_from, go_on, known_by, not_before, with_line, wrong};
+ghost use Rattle.ll_entry.specs.Chain as spec;
+ghost use Rattle.ll_entry.specs.Chain.{Between, Chain, Inside, begun, begun_at, chain_of, checked_from, go_on, known_by, not_before, with_line, wrong};
 ghost use Rattle.ll_check.specs.Found.{GoesOn, IsAt, IsInside, IsJoined};
 ghost use Rattle.ll_item.specs.Same.{same_settings};
 ghost use Rattle.ll_item.specs.Settings.{settings_in};
@@ -11,10 +11,9 @@ ghost use Rattle.ll_room.specs.Home.{Stands};
 ghost use Rattle.ll_verdict.specs.Events.{Event};
 
 use crate::entry::enter;
-use crate::fault::{CheckFault, CheckKind};
 use crate::lines::{cut_line, text_in};
 use ll_attr::after;
-use ll_entry::Recorded;
+use ll_entry::{CheckFault, CheckKind, Recorded};
 use ll_format::number;
 use ll_item::{Settings, SettingsFault};
 use ll_room::Keeper;

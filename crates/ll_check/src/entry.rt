@@ -1,7 +1,7 @@
 //! Entries, each checked as the room of its channel takes it.
 ghost use Rattle.std.specs.Prelude.{◌≡◌, ◌≢◌, ◌+◌, ◌==◌, ◌++◌, ◌∷◌, [], List, IfErr, IsErrOf, OnOk, None, Some, option_map};
-ghost use Rattle.ll_check.specs.Entered as spec;
-ghost use Rattle.ll_check.specs.Entered.{event_of, fault_in};
+ghost use Rattle.ll_entry.specs.Entered as spec;
+ghost use Rattle.ll_entry.specs.Entered.{event_of, fault_in};
 ghost use Rattle.ll_entry.specs.declared.entry.Recorded.TheVariants as recorded;
 ghost use Rattle.ll_room.specs.Home.{Stands};
 ghost use Rattle.ll_room.specs.Mark.{Mark};
@@ -10,9 +10,8 @@ ghost use Rattle.ll_verdict.specs.Events.{Event};
 ghost use Rattle.ll_verdict.specs.Outcome.{outcome_of};
 ghost use Rattle.ll_verdict.specs.declared.reply.Reply as verdict;
 
-use crate::fault::CheckKind;
 use ll_directive::Want;
-use ll_entry::Recorded;
+use ll_entry::{CheckKind, Recorded};
 use ll_item::Item;
 use ll_room::{AskFault, Keeper, Stamped};
 use ll_verdict::{Outcome, PublishFault, Reply};

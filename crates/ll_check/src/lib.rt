@@ -5,9 +5,7 @@ mod answer;
 mod checker;
 mod chunk;
 mod entry;
-mod fault;
 mod lines;
 
 pub use answer::answer_line;
 pub use checker::{Checker, check};
-pub use fault::{CheckFault, CheckKind};

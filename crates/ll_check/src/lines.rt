@@ -1,7 +1,7 @@
 //! Lines of bytes.
 ghost use Rattle.std.specs.Prelude.{◌≡◌, ◌<◌, ◌∷◌, [], IfSome, MatchOption, Some, None, length, option_map};
 ghost use Rattle.ll_attr.specs.Words.{pieces_at};
-ghost use Rattle.ll_check.specs.Chain as spec;
+ghost use Rattle.ll_entry.specs.Chain as spec;
 
 use memchr::memchr;
 use std::str;

@@ -4,8 +4,8 @@ use Rattle.std.proofs.lemmas.List.{length-map}
 use Rattle.std.proofs.lemmas.List.Elements.{All-head, All-tail}
 use Rattle.std.proofs.lemmas.Slice.Eq.{bytes_eq-Decides}
 use Rattle.std.specs.List.{All, flat_map}
-use Rattle.ll_check.specs.Chain.{Between, Chain, Inside, begun, chain_of, checked, checked_from, counted, ended_line, go_on, start, text_in, with_line}
-use Rattle.ll_check.specs.declared.fault.CheckFault.{CheckFault}
+use Rattle.ll_entry.specs.Chain.{Between, Chain, Inside, begun, chain_of, checked, checked_from, counted, ended_line, go_on, start, text_in, with_line}
+use Rattle.ll_entry.specs.declared.fault.CheckFault.{CheckFault}
 use Rattle.ll_entry.specs.Entries.{entry_in}
 use Rattle.ll_entry.specs.Replies.{most}
 use Rattle.ll_entry.specs.declared.entry.Recorded.{Recorded}

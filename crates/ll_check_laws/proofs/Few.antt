@@ -4,15 +4,15 @@ use Rattle.std.proofs.lemmas.Bool.{and_parts, not-true}
 use Rattle.std.proofs.lemmas.Bool.Decides.{nat_tests}
 use Rattle.std.proofs.lemmas.List.{length-map}
 use Rattle.std.specs.List.{list_any}
-use Rattle.ll_book.specs.Waiting.{has_ticket, is_ready_at, reply_at, settled_in}
-use Rattle.ll_check.specs.Entered.{event_of, fault_in, is_open_after, same_answer, settled_after, unless_refused}
+use Rattle.ll_verdict.specs.Waiting.{has_ticket, is_ready_at, reply_at, settled_in}
+use Rattle.ll_entry.specs.Entered.{event_of, fault_in, is_open_after, same_answer, settled_after, unless_refused}
 use Rattle.ll_entry.specs.declared.entry.Recorded.{Recorded}
 use Rattle.ll_entry.specs.declared.entry.Recorded.TheVariants as recorded
 use Rattle.ll_item.specs.Settings.{Configuration}
 use Rattle.ll_record_laws.proofs.ToldLemmas.{answered, both, same_answers, told-right}
 use Rattle.ll_record_laws.specs.Told.{entry_of}
 use Rattle.ll_room.proofs.KeptLemmas.{short-filter}
-use Rattle.ll_room.specs.Full.{full_by, is_full}
+use Rattle.ll_verdict.specs.Full.{full_by, is_full}
 use Rattle.ll_verdict.proofs.StateLemmas.{state-snoc}
 use Rattle.ll_verdict.specs.Accepted.{first_refusal, refusal}
 use Rattle.ll_verdict.specs.Events.{Event, Publish, Ask, Collect, Close, Clock, asks, items, later, steps_from, taken, time}

@@ -6,11 +6,11 @@ use Rattle.std.proofs.lemmas.Slice.Eq.{bytes_eq-Decides}
 use Rattle.std.specs.List.{All, flat_map}
 use Rattle.std.specs.Str.{is_utf8}
 use Rattle.ll_attr.specs.Words.{after, pieces_at}
-use Rattle.ll_check.specs.Chain.{Between, Chain, Inside, Place, begun, begun_at, chain_of, checked, checked_from, counted, ended_line, entry_at, go_on, joined, joined_by, known_by, place_in, start, text_in, with_line, wrong}
-use Rattle.ll_check.specs.Entered.{event_of, fault_in}
-use Rattle.ll_check.specs.declared.fault.CheckFault.{CheckFault}
-use Rattle.ll_check.specs.declared.fault.CheckKind.{CheckKind}
-use Rattle.ll_check.specs.declared.fault.CheckKind.TheVariants.{BadChunk, Gap, OtherChannel}
+use Rattle.ll_entry.specs.Chain.{Between, Chain, Inside, Place, begun, begun_at, chain_of, checked, checked_from, counted, ended_line, entry_at, go_on, joined, joined_by, known_by, place_in, start, text_in, with_line, wrong}
+use Rattle.ll_entry.specs.Entered.{event_of, fault_in}
+use Rattle.ll_entry.specs.declared.fault.CheckFault.{CheckFault}
+use Rattle.ll_entry.specs.declared.fault.CheckKind.{CheckKind}
+use Rattle.ll_entry.specs.declared.fault.CheckKind.TheVariants.{BadChunk, Gap, OtherChannel}
 use Rattle.ll_entry.specs.Entries.{entry_in}
 use Rattle.ll_entry.specs.Replies.{count, most}
 use Rattle.ll_entry.specs.declared.entry.EntryFault.{EntryFault}

@@ -3,7 +3,7 @@ use Rattle.std.specs.Prelude.{◌≡◌, ◌↔◌, ◌≤◌, ◌+◌, ℕ, Lis
 use Rattle.std.specs.List.{flat_map}
 use Rattle.std.specs.Str.{is_utf8}
 use Rattle.ll_attr.specs.Words.{pieces_at}
-use Rattle.ll_check.specs.Chain.{checked}
+use Rattle.ll_entry.specs.Chain.{checked}
 use Rattle.ll_entry.specs.Entries.{entry_in}
 use Rattle.ll_entry.specs.declared.entry.Recorded.{Recorded}
 use Rattle.ll_item.specs.Settings.{Configuration, settings_in}

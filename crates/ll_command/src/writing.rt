@@ -5,12 +5,13 @@ ghost use Rattle.ll_apply.specs.Texts.{applied_text};
 ghost use Rattle.ll_apply.specs.declared.fault.ApplyFault.{ApplyFault};
 ghost use Rattle.ll_apply.specs.declared.fault.ApplyFault.TheVariants as apply_fault;
 ghost use Rattle.ll_check.specs.Answer as spec;
-ghost use Rattle.ll_check.specs.Chain.{checked};
-ghost use Rattle.ll_check.specs.declared.fault.CheckFault as check_fault;
+ghost use Rattle.ll_entry.specs.Chain.{checked};
+ghost use Rattle.ll_entry.specs.declared.fault.CheckFault as check_fault;
 
 use crate::fault::Fault;
 use ll_apply::apply;
-use ll_check::{CheckFault, CheckKind, answer_line, check};
+use ll_check::{answer_line, check};
+use ll_entry::{CheckFault, CheckKind};
 use std::alloc::{AllocError, Global};
 use std::io::Write;
 

@@ -10,7 +10,7 @@ use Rattle.ll_held.specs.declared.owner.Owner.{Owner}
 use Rattle.ll_held.specs.declared.owner.Owner.TheVariants.{Get, Connection}
 use Rattle.ll_held.specs.declared.wait.Wait.{Wait}
 use Rattle.ll_item.specs.Settings.{Configuration}
-use Rattle.ll_room.specs.Full.{is_full}
+use Rattle.ll_verdict.specs.Full.{is_full}
 use Rattle.ll_room.specs.Home.{AreDistinct, among}
 use Rattle.ll_session.specs.Past.{overflows}
 use Rattle.ll_session.specs.Talk.{SessionValue, fed, fresh, next_want, pulled, replied}

@@ -1,2 +1,3 @@
 pub mod ReplyLaws
+pub mod ChainLemmas
 pub mod EntryLines

@@ -1,3 +1,5 @@
+pub mod Chain
+pub mod Entered
 pub mod Entries
 pub mod Laws
 pub mod Lines

@@ -1,6 +1,6 @@
 //! What lies under a channel's lock: the channel, and its shares of what was counted. Each method is one locked section.
 ghost use Rattle.std.specs.Prelude.{◌≡◌, ◌+◌, ◌++◌, ◌∷◌, [], List, IfErr, IfOk, IsTrue, MatchBool, OnErr, OnOk, filter, length};
-ghost use Rattle.ll_book.specs.Waiting as waiting;
+ghost use Rattle.ll_verdict.specs.Waiting as waiting;
 ghost use Rattle.ll_hub.specs.Counted.{IsLeftBy, IsUnaskedBy, IsUnpublishedBy};
 ghost use Rattle.ll_ledger.specs.Ledgers.{blank, with_ask, with_publish};
 ghost use Rattle.ll_locked.specs.Section as spec;

@@ -3,3 +3,4 @@ pub mod Items
 pub mod Names
 pub mod Settings
 pub mod Same
+pub mod Told

@@ -28,6 +28,11 @@ pub record Configuration : Type 0 where
 abbrev pub number_end : ℕ
 number_end = 2 ^ 60
 
+-- how long the segments and parts after a segment last at most while it stays in delta updates, in microseconds
+-- (section 4.4.3.8)
+abbrev pub skip_limit : Configuration → ℕ
+skip_limit c = c.skip * 1000000
+
 -- the first limit that a configuration breaks, or none
 abbrev pub limit_broken : Configuration → Option SettingsFault
 limit_broken c =

@@ -6,7 +6,7 @@ use Rattle.ll_attr.specs.YearEnd.{last_micro}
 use Rattle.ll_item.specs.Settings.{Configuration, IsWithin, number_end}
 use Rattle.ll_item.specs.declared.item.Item.{Item}
 use Rattle.ll_item.specs.declared.item.Item.TheVariants as item
-use Rattle.ll_window.specs.declared.part.Part.{Part}
+use Rattle.ll_item.specs.declared.part.Part.{Part}
 use Rattle.ll_window.specs.declared.place.Place.{Place}
 use Rattle.ll_window.specs.Compact.{Compact, compact}
 use Rattle.ll_window.specs.Refusal.{part_refusal, refusal_before_end}

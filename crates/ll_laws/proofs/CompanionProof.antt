@@ -2,12 +2,12 @@
 use Rattle.std.proofs.Common.{◌≡◌, ℕ, zero, suc, ◌+◌, ◌-◌, ◌*◌, ◌≤◌, List, ◌++◌, true, false, map, take, drop, length, ◌==◌, None, Ok, refl, ap, sym, ◌∙◌, arith}
 use Rattle.std.proofs.lemmas.List.Elements.{filter-append}
 use Rattle.ll_item.specs.Items.{rendition_of}
-use Rattle.ll_item.specs.Settings.{Configuration}
+use Rattle.ll_item.specs.Settings.{Configuration, skip_limit}
 use Rattle.ll_item.specs.declared.item.Item.{Item}
 use Rattle.ll_window.specs.Compact.{compact, all_rows, skip_count}
 use Rattle.ll_window.specs.Rows.{Row, rows}
 use Rattle.ll_window.specs.Segments.{own, segments, open_segment, duration}
-use Rattle.ll_window.specs.Window.{window_limit, skip_limit, near_limit, window, listed, skipped_in}
+use Rattle.ll_window.specs.Window.{window_limit, near_limit, window, listed, skipped_in}
 use Rattle.ll_page.specs.Playlist.{Playlist}
 use Rattle.ll_page.specs.Full.{printed, full_playlist, sequence_of}
 use Rattle.ll_page.specs.Delta.{update_of, delta_by}

@@ -7,11 +7,11 @@ use Rattle.ll_item.specs.Items.{rendition_of}
 use Rattle.ll_item.specs.Settings.{Configuration}
 use Rattle.ll_item.specs.declared.item.Item.{Item}
 use Rattle.ll_item.specs.declared.item.Item.TheVariants as item
-use Rattle.ll_window.specs.declared.part.Part.{Part}
+use Rattle.ll_item.specs.declared.part.Part.{Part}
 use Rattle.ll_window.specs.Refusal.{refusal, refusal_by, refusal_before_end}
 use Rattle.ll_window.specs.Rows.{rows}
-use Rattle.ll_window.specs.Segments.{own, parts, ended, Split, split, finished_by, unfinished_by, closed, segments, open_segment, duration, end_time}
-use Rattle.ll_window.specs.Told.{Told, start, step, told}
+use Rattle.ll_item.specs.Told.{end_time, Told, start, step, told}
+use Rattle.ll_window.specs.Segments.{own, parts, ended, Split, split, finished_by, unfinished_by, closed, segments, open_segment, duration}
 use Rattle.ll_window.specs.Window.{skipped_in}
 use Rattle.ll_window.proofs.StepLemmas.{duration-snoc}
 use Rattle.ll_laws.specs.Published.{AreAccepted}

@@ -1,7 +1,7 @@
 -- The map that is in force at a segment of a playlist is the segment's own, which its number names.
 use Rattle.std.proofs.Common.{◌≡◌, ℕ, suc, ◌+◌, List, [], ◌∷◌, ◌++◌, Bool, true, false, nat_le, nat_lt, cond, map, take, drop, Some, None, refl, ap, ◌∙◌, arith}
 use Rattle.std.proofs.lemmas.List.{take-append-drop}
-use Rattle.ll_window.specs.declared.part.Part.{Part}
+use Rattle.ll_item.specs.declared.part.Part.{Part}
 use Rattle.ll_window.specs.Rows.{Row, rows, one_if, is_broken, lasting}
 use Rattle.ll_window.specs.Segments.{duration}
 use Rattle.ll_window.specs.Window.{window, listed, shown_by}

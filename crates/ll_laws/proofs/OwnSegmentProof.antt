@@ -2,17 +2,18 @@
 use Rattle.std.proofs.Common.{◌≡◌, ℕ, zero, suc, ◌+◌, ◌*◌, ◌/◌, ◌≤◌, ◌<◌, List, [], ◌∷◌, ◌++◌, Bool, true, false, nat_lt, drop, length, append-nil, append_assoc, Option, Some, None, refl, ap, arith}
 use Rattle.std.proofs.lemmas.Bool.Decides.{nat_tests}
 use Rattle.std.proofs.lemmas.List.{length-drop}
-use Rattle.ll_item.specs.Settings.{Configuration}
+use Rattle.ll_item.specs.Settings.{Configuration, skip_limit}
 use Rattle.ll_item.specs.declared.item.Item.{Item}
 use Rattle.ll_item.specs.declared.item.Item.TheVariants as item
-use Rattle.ll_window.specs.declared.part.Part.{Part}
+use Rattle.ll_item.specs.declared.part.Part.{Part}
 use Rattle.ll_window.specs.declared.window.PushFault.{PushFault}
 use Rattle.ll_window.specs.Compact.{Compact, compact, skip_count}
 use Rattle.ll_window.specs.Refusal.{part_refusal, refusal, refusal_by, refusal_before_end}
 use Rattle.ll_window.specs.Rows.{Row, lasting}
-use Rattle.ll_window.specs.Segments.{own, segments, open_segment, duration, end_time, ended}
+use Rattle.ll_item.specs.Told.{end_time}
+use Rattle.ll_window.specs.Segments.{own, segments, open_segment, duration, ended}
 use Rattle.ll_window.specs.Step.{with_part_by, with_item, ended_by}
-use Rattle.ll_window.specs.Window.{skip_limit, skipped_in}
+use Rattle.ll_window.specs.Window.{skipped_in}
 use Rattle.ll_window.proofs.SkipLemmas.{skipped-none}
 use Rattle.ll_window.proofs.StepLemmas.{compact-snoc, duration-snoc}
 use Rattle.ll_page.specs.Playlist.{Skip}

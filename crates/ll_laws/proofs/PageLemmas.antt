@@ -8,7 +8,7 @@ use Rattle.ll_format.specs.Words.{duration_end}
 use Rattle.ll_item.specs.Names.{is_name, is_among, are_names}
 use Rattle.ll_item.specs.Settings.{Configuration}
 use Rattle.ll_item.specs.declared.item.Item.{Item}
-use Rattle.ll_window.specs.declared.part.Part.{Part}
+use Rattle.ll_item.specs.declared.part.Part.{Part}
 use Rattle.ll_window.specs.declared.place.Place.{Place}
 use Rattle.ll_window.specs.Compact.{Compact, compact, open_row}
 use Rattle.ll_window.specs.Rows.{Row, row}

@@ -10,8 +10,8 @@ use Rattle.ll_item.specs.Items.{rendition_of}
 use Rattle.ll_item.specs.Settings.{Configuration}
 use Rattle.ll_item.specs.declared.item.Item.{Item}
 use Rattle.ll_item.specs.declared.item.Item.TheVariants as item
-use Rattle.ll_window.specs.Segments.{own, end_time}
-use Rattle.ll_window.specs.Told.{Told, Listed, start, step, told}
+use Rattle.ll_item.specs.Told.{end_time, Told, Listed, start, step, told}
+use Rattle.ll_window.specs.Segments.{own}
 use Rattle.ll_range.specs.Announced as range
 use Rattle.ll_range.specs.Announced.{announced, is_listed, was_removed}
 use Rattle.ll_range.specs.Attributes.{is_id, are_allowed}

@@ -8,12 +8,12 @@ use Rattle.ll_format.specs.Format.{Where}
 use Rattle.ll_format.specs.Words.{duration_end}
 use Rattle.ll_line.specs.Formats.{largest_number, line}
 use Rattle.ll_line.specs.Line.{Skip, Report, First, Version, TargetDuration, PartTarget, MediaSequence, DiscontinuitySequence, DateRange, RenditionReport}
-use Rattle.ll_item.specs.Settings.{Configuration, IsWithin}
+use Rattle.ll_item.specs.Settings.{Configuration, IsWithin, skip_limit}
 use Rattle.ll_item.specs.declared.item.Item.{Item}
 use Rattle.ll_window.specs.Compact.{compact, unfinished, skip_count}
 use Rattle.ll_window.specs.Rows.{Row}
-use Rattle.ll_window.specs.Segments.{own, end_time}
-use Rattle.ll_window.specs.Window.{skip_limit}
+use Rattle.ll_item.specs.Told.{end_time}
+use Rattle.ll_window.specs.Segments.{own}
 use Rattle.ll_page.specs.declared.rendition.Rendition.{Rendition}
 use Rattle.ll_page.specs.Delta.{skip_of, delta_by}
 use Rattle.ll_page.specs.Full.{printed, open_of, sequence_of, hint_of, range_line, reports_from, reports_of, playlist_of}

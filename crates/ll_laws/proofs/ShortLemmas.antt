@@ -3,10 +3,11 @@ use Rattle.std.proofs.Common.{ℕ, ◌+◌, ◌*◌, ◌≤◌, List, [], ◌∷
 use Rattle.std.proofs.lemmas.List.{length-append}
 use Rattle.ll_item.specs.Settings.{Configuration}
 use Rattle.ll_item.specs.declared.item.Item.{Item}
-use Rattle.ll_window.specs.declared.part.Part.{Part}
+use Rattle.ll_item.specs.declared.part.Part.{Part}
 use Rattle.ll_window.specs.Compact.{compact, all_rows}
 use Rattle.ll_window.specs.Rows.{Row, rows, one_if, is_broken, lasting, broken_in}
-use Rattle.ll_window.specs.Segments.{Split, split, closed, finished_by, unfinished_by, parts, segments, open_segment, duration, end_time, ended}
+use Rattle.ll_item.specs.Told.{end_time}
+use Rattle.ll_window.specs.Segments.{Split, split, closed, finished_by, unfinished_by, parts, segments, open_segment, duration, ended}
 use Rattle.ll_window.specs.Window.{window_limit, near_limit, gone, window, listed, shown_by}
 use Rattle.ll_window.proofs.SuffixLemmas.{suffix}
 use Rattle.ll_window.proofs.WindowLemmas.{broken-cons, length_listed}

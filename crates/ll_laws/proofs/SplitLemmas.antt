@@ -2,7 +2,7 @@
 -- after it is skipped.
 use Rattle.std.proofs.Common.{◌≡◌, ℕ, ◌+◌, ◌≤◌, arith, List, [], ◌∷◌, ◌++◌, Bool, true, false, sum_by, refl, ap, sym, ◌∙◌}
 use Rattle.std.proofs.lemmas.List.Sums.{sum_by-append}
-use Rattle.ll_window.specs.declared.part.Part.{Part}
+use Rattle.ll_item.specs.declared.part.Part.{Part}
 use Rattle.ll_window.specs.Rows.{row, rows, one_if, is_broken, lasting}
 use Rattle.ll_window.specs.Segments.{Split, split, put_by, finished_by, unfinished_by, closed, duration}
 use Rattle.ll_window.specs.Window.{skipped_in}

@@ -1,9 +1,9 @@
 -- Laws of playlists and delta updates of what was published.
 use Rattle.std.specs.Prelude.{◌≡◌, ℕ, ◌+◌, ◌*◌, ◌≤◌, ◌<◌, List, [], ◌++◌, Some, Ok, length}
-use Rattle.ll_item.specs.Settings.{Configuration, IsWithin}
+use Rattle.ll_item.specs.Settings.{Configuration, IsWithin, skip_limit}
 use Rattle.ll_item.specs.declared.item.Item.{Item}
-use Rattle.ll_window.specs.Segments.{own, end_time}
-use Rattle.ll_window.specs.Window.{skip_limit}
+use Rattle.ll_item.specs.Told.{end_time}
+use Rattle.ll_window.specs.Segments.{own}
 use Rattle.ll_page.specs.Delta.{delta_playlist, delta_text}
 use Rattle.ll_page.specs.Full.{full_playlist, full_text}
 use Rattle.ll_page.specs.Playlist.{Skip}

@@ -5,7 +5,7 @@ use Rattle.ll_directive.specs.Targets.{WantValue}
 use Rattle.ll_item.specs.Settings.{Configuration}
 use Rattle.ll_item.specs.declared.item.Item.{Item}
 use Rattle.ll_record.specs.Recording.{IsRecorded, Recording, is_record_full, record_refusal}
-use Rattle.ll_room.specs.Full.{full_by, is_full, refusal_after}
+use Rattle.ll_verdict.specs.Full.{full_by, is_full, refusal_after}
 use Rattle.ll_room.specs.Home.{Home, IsSame, Stands}
 use Rattle.ll_verdict.specs.Accepted.{first_refusal, refusal}
 use Rattle.ll_verdict.specs.declared.fault.PublishFault.{PublishFault}

@@ -8,7 +8,7 @@ use Rattle.ll_record.specs.Recording.{IsRecorded, Recording, is_record_full, rec
 use Rattle.ll_record.specs.declared.fault.ReadingFault.{ReadingFault}
 use Rattle.ll_record.specs.declared.fault.ReadingFault.TheVariants as reading
 use Rattle.ll_room.specs.declared.fault.AskFault.TheVariants as unasked
-use Rattle.ll_room.specs.Full.{is_full, refusal_after}
+use Rattle.ll_verdict.specs.Full.{is_full, refusal_after}
 use Rattle.ll_verdict.specs.Events.{Event, asks, items, time}
 use Rattle.ll_verdict.specs.State.{open_requests, slot_of}
 use Rattle.ll_verdict.specs.Verdict as verdict

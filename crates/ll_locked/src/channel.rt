@@ -1,8 +1,8 @@
 //! What lies under a channel's lock. Each method is one locked section.
 ghost use Rattle.std.specs.Prelude.{◌≡◌, ◌+◌, ◌++◌, ◌∷◌, [], ℕ, List, IfErr, IfOk, MatchBool, None, Some, OnErr, OnOk, filter, length, position, if◌then◌else◌};
 ghost use Rattle.std.specs.Bool.{Decides};
-ghost use Rattle.ll_book.specs.Waiting as waiting;
-ghost use Rattle.ll_book.specs.Waiting.{found};
+ghost use Rattle.ll_verdict.specs.Waiting as waiting;
+ghost use Rattle.ll_verdict.specs.Waiting.{found};
 ghost use Rattle.ll_locked.specs.Channel.{is_of, parked_for, ticket_at};
 ghost use Rattle.ll_locked.specs.Section as spec;
 ghost use Rattle.ll_locked.specs.Told.{IsAccepted, IsAskRefused, IsHandedOut, IsReadingRefused, IsTotal, IsTotalOf};

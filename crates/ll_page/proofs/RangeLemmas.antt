@@ -2,7 +2,7 @@
 use Rattle.std.proofs.Common.{◌≡◌, ℕ, zero, suc, ◌+◌, List, [], ◌∷◌, ◌++◌, drop, map, Some, ap, sym, ◌∙◌, arith, append_assoc}
 use Rattle.std.proofs.lemmas.Option.{none-some, same_Some}
 use Rattle.std.specs.Prelude.{slice_get}
-use Rattle.ll_window.specs.Told.{Listed}
+use Rattle.ll_item.specs.Told.{Listed}
 use Rattle.ll_page.specs.Full.{range_line}
 use Rattle.ll_line.specs.Line.{DateRange}
 use Rattle.ll_line.specs.Text.{line_text, text_of}

@@ -1,14 +1,13 @@
 -- The full playlist of a rendition (sections 4.4 and 6.2.1).
 use Rattle.std.specs.Prelude.{ℕ, ◌+◌, ◌*◌, ◌/◌, ◌||◌, ◌==◌, List, [], ◌∷◌, ◌++◌, Bool, true, false, Option, Some, None, length, map}
 use Rattle.ll_time.specs.Times.{time_text}
-use Rattle.ll_item.specs.Settings.{Configuration}
+use Rattle.ll_item.specs.Settings.{Configuration, skip_limit}
 use Rattle.ll_item.specs.declared.item.Item.{Item}
-use Rattle.ll_window.specs.declared.part.Part.{Part}
+use Rattle.ll_item.specs.declared.part.Part.{Part}
 use Rattle.ll_window.specs.declared.place.Place.{Place}
 use Rattle.ll_window.specs.Compact.{Compact, unfinished}
 use Rattle.ll_window.specs.Rows.{Row}
-use Rattle.ll_window.specs.Window.{skip_limit}
-use Rattle.ll_window.specs.Told.{Listed}
+use Rattle.ll_item.specs.Told.{Listed}
 use Rattle.ll_range.specs.Announced.{Announced}
 use Rattle.ll_page.specs.declared.rendition.Rendition.{Rendition}
 use Rattle.ll_line.specs.Line.{DateRangeLine, PartLine, Report}

@@ -12,11 +12,11 @@ use crate::form::Form;
 use crate::skip_kind::SkipKind;
 use crate::view::View;
 use ll_attr::{Micros, Text};
-use ll_item::Settings;
+use ll_item::{Part, Settings};
 use ll_line::{Control, DateTime, Line, PartLine, Report, Skip, Uri, push_line};
 use ll_range::Ranges;
 use ll_time::UtcTime;
-use ll_window::{Part, Place, Segment, Window};
+use ll_window::{Place, Segment, Window};
 use std::alloc::{AllocError, Global};
 
 /// The text of the full Media Playlist of a view (section 4.4): the lines that tell of the channel, the date ranges in

@@ -3,7 +3,7 @@ use Rattle.std.proofs.Common.{◌≡◌, ℕ, List, [], ◌∷◌, map, refl, ap
 use Rattle.std.specs.List.{AllZip}
 use Rattle.std.specs.declared.string.String.{String}
 use Rattle.ll_range.specs.Announced.{Announced}
-use Rattle.ll_window.specs.Told.{Listed, Removal}
+use Rattle.ll_item.specs.Told.{Listed, Removal}
 use Rattle.ll_range.specs.Kept.{listed_at, removal_at}
 use Rattle.ll_range.specs.declared.ranges.Stored.{Stored}
 

@@ -8,7 +8,7 @@ use Rattle.std.specs.Option.{option_map, option_copied}
 use Rattle.std.specs.String.{string_eq}
 use Rattle.indexmap.specs.IndexMap.{IndexMap, insert_entry, shift_remove_entry}
 use Rattle.indexmap.proofs.CallerLemmas.{insert_entry-new}
-use Rattle.ll_window.specs.Told.{Listed, Removal, others, other_removals}
+use Rattle.ll_item.specs.Told.{Listed, Removal, others, other_removals}
 use Rattle.ll_range.specs.Announced.{Announced, is_recent_one, was_removed}
 use Rattle.ll_range.specs.Kept.{listed_at, removal_at}
 use Rattle.ll_range.specs.declared.ranges.Stored.{Stored}

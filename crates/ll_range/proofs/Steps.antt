@@ -5,12 +5,10 @@ use Rattle.std.proofs.lemmas.List.Elements.{filter-append}
 use Rattle.std.proofs.lemmas.List.Sums.{fold-append}
 use Rattle.ll_attr.specs.declared.attributes.Attribute.{Attribute}
 use Rattle.ll_item.specs.Items.{is_about_ranges}
-use Rattle.ll_item.specs.Settings.{Configuration}
+use Rattle.ll_item.specs.Settings.{Configuration, skip_limit}
 use Rattle.ll_item.specs.declared.item.Item.{Item}
 use Rattle.ll_item.specs.declared.item.Item.TheVariants as item
-use Rattle.ll_window.specs.Segments.{end_time}
-use Rattle.ll_window.specs.Told.{Removal, Told, other_removals, start, step, told}
-use Rattle.ll_window.specs.Window.{skip_limit}
+use Rattle.ll_item.specs.Told.{end_time, Removal, Told, other_removals, start, step, told}
 use Rattle.ll_range.specs.Announced.{Announced, is_recent, announced, add_refusal, remove_refusal}
 use Rattle.ll_range.specs.Kept.{with_range, without_range, at_time}
 

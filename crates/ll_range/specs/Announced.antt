@@ -3,12 +3,10 @@
 use Rattle.std.specs.Prelude.{ℕ, ◌+◌, List, Bool, false, ◌||◌, filter, nat_le, bytes_eq, Option, Some, None, if◌then◌else◌}
 use Rattle.std.specs.List.{list_any, find}
 use Rattle.ll_attr.specs.declared.attributes.Attribute.{Attribute}
-use Rattle.ll_item.specs.Settings.{Configuration}
+use Rattle.ll_item.specs.Settings.{Configuration, skip_limit}
 use Rattle.ll_item.specs.declared.item.Item.{Item}
 use Rattle.ll_item.specs.declared.item.Item.TheVariants as item
-use Rattle.ll_window.specs.Segments.{end_time}
-use Rattle.ll_window.specs.Told.{Listed, Removal, told}
-use Rattle.ll_window.specs.Window.{skip_limit}
+use Rattle.ll_item.specs.Told.{end_time, Listed, Removal, told}
 use Rattle.ll_range.specs.Attributes.{is_id, are_allowed}
 use Rattle.ll_range.specs.declared.ranges.RangeFault.{RangeFault}
 use Rattle.ll_range.specs.declared.ranges.RangeFault.TheVariants.{IdTaken, BadAttribute, IdUnknown}

@@ -3,7 +3,7 @@ use Rattle.std.specs.Prelude.{ℕ, ◌++◌, List, [], ◌∷◌, string_bytes}
 use Rattle.std.specs.declared.string.String.{String}
 use Rattle.ll_attr.specs.Attributes.{spelling}
 use Rattle.ll_attr.specs.declared.attributes.Attribute.{Attribute}
-use Rattle.ll_window.specs.Told.{Listed, Removal, others, other_removals}
+use Rattle.ll_item.specs.Told.{Listed, Removal, others, other_removals}
 use Rattle.ll_range.specs.Announced.{Announced, recent_at}
 use Rattle.ll_range.specs.declared.ranges.Stored.{Stored}
 

@@ -1,4 +1,4 @@
 pub mod Announced
 pub mod Attributes
 pub mod Kept
-pub use Rattle.ll_window.specs.Told
+pub use Rattle.ll_item.specs.Told

@@ -8,8 +8,7 @@ ghost use Rattle.ll_item.specs.declared.item.Item.TheVariants as item;
 ghost use Rattle.ll_range.specs.Announced as spec;
 ghost use Rattle.ll_range.specs.Announced.{announced, refusal, add_refusal, remove_refusal, is_listed, was_removed};
 ghost use Rattle.ll_range.specs.Kept.{listed_at, removal_at, with_range, without_range, at_time};
-ghost use Rattle.ll_window.specs.Segments.{end_time};
-ghost use Rattle.ll_window.specs.Told.{Listed, others, other_removals};
+ghost use Rattle.ll_item.specs.Told.{end_time, Listed, others, other_removals};
 
 use crate::attributes::{are_allowed, is_id};
 use crate::ranges::{RangeFault, Ranges, Stored};

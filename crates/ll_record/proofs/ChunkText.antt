@@ -3,7 +3,7 @@ use Rattle.std.proofs.Common.{◌≡◌, ℕ, ◌≤◌, ◌^◌, List, ◌++◌
 use Rattle.std.proofs.lemmas.List.{length-take-le}
 use Rattle.std.specs.Str.{is_utf8}
 use Rattle.ll_attr.specs.Words.{pieces_at}
-use Rattle.ll_check.specs.Chain.{Between, checked_from}
+use Rattle.ll_entry.specs.Chain.{Between, checked_from}
 use Rattle.ll_entry.specs.Replies.{most}
 use Rattle.ll_item.specs.Settings.{Configuration, limit_broken}
 use Rattle.ll_record_laws.proofs.ChunkProof.{chunk}

@@ -6,7 +6,7 @@ use Rattle.std.proofs.lemmas.List.Folds.{list_all-append}
 use Rattle.std.specs.List.{flat_map, list_all}
 use Rattle.std.specs.Option.{option_map_or}
 use Rattle.std.specs.Str.{is_utf8}
-use Rattle.ll_check.specs.Entered.{event_of, fault_in}
+use Rattle.ll_entry.specs.Entered.{event_of, fault_in}
 use Rattle.ll_entry.proofs.EntryLines.{read_again}
 use Rattle.ll_entry.specs.Laws.{EntryLaw}
 use Rattle.ll_entry.specs.Lines.{IsSpelled, entry_line}

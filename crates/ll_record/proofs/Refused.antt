@@ -3,7 +3,8 @@ use Rattle.std.proofs.Common.{◌≡◌, ℕ, ◌<◌, ◌≤◌, List, true, fa
 use Rattle.std.proofs.lemmas.Bool.Decides.{nat_tests}
 use Rattle.ll_item.specs.declared.item.Item.{Item}
 use Rattle.ll_room.proofs.AcceptLemmas.{refusal-told}
-use Rattle.ll_room.specs.Full.{full_by, refusal_after, refusal_by}
+use Rattle.ll_verdict.specs.Full.{full_by, refusal_after}
+use Rattle.ll_room.specs.Full.{refusal_by}
 use Rattle.ll_verdict.specs.Accepted.{first_refusal}
 use Rattle.ll_verdict.specs.Events.{Event}
 use Rattle.ll_verdict.specs.declared.fault.PublishFault.{PublishFault}

@@ -2,15 +2,15 @@
 use Rattle.std.proofs.Common.{◌≡◌, ℕ, ◌+◌, ◌≤◌, ◌^◌, ◌==◌, ◌&&◌, List, Bool, true, false, not, cond, Option, Some, None, is_some, option_map, refl, ap, ap₂, ◌∙◌, sym, true≢false, length, nat_le, arith}
 use Rattle.std.proofs.lemmas.Bool.Decides.{nat_tests}
 use Rattle.std.specs.List.{list_any}
-use Rattle.ll_book.specs.Waiting.{has_ticket, reply_at}
-use Rattle.ll_check.specs.Entered.{fault_in, is_open_after, same_answer, settled_after, unless_refused}
+use Rattle.ll_verdict.specs.Waiting.{has_ticket, reply_at}
+use Rattle.ll_entry.specs.Entered.{fault_in, is_open_after, same_answer, settled_after, unless_refused}
 use Rattle.ll_directive.specs.Targets.{WantValue}
 use Rattle.ll_entry.specs.declared.entry.Recorded.TheVariants as recorded
 use Rattle.ll_item.specs.Settings.{Configuration}
 use Rattle.ll_item.specs.declared.item.Item.{Item}
-use Rattle.ll_room.proofs.SettleLemmas.{open-ready}
+use Rattle.ll_verdict.proofs.WaitingLemmas.{open-ready}
 use Rattle.ll_room.specs.Answers as room
-use Rattle.ll_room.specs.Full.{is_full, refusal_after}
+use Rattle.ll_verdict.specs.Full.{is_full, refusal_after}
 use Rattle.ll_room.specs.Home.{Home, Stands}
 use Rattle.ll_room.specs.Mark.{Mark}
 use Rattle.ll_room.specs.Ticket.{Ticket}

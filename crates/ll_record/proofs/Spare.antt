@@ -2,7 +2,7 @@
 use Rattle.std.proofs.Common.{◌≡◌, ℕ, ◌+◌, ◌*◌, ◌≤◌, ◌==◌, ◌||◌, List, [], ◌∷◌, ◌++◌, Bool, true, false, not, cond, ap, refl, ◌∙◌, sym, subst, true≢false, length, map, arith}
 use Rattle.std.proofs.lemmas.List.{length-append, length-map}
 use Rattle.std.specs.List.{list_any}
-use Rattle.ll_book.specs.Waiting.{has_ticket, ticket_in}
+use Rattle.ll_verdict.specs.Waiting.{has_ticket, ticket_in}
 use Rattle.ll_room.specs.Answers.{is_open, new_tickets}
 use Rattle.ll_room.specs.Home.{Home, among, less, tickets}
 use Rattle.ll_room.specs.declared.asked.Asked.{Asked}

@@ -1,7 +1,7 @@
 -- Each call, from what its parts tell.
 use Rattle.std.proofs.Common.{◌≡◌, ℕ, ◌+◌, ◌*◌, ◌≤◌, ◌^◌, List, [], ◌∷◌, ◌++◌, None, true, false, Option, ap, ◌∙◌, sym, subst, length, option_map}
 use Rattle.std.specs.Str.{is_utf8}
-use Rattle.ll_check.specs.Entered.{event_of, fault_in}
+use Rattle.ll_entry.specs.Entered.{event_of, fault_in}
 use Rattle.ll_directive.specs.Targets.{WantValue}
 use Rattle.ll_entry.specs.Lines.{IsSpelled, entry_line}
 use Rattle.ll_entry.specs.declared.entry.Recorded.{Recorded}
@@ -11,7 +11,8 @@ use Rattle.ll_item.specs.declared.item.Item.{Item}
 use Rattle.ll_record_laws.proofs.WritableProof.{item-writable}
 use Rattle.ll_room.proofs.AcceptLemmas.{refusal-told}
 use Rattle.ll_room.specs.Answers as room
-use Rattle.ll_room.specs.Full.{is_full, refusal_by}
+use Rattle.ll_verdict.specs.Full.{is_full}
+use Rattle.ll_room.specs.Full.{refusal_by}
 use Rattle.ll_room.specs.Home.{Home, Stands, home}
 use Rattle.ll_room.specs.Mark.{Mark}
 use Rattle.ll_room.specs.Ticket.{Ticket}

@@ -1,7 +1,7 @@
 -- A record that was handed out.
 use Rattle.std.specs.Prelude.{◌≡◌, ◌+◌, ℕ, List, [], ◌++◌, take}
 use Rattle.ll_attr.specs.Words.{pieces_at}
-use Rattle.ll_check.specs.Chain.{Between, Chain, chain_of, checked_from}
+use Rattle.ll_entry.specs.Chain.{Between, Chain, chain_of, checked_from}
 use Rattle.ll_record_laws.specs.Leads.{IsOf, chunk_text}
 use Rattle.ll_verdict.specs.Events.{Event}
 use Rattle.ll_record.specs.Recording.{Recording}

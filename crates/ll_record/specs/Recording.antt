@@ -6,7 +6,7 @@ use Rattle.ll_item.specs.Settings.{Configuration}
 use Rattle.ll_item.specs.declared.item.Item.{Item}
 use Rattle.ll_record_laws.specs.Leads.{IsLed}
 use Rattle.ll_record_laws.specs.Told.{can_happen, line_of}
-use Rattle.ll_room.specs.Full.{full_by, refusal_after}
+use Rattle.ll_verdict.specs.Full.{full_by, refusal_after}
 use Rattle.ll_room.specs.Home.{Home, IsSame, Stands}
 use Rattle.ll_verdict.specs.Accepted.{first_refusal}
 use Rattle.ll_verdict.specs.Events.{Event, Publish, Ask, Collect, Close, Clock, steps}

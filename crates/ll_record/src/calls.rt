@@ -7,7 +7,7 @@ ghost use Rattle.ll_item.specs.Settings.{Configuration};
 ghost use Rattle.ll_record.specs.Kept.{spare};
 ghost use Rattle.ll_record.specs.Recording.{GoesOn, IsRecorded, is_record_full, of_channel, record_refusal};
 ghost use Rattle.ll_room.specs.Answers.{asked, new_tickets, others};
-ghost use Rattle.ll_room.specs.Full.{event_end, is_full};
+ghost use Rattle.ll_verdict.specs.Full.{event_end, is_full};
 ghost use Rattle.ll_room.specs.Home.{tickets};
 ghost use Rattle.ll_room.specs.declared.stamped.Stamp.TheVariants as stamp;
 ghost use Rattle.ll_spelling.specs.Lines.{HasAttributes};

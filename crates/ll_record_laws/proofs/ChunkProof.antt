@@ -13,10 +13,10 @@ use Rattle.ll_format.proofs.FormatLaws.{key_again}
 use Rattle.ll_format.proofs.WordLaws.{number-laws}
 use Rattle.ll_format.specs.Format.{◌>>=◌}
 use Rattle.ll_format.specs.Words.{is_one_line}
-use Rattle.ll_check.proofs.ChunkLemmas.{header-is, three}
-use Rattle.ll_check.specs.Chain.{Between, Chain, begun, begun_at, checked_from, known_by, place_in, text_in}
-use Rattle.ll_check.specs.declared.fault.CheckKind.{CheckKind}
-use Rattle.ll_check.specs.declared.fault.CheckKind.TheVariants.{Gap, OtherChannel}
+use Rattle.ll_entry.proofs.ChainLemmas.{header-is, three}
+use Rattle.ll_entry.specs.Chain.{Between, Chain, begun, begun_at, checked_from, known_by, place_in, text_in}
+use Rattle.ll_entry.specs.declared.fault.CheckKind.{CheckKind}
+use Rattle.ll_entry.specs.declared.fault.CheckKind.TheVariants.{Gap, OtherChannel}
 use Rattle.ll_entry.specs.Replies.{count, most}
 use Rattle.ll_item.proofs.SameLemmas.{settings_decided}
 use Rattle.ll_item.specs.Same.{same_settings}

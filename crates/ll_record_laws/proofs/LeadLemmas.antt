@@ -7,10 +7,10 @@ use Rattle.std.proofs.lemmas.List.Splits.{slice_split_at}
 use Rattle.std.specs.List.{AllByRecursion, list_all}
 use Rattle.std.specs.Str.{is_utf8}
 use Rattle.ll_attr.specs.Words.{pieces_at}
-use Rattle.ll_check.proofs.ChunkLemmas.{ended-parts}
-use Rattle.ll_check.specs.Chain.{Between, Chain, Inside, chain_of, checked_from, entry_at, go_on, joined, joined_by, with_line}
-use Rattle.ll_check.specs.Entered.{event_of, fault_in}
-use Rattle.ll_check.specs.declared.fault.CheckFault.{CheckFault}
+use Rattle.ll_entry.proofs.ChainLemmas.{ended-parts}
+use Rattle.ll_entry.specs.Chain.{Between, Chain, Inside, chain_of, checked_from, entry_at, go_on, joined, joined_by, with_line}
+use Rattle.ll_entry.specs.Entered.{event_of, fault_in}
+use Rattle.ll_entry.specs.declared.fault.CheckFault.{CheckFault}
 use Rattle.ll_entry.specs.Entries.{entry_in}
 use Rattle.ll_entry.specs.Lines.{entry_line}
 use Rattle.ll_entry.specs.declared.entry.Recorded.{Recorded}

@@ -3,14 +3,14 @@ use Rattle.std.proofs.Common.{◌≡◌, ℕ, ◌+◌, ◌^◌, ◌==◌, ◌&&�
 use Rattle.std.proofs.lemmas.Bool.{and_parts, not-true}
 use Rattle.std.proofs.lemmas.Bool.Decides.{nat_tests}
 use Rattle.std.specs.List.{list_any}
-use Rattle.ll_book.specs.Waiting.{has_ticket, reply_at}
-use Rattle.ll_check.specs.Entered.{event_of, fault_in, is_open_after, same_answer, same_outcome, settled_after, unless_refused, where_it_can}
+use Rattle.ll_verdict.specs.Waiting.{has_ticket, reply_at}
+use Rattle.ll_entry.specs.Entered.{event_of, fault_in, is_open_after, same_answer, same_outcome, settled_after, unless_refused, where_it_can}
 use Rattle.ll_directive.specs.Targets.{WantValue}
 use Rattle.ll_entry.specs.declared.entry.Recorded.{Recorded}
 use Rattle.ll_entry.specs.declared.entry.Recorded.TheVariants as recorded
 use Rattle.ll_item.specs.Settings.{Configuration}
-use Rattle.ll_room.proofs.SettleLemmas.{open-ready}
-use Rattle.ll_room.specs.Full.{is_full, refusal_after}
+use Rattle.ll_verdict.proofs.WaitingLemmas.{open-ready}
+use Rattle.ll_verdict.specs.Full.{is_full, refusal_after}
 use Rattle.ll_verdict.specs.Events.{Event, Publish, Ask, Collect, Close, Clock, asks, steps_from}
 use Rattle.ll_verdict.specs.Outcome.{outcome_of}
 use Rattle.ll_verdict.specs.State.{open_requests, slot_of, state_of}

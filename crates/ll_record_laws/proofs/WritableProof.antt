@@ -9,7 +9,8 @@ use Rattle.ll_range.specs.Announced.{announced}
 use Rattle.ll_spelling.specs.Lines.{HasAttributes, IsWritable}
 use Rattle.ll_verdict.specs.Events.{Event, items}
 use Rattle.ll_window.specs.Refusal.{part_refusal, refusal_before_end, refusal_by}
-use Rattle.ll_window.specs.Segments.{end_time, ended, own}
+use Rattle.ll_item.specs.Told.{end_time}
+use Rattle.ll_window.specs.Segments.{ended, own}
 use Rattle.ll_window.specs.declared.window.PushFault.{PushFault}
 use Rattle.ll_record_laws.specs.Writable.{ItemWritableLaw}
 use Rattle.ll_record_laws.proofs.AcceptedItems.{IsTaken, added, is-taken, removed}

@@ -2,8 +2,8 @@
 use Rattle.std.specs.Prelude.{◌≡◌, ℕ, ◌≤◌, List, [], ◌∷◌, ◌++◌, true, false, Option, Some, None, Ok, length, bytes_eq, codes, decimal}
 use Rattle.std.specs.Str.{is_utf8}
 use Rattle.ll_attr.specs.Words.{pieces_at}
-use Rattle.ll_check.specs.Chain.{Between, Chain, Inside, chain_of, checked_from, with_line}
-use Rattle.ll_check.specs.Entered.{event_of, fault_in}
+use Rattle.ll_entry.specs.Chain.{Between, Chain, Inside, chain_of, checked_from, with_line}
+use Rattle.ll_entry.specs.Entered.{event_of, fault_in}
 use Rattle.ll_entry.specs.Laws.{EntryLaw}
 use Rattle.ll_entry.specs.Lines.{IsSpelled, entry_line}
 use Rattle.ll_entry.specs.Replies.{most}

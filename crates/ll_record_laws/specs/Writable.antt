@@ -2,7 +2,7 @@
 use Rattle.std.specs.Prelude.{◌≡◌, List, None}
 use Rattle.ll_item.specs.Settings.{Configuration, limit_broken}
 use Rattle.ll_item.specs.declared.item.Item.{Item}
-use Rattle.ll_room.specs.Full.{refusal_after}
+use Rattle.ll_verdict.specs.Full.{refusal_after}
 use Rattle.ll_spelling.specs.Lines.{HasAttributes, IsWritable}
 use Rattle.ll_verdict.specs.Events.{Event}
 

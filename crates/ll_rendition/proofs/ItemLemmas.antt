@@ -10,7 +10,7 @@ use Rattle.ll_range.specs.Announced as range
 use Rattle.ll_range.specs.Announced.{Announced, announced}
 use Rattle.ll_window.specs.Compact.{Compact, compact}
 use Rattle.ll_window.specs.Refusal as window
-use Rattle.ll_window.specs.Segments.{end_time}
+use Rattle.ll_item.specs.Told.{end_time}
 use Rattle.ll_window.proofs.StepLemmas.{refusal_told, silent}
 use Rattle.ll_verdict.specs.Accepted.{first_refusal, of_push, of_range, rendition_refusal}
 use Rattle.ll_rendition.specs.Refusal.{refusal_of}

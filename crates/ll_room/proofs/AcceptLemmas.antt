@@ -25,7 +25,8 @@ use Rattle.ll_rendition.specs.Refusal.{refusal_of}
 use Rattle.ll_rendition.specs.Releases.{first_release, second_release}
 use Rattle.ll_rendition.proofs.ItemLemmas.{its_refusal}
 use Rattle.ll_room.specs.Freed.{GoOn, freed_slots, releases_at, with_item}
-use Rattle.ll_room.specs.Full.{full_by, is_full, refusal_after, refusal_at, refusal_by}
+use Rattle.ll_verdict.specs.Full.{full_by, is_full, refusal_after}
+use Rattle.ll_room.specs.Full.{refusal_at, refusal_by}
 use Rattle.ll_room.specs.Home.{Home, Stands, home}
 use Rattle.ll_room.proofs.FreedLemmas.{each_freed}
 use Rattle.ll_room.proofs.IdleLemmas.{idle}

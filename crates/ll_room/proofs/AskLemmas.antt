@@ -12,7 +12,7 @@ use Rattle.ll_page.proofs.RenditionLemmas.{rendition-got}
 use Rattle.ll_window.specs.Compact.{Compact, compact}
 use Rattle.ll_window.specs.Segments.{own, ended}
 use Rattle.std.proofs.lemmas.List.{map-append}
-use Rattle.ll_book.specs.Waiting.{AreBelow, ticket_in}
+use Rattle.ll_verdict.specs.Waiting.{AreBelow, ticket_in}
 use Rattle.ll_verdict.specs.Events.{Event, Ask, items, time}
 use Rattle.ll_verdict.specs.State.{State, state_of, settle, stays, slot_by, answer_of, next, waiting_in}
 use Rattle.ll_verdict.specs.Verdict.{at_once, held, is_there, page_of, wanted_of, waiting_limit}

@@ -10,7 +10,7 @@ use Rattle.ll_directive.specs.declared.want.Awaited.{Awaited}
 use Rattle.ll_directive.specs.declared.want.Awaited.TheVariants.{Nothing, Segment, Part}
 use Rattle.ll_page.specs.Page.{Paged}
 use Rattle.ll_page.proofs.RenditionLemmas.{own-same, own-other}
-use Rattle.ll_window.specs.declared.part.Part as part
+use Rattle.ll_item.specs.declared.part.Part as part
 use Rattle.ll_window.specs.Compact.{Compact, compact}
 use Rattle.ll_window.specs.Segments.{own, ended}
 use Rattle.ll_window.specs.Step.{ended_by, with_item}

@@ -4,7 +4,7 @@ use Rattle.std.specs.List.{list_any}
 use Rattle.ll_page.specs.Page.{Moment}
 use Rattle.ll_verdict.specs.declared.entry.Slot.{Slot}
 use Rattle.ll_book.specs.Release.{expired, is_over, over_if}
-use Rattle.ll_book.specs.Waiting.{AreBelow, without, has_ticket, ticket_in}
+use Rattle.ll_verdict.specs.Waiting.{AreBelow, without, has_ticket, ticket_in}
 use Rattle.ll_room.specs.Home.{Home, less}
 use Rattle.ll_room.specs.Kept.{IsKept, with_answer}
 use Rattle.std.proofs.lemmas.Bool.Decides.{nat_tests}
@@ -13,7 +13,7 @@ use Rattle.ll_page.specs.View.{renditions}
 use Rattle.ll_page.proofs.RenditionLemmas.{length-renditions}
 use Rattle.ll_page.specs.declared.rendition.Rendition.{Rendition}
 use Rattle.ll_verdict.specs.declared.entry.Entry.{Entry}
-use Rattle.ll_room.specs.Full.{event_end}
+use Rattle.ll_verdict.specs.Full.{event_end}
 
 -- ---- when requests come
 

@@ -19,14 +19,15 @@ use Rattle.ll_verdict.specs.State.{is_waiting}
 use Rattle.ll_verdict.specs.declared.entry.Slot.{Slot}
 use Rattle.ll_book.specs.Pages.{PagesOf}
 use Rattle.ll_book.specs.Release.{AreThose, Held, given_if, holder, holders_of, part_comes, released, segment_comes, takes}
-use Rattle.ll_book.specs.Waiting.{AreBelow, ticket_in}
+use Rattle.ll_verdict.specs.Waiting.{AreBelow, ticket_in}
 use Rattle.ll_book.specs.declared.release.Release.{Release}
 use Rattle.ll_book.specs.declared.release.Release.TheVariants as release
 use Rattle.ll_book.proofs.Holding.{release-law}
 use Rattle.ll_rendition.specs.Releases.{HasHolders, HasThose, released_with, takes_any}
 use Rattle.ll_room.specs.Coming.{IsComing, changed, pages}
 use Rattle.ll_room.specs.Freed.{AreApart, GoOn, freed, freed_slots, new_pages, releases, releases_at, with_item}
-use Rattle.ll_room.specs.Full.{event_end, refusal_at}
+use Rattle.ll_verdict.specs.Full.{event_end}
+use Rattle.ll_room.specs.Full.{refusal_at}
 use Rattle.ll_room.specs.Home.{Home}
 use Rattle.ll_room.specs.Kept.{IsCurrent, IsKept}
 use Rattle.ll_room.specs.declared.publish.Coming.{Coming}

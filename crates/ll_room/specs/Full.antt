@@ -1,32 +1,14 @@
--- How many events a channel takes, and the first rule that refuses an item.
-use Rattle.std.specs.Prelude.{ℕ, ◌^◌, List, Bool, Option, Some, None, length, nat_le, slice_get, if◌then◌else◌}
+-- The first rule that refuses an item, by what is kept.
+use Rattle.std.specs.Prelude.{Option, Some, None, slice_get}
 use Rattle.ll_item.specs.Items.{rendition_of}
-use Rattle.ll_item.specs.Settings.{Configuration}
 use Rattle.ll_item.specs.declared.item.Item.{Item}
 use Rattle.ll_page.specs.declared.rendition.Rendition.{Rendition}
-use Rattle.ll_verdict.specs.Accepted.{first_refusal, refusal}
-use Rattle.ll_verdict.specs.Events.{Event, items}
+use Rattle.ll_verdict.specs.Accepted.{first_refusal}
+use Rattle.ll_verdict.specs.Full.{full_by, is_full}
 use Rattle.ll_verdict.specs.declared.fault.PublishFault.{PublishFault}
-use Rattle.ll_verdict.specs.declared.fault.PublishFault.TheVariants.{NoRendition, RecordFull}
+use Rattle.ll_verdict.specs.declared.fault.PublishFault.TheVariants.{NoRendition}
 use Rattle.ll_rendition.specs.Refusal.{refusal_of}
 use Rattle.ll_room.specs.Home.{Home}
-
--- a channel takes so many events; after that requests are still collected and closed, and nothing else happens
-abbrev pub event_end : ℕ
-event_end = 2 ^ 60
-
--- whether a channel has taken as many events as it takes
-abbrev pub is_full : ℕ → Bool
-is_full events = nat_le event_end events
-
-abbrev pub full_by : Bool → Option PublishFault
-full_by full = if full then Some RecordFull else None
-
--- the first rule that refuses an item after these events of its channel, or none; that the channel is full comes last
-abbrev pub refusal_after : Configuration → List Event → Item → Option PublishFault
-refusal_after c events item = first_refusal (refusal c (items c events) item) (full_by (is_full (length events)))
-
--- the same, told by what is kept
 
 abbrev pub refusal_at : Option Rendition → Item → Option PublishFault
 refusal_at None item = Some NoRendition

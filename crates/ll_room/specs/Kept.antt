@@ -1,7 +1,7 @@
 -- For private contracts: what a room keeps true of itself.
 use Rattle.std.specs.Prelude.{◌≡◌, ◌≤◌, ◌+◌, ◌*◌, ◌^◌, ◌++◌, [], ◌∷◌, Option, Some, None, length}
 use Rattle.ll_page.specs.Page.{Moment, Paged, seen_of}
-use Rattle.ll_book.specs.Waiting.{AreBelow}
+use Rattle.ll_verdict.specs.Waiting.{AreBelow}
 use Rattle.ll_verdict.specs.declared.wanted.Wanted.{Wanted}
 use Rattle.ll_room.specs.Home.{Home}
 

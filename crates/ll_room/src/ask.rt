@@ -7,7 +7,7 @@ ghost use Rattle.ll_verdict.specs.State.{waiting_in};
 ghost use Rattle.ll_verdict.specs.Verdict.{at_once, held, waiting_limit, wanted_of};
 ghost use Rattle.ll_verdict.specs.Verdict as verdict;
 ghost use Rattle.ll_room.specs.Answers.{asked, new_tickets, others};
-ghost use Rattle.ll_room.specs.Full.{event_end};
+ghost use Rattle.ll_verdict.specs.Full.{event_end};
 ghost use Rattle.ll_room.specs.Home.{IsSame, Stands, tickets};
 ghost use Rattle.ll_room.specs.Kept.{page_now, with_answer, with_held};
 

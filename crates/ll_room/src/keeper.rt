@@ -1,11 +1,11 @@
 //! A room whose requests are known by their numbers alone.
 ghost use Rattle.std.specs.Prelude.{◌≡◌, ◌≢◌, ◌+◌, ◌<◌, ◌≤◌, ◌^◌, ◌++◌, ◌∷◌, [], List, IfOk, IfErr, IsErrOf, OnErr, OnOk, None, Some, is_some, option_map, false, true};
-ghost use Rattle.ll_book.specs.Waiting.{reply_at};
+ghost use Rattle.ll_verdict.specs.Waiting.{reply_at};
 ghost use Rattle.ll_verdict.specs.Events.{Event, Ask, Clock, Close, Collect, Publish};
 ghost use Rattle.ll_verdict.specs.State.{state_of};
 ghost use Rattle.ll_verdict.specs.Verdict.{at_once, held};
 ghost use Rattle.ll_room.specs.Answers.{asked, collected_at, is_open, now_in};
-ghost use Rattle.ll_room.specs.Full.{event_end, refusal_after};
+ghost use Rattle.ll_verdict.specs.Full.{event_end, refusal_after};
 ghost use Rattle.ll_room.specs.Home.{Stands, home};
 ghost use Rattle.ll_room.specs.declared.stamped.Stamp.TheVariants as stamp;
 

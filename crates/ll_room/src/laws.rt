@@ -1,6 +1,6 @@
 //! Facts of the definitions, proved; none of these does anything.
 ghost use Rattle.std.specs.Prelude.{◌≡◌, false, true};
-ghost use Rattle.ll_room.specs.Full.{is_full};
+ghost use Rattle.ll_verdict.specs.Full.{is_full};
 
 /// A channel that has taken 2^60 events is full; one that has taken one less is not.
 pub fn event_limit_law()

@@ -7,7 +7,8 @@ ghost use Rattle.ll_verdict.specs.Events.{Event, Publish};
 ghost use Rattle.ll_room.specs.Freed.{AreApart, GoOn, with_item};
 ghost use Rattle.ll_room.specs.Coming.{IsComing, changed};
 ghost use Rattle.ll_room.specs.Freed as spec;
-ghost use Rattle.ll_room.specs.Full.{event_end, refusal_after, refusal_at, refusal_by};
+ghost use Rattle.ll_verdict.specs.Full.{event_end, refusal_after};
+ghost use Rattle.ll_room.specs.Full.{refusal_at, refusal_by};
 ghost use Rattle.ll_room.specs.Home.{IsSame, Stands, tickets};
 ghost use Rattle.ll_room.specs.declared.stamped.Stamp.TheVariants as stamp;
 

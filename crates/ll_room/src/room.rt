@@ -1,10 +1,10 @@
 //! What a room keeps of its channel, and what it tells of it.
 ghost use Rattle.std.specs.Prelude.{◌≡◌, ◌≤◌, ◌^◌, ◌++◌, [], IfOk, filter, find, length, option_map};
 ghost use Rattle.ll_page.specs.View as view;
-ghost use Rattle.ll_book.specs.Waiting as waiting;
+ghost use Rattle.ll_verdict.specs.Waiting as waiting;
 ghost use Rattle.ll_verdict.specs.State.{state_of};
 ghost use Rattle.ll_room.specs.Answers.{is_open};
-ghost use Rattle.ll_room.specs.Full.{is_full};
+ghost use Rattle.ll_verdict.specs.Full.{is_full};
 ghost use Rattle.ll_room.specs.Home.{home};
 ghost use Rattle.ll_room.specs.Kept.{moment};
 

@@ -2,7 +2,7 @@
 ghost use Rattle.std.specs.Prelude.{◌≡◌, ◌≢◌, ◌≤◌, ◌<◌, ◌^◌, ◌++◌, ◌∷◌, [], List, true, false, IsErrOf, OnOk, OnErr, Some, None};
 ghost use Rattle.ll_verdict.specs.Events.{Event, Collect, Close, Clock};
 ghost use Rattle.ll_room.specs.Answers as answers;
-ghost use Rattle.ll_room.specs.Full.{event_end};
+ghost use Rattle.ll_verdict.specs.Full.{event_end};
 ghost use Rattle.ll_room.specs.Home.{IsSame, Stands, less, tickets};
 
 use crate::asked::{Closed, Collected};

@@ -12,7 +12,7 @@ use Rattle.ll_held.specs.declared.owner.Owner.{Owner}
 use Rattle.ll_held.specs.declared.owner.Owner.TheVariants.{Get, Connection}
 use Rattle.ll_held.specs.declared.wait.Wait.{Wait}
 use Rattle.ll_item.specs.Settings.{Configuration}
-use Rattle.ll_room.specs.Full.{is_full}
+use Rattle.ll_verdict.specs.Full.{is_full}
 use Rattle.ll_verdict.specs.Events.{Event, Publish, Ask, Collect, Close, Clock, asks, counted}
 use Rattle.ll_verdict.specs.Verdict.{Request, at_once, held, reply, reply_of, wanted_of}
 use Rattle.ll_verdict.specs.declared.reply.Reply.{Reply}

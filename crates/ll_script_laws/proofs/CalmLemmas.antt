@@ -3,7 +3,7 @@ use Rattle.std.proofs.Common.{◌≡◌, ℕ, ◌+◌, ◌*◌, ◌≤◌, ◌==
 use Rattle.std.specs.List.{list_any}
 use Rattle.std.proofs.lemmas.Bool.Decides.{nat_tests}
 use Rattle.std.proofs.lemmas.List.Elements.{filter-append}
-use Rattle.ll_book.specs.Waiting.{first_ready, is_ready, is_ready_at, settled_in, ticket_in}
+use Rattle.ll_verdict.specs.Waiting.{first_ready, is_ready, is_ready_at, settled_in, ticket_in}
 use Rattle.ll_item.specs.Settings.{Configuration}
 use Rattle.ll_item.specs.declared.item.Item.{Item}
 use Rattle.ll_page.specs.Page.{Paged}

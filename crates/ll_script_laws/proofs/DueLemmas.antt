@@ -12,7 +12,7 @@ use Rattle.ll_held.specs.declared.wait.Wait.{Wait}
 use Rattle.ll_script.specs.declared.act.Act.{Act}
 use Rattle.ll_script.specs.declared.act.Act.TheVariants.{Declare, Offer, Refuse, Ask, Answer, Close, Clock, RefuseClock, Bytes, Drop}
 use Rattle.ll_verdict.specs.Events.{Collect, asks}
-use Rattle.ll_verdict.specs.Verdict.{Request, reply, reply_of}
+use Rattle.ll_verdict.specs.Verdict.{Request, reply, reply_of, at_once, held}
 use Rattle.ll_verdict.specs.declared.reply.Reply.{Reply}
 use Rattle.ll_verdict.specs.declared.reply.Settled.{Settled}
 use Rattle.ll_world.specs.World as rooms
@@ -20,15 +20,13 @@ use Rattle.ll_world.specs.World.{Channel, World, all_settings, first_due, happen
 use Rattle.ll_world.specs.declared.answer.Answer as answer
 use Rattle.ll_world.specs.declared.answer.Answer.TheVariants as said
 use Rattle.ll_world.proofs.TieLemmas.{none_some, same_test, some_is}
-use Rattle.ll_world.proofs.WaitLemmas.{IsOpen, ask-open, clock-open, close-open, declare-open, due_waits, offer-open, opens, tick-open}
+use Rattle.ll_world.proofs.WaitLemmas.{IsOpen, ask-open, clock-open, close-open, declare-open, due_waits, offer-open, opens, tick-open, due_told, once_each}
 use Rattle.ll_replay.specs.Script.{Script, Ending, act, done, heard, line, passed_on, start, tick, turned}
 use Rattle.ll_directive.specs.Targets.{WantValue}
 use Rattle.ll_item.specs.declared.item.Item.{Item}
-use Rattle.ll_room.specs.Full.{is_full, refusal_after}
+use Rattle.ll_verdict.specs.Full.{is_full, refusal_after}
 use Rattle.ll_room.specs.declared.fault.ClockFault.{ClockFault}
-use Rattle.ll_verdict.specs.Verdict.{at_once, held}
 use Rattle.ll_verdict.specs.declared.fault.PublishFault.{PublishFault}
-use Rattle.ll_world.proofs.WaitLemmas.{due_told, once_each}
 use Rattle.ll_script_laws.proofs.ScriptLemmas.{acts-keep, done-keeps, lines-keep, ticks-keep}
 use Rattle.ll_script_laws.specs.Laws.{DueLaw, FindsAsker, IsThere, WaitsLaw, moment, open_tickets}
 

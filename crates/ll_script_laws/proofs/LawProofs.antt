@@ -4,7 +4,7 @@ use Rattle.std.proofs.lemmas.List.Sums.{fold-append}
 use Rattle.ll_apply.specs.Texts.{applied_text}
 use Rattle.ll_attr.specs.declared.attributes.Attribute.{Attribute}
 use Rattle.ll_item.specs.Items.{rendition_of}
-use Rattle.ll_item.specs.Settings.{Configuration}
+use Rattle.ll_item.specs.Settings.{Configuration, skip_limit}
 use Rattle.ll_item.specs.declared.item.Item.{Item}
 use Rattle.ll_item.specs.declared.item.Item.TheVariants as item
 use Rattle.ll_laws.specs.Published.{ArePublished, HasTexts}
@@ -22,8 +22,8 @@ use Rattle.ll_verdict.specs.declared.fault.PublishFault.{PublishFault}
 use Rattle.ll_verdict.specs.declared.fault.PublishFault.TheVariants as fault
 use Rattle.ll_verdict.proofs.ListLemmas.{Each}
 use Rattle.ll_window.specs.Refusal as window
-use Rattle.ll_window.specs.Segments.{end_time, own}
-use Rattle.ll_window.specs.Window.{skip_limit}
+use Rattle.ll_item.specs.Told.{end_time}
+use Rattle.ll_window.specs.Segments.{own}
 use Rattle.ll_script_laws.specs.Laws.{PlayersLaw, PublishedLaw}
 use Rattle.ll_script_laws.proofs.ChannelLemmas.{IsHeard, channel-kept}
 use Rattle.ll_script_laws.proofs.ItemTexts.{IsRead}

@@ -1,6 +1,6 @@
 -- After each act, and so after each line, no reply is due: all were told.
 use Rattle.std.proofs.Common.{◌≡◌, ℕ, zero, suc, ◌+◌, ◌≤◌, ◌==◌, ◌||◌, List, [], ◌∷◌, ◌++◌, Bool, true, false, cond, Option, Some, None, is_some, refl, ap, sym, ◌∙◌, subst, filter, fold, length, map, nat_lt, slice_get, slice_set, arith, if◌then◌else◌}
-use Rattle.ll_book.specs.Waiting.{is_ready, ticket_in}
+use Rattle.ll_verdict.specs.Waiting.{is_ready, ticket_in}
 use Rattle.ll_connection.proofs.RoomsLaws.{bytes-keeps, end-keeps, reply-keeps}
 use Rattle.ll_directive.specs.Targets.{WantValue}
 use Rattle.ll_held.specs.declared.owner.Owner.{Owner}
@@ -8,7 +8,7 @@ use Rattle.ll_held.specs.declared.owner.Owner.TheVariants.{Get, Connection}
 use Rattle.ll_held.specs.declared.wait.Wait.{Wait}
 use Rattle.ll_item.specs.Settings.{Configuration}
 use Rattle.ll_item.specs.declared.item.Item.{Item}
-use Rattle.ll_room.specs.Full.{refusal_after}
+use Rattle.ll_verdict.specs.Full.{refusal_after}
 use Rattle.ll_room.specs.declared.fault.ClockFault.{ClockFault}
 use Rattle.ll_room.proofs.KeptLemmas.{short-filter}
 use Rattle.ll_script.specs.Lines.{acts}

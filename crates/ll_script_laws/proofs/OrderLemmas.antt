@@ -1,6 +1,6 @@
 -- The open requests of a channel stand in the order of their numbers.
 use Rattle.std.proofs.Common.{◌≡◌, ℕ, zero, suc, ◌<◌, ◌≤◌, List, [], ◌∷◌, Bool, true, false, cond, Some, ap, sym, ◌∙◌, refl, subst, true≢false, find, option_map, slice_get, arith}
-use Rattle.ll_book.specs.Waiting.{IsRising, is_ready, ticket_in}
+use Rattle.ll_verdict.specs.Waiting.{IsRising, is_ready, ticket_in}
 use Rattle.ll_verdict.specs.State.{state_of}
 use Rattle.ll_verdict.specs.declared.entry.Slot.{Slot}
 use Rattle.ll_world.proofs.TieLemmas.{none_some, some_is}

@@ -1,11 +1,11 @@
 -- Laws of what a script comes to: of its channels, and of the texts that their requests get.
 use Rattle.std.specs.Prelude.{◌≡◌, ℕ, ◌+◌, ◌≤◌, ◌<◌, List, [], ◌∷◌, ◌++◌, Option, Some, None, Ok, true, is_some, fold, length, map, slice_get}
 use Rattle.std.specs.Str.Lines.{lines}
-use Rattle.ll_item.specs.Settings.{Configuration, IsWithin}
-use Rattle.ll_book.specs.Waiting.{IsRising, first_ready, is_ready, ticket_in}
+use Rattle.ll_item.specs.Settings.{Configuration, IsWithin, skip_limit}
+use Rattle.ll_verdict.specs.Waiting.{IsRising, first_ready, is_ready, ticket_in}
 use Rattle.ll_directive.specs.Targets.{WantValue}
-use Rattle.ll_window.specs.Segments.{own, end_time}
-use Rattle.ll_window.specs.Window.{skip_limit}
+use Rattle.ll_item.specs.Told.{end_time}
+use Rattle.ll_window.specs.Segments.{own}
 use Rattle.ll_page.specs.Page.{Paged, page_text}
 use Rattle.ll_page.specs.View.{seen}
 use Rattle.ll_page.specs.declared.form.Form.{Form}

@@ -5,7 +5,7 @@ use Rattle.ll_item.specs.Settings.{Configuration}
 use Rattle.ll_channels.specs.Channels.{channel_of_name}
 use Rattle.ll_directive.specs.Targets.{WantValue}
 use Rattle.ll_directive.specs.declared.fault.TargetFault.TheVariants.{NotFound}
-use Rattle.ll_room.specs.Full.{is_full}
+use Rattle.ll_verdict.specs.Full.{is_full}
 use Rattle.ll_session.specs.Requests.{Entry, Wanted, Refused, Faulty}
 use Rattle.ll_verdict.specs.Events.{Event, Ask, asks}
 use Rattle.ll_verdict.specs.Verdict.{at_once, held, reply, reply_of, wanted_of}

@@ -3,3 +3,4 @@ pub mod ListLemmas
 pub mod NewerLemmas
 pub mod StateLemmas
 pub mod StepLemmas
+pub mod WaitingLemmas

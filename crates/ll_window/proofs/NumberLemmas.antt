@@ -1,6 +1,6 @@
 -- Parts numbered one by one have the numbers of their segments and their places in them.
 use Rattle.std.proofs.Common.{◌≡◌, ℕ, ◌+◌, List, [], ◌∷◌, ◌++◌, Bool, true, false, refl, ap, sym, ◌∙◌, cond, length, append-nil, arith, Some}
-use Rattle.ll_window.specs.declared.part.Part.{Part}
+use Rattle.ll_item.specs.declared.part.Part.{Part}
 use Rattle.ll_window.specs.declared.place.Place.{Place}
 use Rattle.ll_window.specs.Numbers.{NumberedPart, numbered_parts, placed, placed_rows, number_after, last_place, NumbersLaw}
 use Rattle.ll_window.specs.Rows.{rows, one_if, is_broken}

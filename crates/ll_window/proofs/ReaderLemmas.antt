@@ -5,15 +5,15 @@ use Rattle.std.specs.Option.{option_copied}
 use Rattle.std.specs.Slice.{IsItemAt}
 use Rattle.std.proofs.lemmas.Option.{slice_get_past, slice_get_read}
 use Rattle.ll_window.specs.declared.segment.Segment.{Segment}
-use Rattle.ll_window.specs.declared.part.Part.{Part}
-use Rattle.ll_item.specs.Settings.{Configuration}
+use Rattle.ll_item.specs.declared.part.Part.{Part}
+use Rattle.ll_item.specs.Settings.{Configuration, skip_limit}
 use Rattle.ll_window.specs.declared.finished.Finished.{Finished}
 use Rattle.ll_window.specs.declared.progress.Progress.{Progress}
 use Rattle.ll_window.specs.Compact.{Compact, skip_count}
 use Rattle.ll_window.specs.Kept.{AreTimed, IsKept}
 use Rattle.ll_window.specs.Rows.{Row, lasting}
 use Rattle.ll_window.specs.Segments.{duration}
-use Rattle.ll_window.specs.Window.{near_limit, skip_limit, shown_by, listed, skipped_in, segment_at, parts_at}
+use Rattle.ll_window.specs.Window.{near_limit, shown_by, listed, skipped_in, segment_at, parts_at}
 use Rattle.ll_window.proofs.KeptLemmas.{kept}
 use Rattle.ll_window.proofs.SkipLemmas.{skipped-listed}
 

@@ -1,6 +1,6 @@
 -- Parts in segments, one more part at the end: what a part does at the end is what it does at the start, segment by segment.
 use Rattle.std.proofs.Common.{◌≡◌, List, [], ◌∷◌, ◌++◌, Bool, true, false, refl, ap, ◌∙◌}
-use Rattle.ll_window.specs.declared.part.Part.{Part}
+use Rattle.ll_item.specs.declared.part.Part.{Part}
 use Rattle.ll_window.specs.Segments.{Split, split, put_by}
 
 -- one more part, which finishes a segment or doesn't

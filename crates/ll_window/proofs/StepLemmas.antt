@@ -5,7 +5,7 @@ use Rattle.ll_item.specs.Items.{is_about_ranges}
 use Rattle.ll_item.specs.Settings.{Configuration}
 use Rattle.ll_item.specs.declared.item.Item.{Item}
 use Rattle.ll_item.specs.declared.item.Item.TheVariants as item
-use Rattle.ll_window.specs.declared.part.Part.{Part}
+use Rattle.ll_item.specs.declared.part.Part.{Part}
 use Rattle.ll_window.specs.declared.window.PushFault.{PushFault}
 use Rattle.ll_window.specs.declared.place.Place.{Place}
 use Rattle.ll_window.specs.Numbers.{numbered_parts, last_place}
@@ -14,7 +14,7 @@ use Rattle.ll_window.specs.Rows.{Row, row, rows, one_if, is_broken, lasting, bro
 use Rattle.ll_window.specs.Segments.{Split, split, finished_by, unfinished_by, ended, duration}
 use Rattle.ll_window.specs.Step.{with_item, with_open, with_part_by, after_segment, with_end, next_place}
 use Rattle.ll_window.specs.Refusal.{refusal, refusal_before_end, refusal_by, refusal_going_on, refusal_after}
-use Rattle.ll_window.specs.Told.{Told, start, step, told}
+use Rattle.ll_item.specs.Told.{Told, start, step, told}
 use Rattle.ll_window.specs.Window.{window_limit, near_limit, gone, window, listed}
 use Rattle.ll_window.proofs.NumberLemmas.{last-snoc}
 use Rattle.ll_window.proofs.SplitLemmas.{added_by, split-snoc}

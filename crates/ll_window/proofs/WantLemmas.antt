@@ -8,13 +8,13 @@ use Rattle.ll_item.specs.Items.{is_about_ranges}
 use Rattle.ll_item.specs.Settings.{Configuration}
 use Rattle.ll_item.specs.declared.item.Item.{Item}
 use Rattle.ll_item.specs.declared.item.Item.TheVariants as item
-use Rattle.ll_window.specs.declared.part.Part.{Part}
+use Rattle.ll_item.specs.declared.part.Part.{Part}
 use Rattle.ll_window.specs.declared.place.Place.{Place}
 use Rattle.ll_window.specs.Compact.{Compact, compact}
 use Rattle.ll_window.specs.Numbers.{NumberedPart, numbered_parts, last_place, placed}
 use Rattle.ll_window.specs.Rows.{Row, rows, one_if, is_broken}
 use Rattle.ll_window.specs.Segments.{Split, split, closed, finished_by, unfinished_by, segments, duration}
-use Rattle.ll_window.specs.Told.{Told, start, step, told}
+use Rattle.ll_item.specs.Told.{Told, start, step, told}
 use Rattle.ll_window.specs.Wants.{place_of, reaches, holds_part, holds_segment, WantsLaw}
 use Rattle.ll_window.proofs.NumberLemmas.{laid, by_places, laid-by}
 use Rattle.ll_window.proofs.SplitLemmas.{added_by, split-snoc}

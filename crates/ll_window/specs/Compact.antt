@@ -1,15 +1,15 @@
 -- What of all items of a rendition is still needed.
 use Rattle.std.specs.Prelude.{◌≡◌, ℕ, ◌+◌, ◌*◌, List, [], ◌∷◌, ◌++◌, Bool, true, Option, Some, None, length}
 use Rattle.ll_item.specs.Items.{is_about_ranges}
-use Rattle.ll_item.specs.Settings.{Configuration}
+use Rattle.ll_item.specs.Settings.{Configuration, skip_limit}
 use Rattle.ll_item.specs.declared.item.Item.{Item}
-use Rattle.ll_window.specs.declared.part.Part.{Part}
+use Rattle.ll_item.specs.declared.part.Part.{Part}
 use Rattle.ll_window.specs.declared.place.Place.{Place}
 use Rattle.ll_window.specs.Numbers.{numbered_parts, last_place}
 use Rattle.ll_window.specs.Rows.{Row, row, rows, lasting, broken_in}
-use Rattle.ll_window.specs.Segments.{parts, segments, open_segment, duration, end_time, ended}
-use Rattle.ll_window.specs.Told.{told}
-use Rattle.ll_window.specs.Window.{window_limit, skip_limit, near_limit, gone, window, listed, skipped_in}
+use Rattle.ll_item.specs.Told.{end_time, told}
+use Rattle.ll_window.specs.Segments.{parts, segments, open_segment, duration, ended}
+use Rattle.ll_window.specs.Window.{window_limit, near_limit, gone, window, listed, skipped_in}
 
 pub record Compact : Type 0 where
   pub settings : Configuration

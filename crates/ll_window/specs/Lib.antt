@@ -5,7 +5,6 @@ pub mod Refusal
 pub mod Rows
 pub mod Segments
 pub mod Step
-pub mod Told
 pub mod Wants
 pub mod Window
 pub use Rattle.ll_item.specs.Items

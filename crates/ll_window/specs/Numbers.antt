@@ -1,6 +1,6 @@
 -- Media sequence numbers and part indexes of all parts, one part after another (section 4.4.4.9).
 use Rattle.std.specs.Prelude.{◌≡◌, ℕ, ◌+◌, List, [], ◌∷◌, ◌++◌, Bool, Option, Some, None, if◌then◌else◌}
-use Rattle.ll_window.specs.declared.part.Part.{Part}
+use Rattle.ll_item.specs.declared.part.Part.{Part}
 use Rattle.ll_window.specs.declared.place.Place.{Place}
 use Rattle.ll_window.specs.Rows.{Row, rows}
 use Rattle.ll_window.specs.Segments.{split, finished_by, unfinished_by}

@@ -4,11 +4,12 @@ use Rattle.ll_attr.specs.YearEnd.{last_micro}
 use Rattle.ll_item.specs.Settings.{Configuration, number_end}
 use Rattle.ll_item.specs.declared.item.Item.{Item}
 use Rattle.ll_item.specs.declared.item.Item.TheVariants as item
-use Rattle.ll_window.specs.declared.part.Part.{Part}
+use Rattle.ll_item.specs.declared.part.Part.{Part}
 use Rattle.ll_window.specs.declared.window.PushFault.{PushFault}
 use Rattle.ll_window.specs.declared.window.PushFault.TheVariants.{Ended, BadDuration, TooLong, OpenSegment, CountEnd, TimeEnd}
 use Rattle.ll_window.specs.Compact.{Compact}
-use Rattle.ll_window.specs.Segments.{segments, open_segment, duration, end_time, ended}
+use Rattle.ll_item.specs.Told.{end_time}
+use Rattle.ll_window.specs.Segments.{segments, open_segment, duration, ended}
 
 -- microseconds as the nearest whole seconds, half upwards
 abbrev pub rounded : ℕ → ℕ

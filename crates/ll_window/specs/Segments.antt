@@ -2,8 +2,8 @@
 use Rattle.std.specs.Prelude.{ℕ, List, [], ◌∷◌, ◌++◌, Bool, true, false, ◌==◌, filter, sum_by}
 use Rattle.ll_item.specs.Items.{rendition_of}
 use Rattle.ll_item.specs.declared.item.Item.{Item}
-use Rattle.ll_window.specs.declared.part.Part.{Part}
-use Rattle.ll_window.specs.Told.{told}
+use Rattle.ll_item.specs.declared.part.Part.{Part}
+use Rattle.ll_item.specs.Told.{told}
 
 -- the items of the rendition with this index
 abbrev pub own : ℕ → List Item → List Item
@@ -16,10 +16,6 @@ parts items = (told items).parts
 -- whether the rendition has ended
 abbrev pub ended : List Item → Bool
 ended items = (told items).ended
-
--- how long all parts last, in microseconds
-abbrev pub end_time : List Item → ℕ
-end_time items = (told items).end_time
 
 -- segments that have a finishing part, and the parts after the last of them
 pub record Split : Type 0 where

@@ -2,7 +2,7 @@
 use Rattle.std.specs.Prelude.{◌≡◌, ℕ, ◌+◌, ◌*◌, ◌≤◌, ◌<◌, List, [], ◌∷◌, ◌++◌, Bool, true, false, Option, Some, None, length, nat_le, nat_lt, if◌then◌else◌, slice_get}
 use Rattle.std.specs.Option.{option_map}
 use Rattle.ll_item.specs.Settings.{Configuration}
-use Rattle.ll_window.specs.declared.part.Part.{Part}
+use Rattle.ll_item.specs.declared.part.Part.{Part}
 use Rattle.ll_window.specs.declared.segment.Segment.{Segment}
 use Rattle.ll_window.specs.Rows.{Row, one_if, lasting}
 
@@ -29,11 +29,6 @@ pub record IsShortestSuffix (least : ℕ) (rs : List Row) : Type 0 where
 
 abbrev pub WindowLaw : Type 0
 WindowLaw = (least : ℕ) (rs : List Row) → IsShortestSuffix least rs
-
--- how long the segments and parts after a segment last at most while it stays in delta updates, in microseconds
--- (section 4.4.3.8)
-abbrev pub skip_limit : Configuration → ℕ
-skip_limit c = c.skip * 1000000
 
 -- three target durations, in microseconds
 abbrev pub near_limit : Configuration → ℕ

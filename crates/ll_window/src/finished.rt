@@ -6,9 +6,9 @@ ghost use Rattle.ll_window.specs.Rows as spec;
 ghost use Rattle.ll_window.specs.Segments.{duration};
 ghost use Rattle.ll_window.specs.Window.{window, gone, skipped_in};
 
-use crate::part::Part;
 use crate::progress::Progress;
 use crate::segment::Segment;
+use ll_item::Part;
 use std::alloc::{AllocError, Global};
 use std::collections::VecDeque;
 use std::marker::Model;

@@ -4,7 +4,6 @@
 
 mod finished;
 mod laws;
-mod part;
 mod place;
 mod progress;
 mod segment;
@@ -12,7 +11,6 @@ mod wants;
 mod window;
 
 pub use laws::{numbers_law, ranges_law, wants_law, window_law};
-pub use part::Part;
 pub use place::Place;
 pub use segment::Segment;
 pub use window::{PushFault, Window};

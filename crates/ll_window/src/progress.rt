@@ -6,9 +6,9 @@ ghost use Rattle.ll_window.specs.Rows as spec;
 ghost use Rattle.ll_window.specs.Kept.{grown};
 ghost use Rattle.ll_window.specs.Kept as kept;
 
-use crate::part::Part;
 use crate::place::Place;
 use crate::segment::Segment;
+use ll_item::Part;
 
 /// How many segments are finished and broken, when the open one begins, and how long all parts last.
 #[derive(Clone, Copy, Debug)]

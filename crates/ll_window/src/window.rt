@@ -11,11 +11,10 @@ ghost use Rattle.ll_window.specs.Step as step;
 ghost use Rattle.ll_window.specs.Window.{near_limit, segment_at, parts_at};
 
 use crate::finished::Finished;
-use crate::part::Part;
 use crate::place::Place;
 use crate::progress::Progress;
 use crate::segment::Segment;
-use ll_item::{Item, Settings};
+use ll_item::{Item, Part, Settings};
 use std::alloc::{AllocError, Global};
 use std::marker::Model;
 use thiserror::Error;

@@ -4,7 +4,7 @@ use Rattle.std.proofs.lemmas.Bool.Decides.{nat_tests}
 use Rattle.std.proofs.lemmas.List.Elements.{filter-append}
 use Rattle.std.proofs.lemmas.List.Sums.{sum_by-append, sum_by-set}
 use Rattle.std.proofs.lemmas.Option.{get_or_from_slice_get, slice_get_within}
-use Rattle.ll_book.specs.Waiting.{first_ready, reply_at, ticket_in}
+use Rattle.ll_verdict.specs.Waiting.{first_ready, reply_at, ticket_in}
 use Rattle.ll_directive.specs.Targets.{WantValue}
 use Rattle.ll_item.specs.Settings.{Configuration}
 use Rattle.ll_item.specs.declared.item.Item.{Item}
@@ -15,7 +15,7 @@ use Rattle.ll_verdict.specs.declared.fault.PublishFault.{PublishFault}
 use Rattle.ll_verdict.specs.declared.reply.Reply.{Reply}
 use Rattle.ll_verdict.specs.declared.reply.Settled.{Settled}
 use Rattle.ll_room.specs.Answers as room
-use Rattle.ll_room.specs.Full.{event_end, is_full, refusal_after}
+use Rattle.ll_verdict.specs.Full.{event_end, is_full, refusal_after}
 use Rattle.ll_room.specs.Home.{Home, IsSame, Stands, home, tickets}
 use Rattle.ll_room.specs.Mark.{Mark}
 use Rattle.ll_room.specs.Ticket.{Ticket}

@@ -3,7 +3,7 @@ use Rattle.std.proofs.Common.{◌≡◌, ℕ, ◌<◌, ◌≤◌, ◌^◌, ◌==
 use Rattle.std.specs.Set.{remove_key}
 use Rattle.std.proofs.lemmas.Bool.Decides.{nat_tests}
 use Rattle.std.proofs.lemmas.Option.{slice_get_within}
-use Rattle.ll_book.specs.Waiting.{first_ready}
+use Rattle.ll_verdict.specs.Waiting.{first_ready}
 use Rattle.ll_verdict.specs.Events.{Ask, Collect, Close}
 use Rattle.ll_directive.specs.Targets.{WantValue}
 use Rattle.ll_verdict.specs.declared.reply.Reply.{Reply}
@@ -12,7 +12,7 @@ use Rattle.ll_room.specs.Home.{Home, IsSame, less, tickets}
 use Rattle.ll_room.specs.Mark.{Mark}
 use Rattle.ll_room.specs.Ticket.{Ticket}
 use Rattle.ll_room.specs.declared.asked.Asked.TheVariants.{Held}
-use Rattle.ll_room.specs.Full.{event_end}
+use Rattle.ll_verdict.specs.Full.{event_end}
 use Rattle.ll_room.specs.declared.asked.Collected.TheVariants.{Got}
 use Rattle.ll_room.specs.declared.fault.ClockFault.{ClockFault}
 use Rattle.ll_room.specs.declared.fault.ClockFault.TheVariants.{ClockRange, RecordFull}

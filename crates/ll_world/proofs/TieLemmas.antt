@@ -2,7 +2,7 @@
 use Rattle.std.proofs.Common.{◌≡◌, ℕ, zero, suc, ◌==◌, ◌&&◌, ◌||◌, List, [], ◌∷◌, ◌++◌, Bool, true, false, not, cond, if◌then◌else◌, Option, Some, None, is_none, is_some, refl, ap, ◌∙◌, sym, subst, true≢false, filter, map, slice_get, slice_set, arith}
 use Rattle.std.specs.List.{list_any}
 use Rattle.std.proofs.lemmas.Bool.Decides.{nat_tests}
-use Rattle.ll_book.specs.Waiting.{has_ticket, ticket_in}
+use Rattle.ll_verdict.specs.Waiting.{has_ticket, ticket_in}
 use Rattle.ll_verdict.specs.declared.entry.Slot.{Slot}
 use Rattle.ll_room.specs.Answers.{is_open}
 use Rattle.ll_room.proofs.TicketLemmas.{absent, distinct_less, distinct_more, newest_is_new}

@@ -3,7 +3,7 @@ use Rattle.std.proofs.Common.{◌≡◌, ℕ, zero, suc, ◌+◌, ◌<◌, ◌�
 use Rattle.std.specs.List.{list_any}
 use Rattle.std.proofs.lemmas.Bool.Decides.{nat_tests}
 use Rattle.std.proofs.lemmas.List.{map-append}
-use Rattle.ll_book.specs.Waiting.{AreBelow, IsRising, reply_at, ticket_in}
+use Rattle.ll_verdict.specs.Waiting.{AreBelow, IsRising, reply_at, ticket_in}
 use Rattle.ll_book.proofs.Rising.{rising-filter, rising-park}
 use Rattle.ll_book.proofs.Taking.{alone}
 use Rattle.ll_directive.specs.Targets.{WantValue}
@@ -19,11 +19,12 @@ use Rattle.ll_verdict.specs.declared.reply.Settled.{Settled}
 use Rattle.ll_verdict.specs.declared.wanted.Wanted.{Wanted}
 use Rattle.ll_verdict.proofs.StateLemmas.{at_once-is, state-snoc}
 use Rattle.ll_verdict.proofs.StepLemmas.{along}
-use Rattle.ll_room.specs.Full.{is_full, refusal_after}
+use Rattle.ll_verdict.specs.Full.{is_full, refusal_after}
 use Rattle.ll_room.specs.Home.{AreDistinct, among, less}
 use Rattle.ll_room.specs.declared.fault.ClockFault.{ClockFault}
 use Rattle.ll_room.proofs.KeptLemmas.{below-filter, below-more}
-use Rattle.ll_room.proofs.SettleLemmas.{fewer, open-ready}
+use Rattle.ll_verdict.proofs.WaitingLemmas.{open-ready}
+use Rattle.ll_room.proofs.SettleLemmas.{fewer}
 use Rattle.ll_room.proofs.StandLemmas.{all_stay}
 use Rattle.ll_held.specs.Waits.{under, wait_of, without}
 use Rattle.ll_held.specs.declared.owner.Owner.{Owner}

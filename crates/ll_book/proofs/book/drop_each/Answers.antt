@@ -1,6 +1,6 @@
 use Rattle.std.proofs.Common.{rules, ◌≡◌, ◌∙◌, ap, length, arith}
 use Rattle.std.proofs.lemmas.Fn.{filter_same}
-use Rattle.ll_book.specs.Waiting.{without}
+use Rattle.ll_verdict.specs.Waiting.{without}
 use Rattle.ll_book.proofs.Taking.{dropped}
 use Rattle.ll_book.proofs.book.drop_each.Goals as goal
 

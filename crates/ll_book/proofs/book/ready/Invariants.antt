@@ -1,5 +1,5 @@
 use Rattle.std.proofs.Common.{◌≡◌, ◌+◌, ◌≤◌, drop, filter, length}
-use Rattle.ll_book.specs.Waiting.{is_ready}
+use Rattle.ll_verdict.specs.Waiting.{is_ready}
 use Rattle.ll_book.proofs.book.ready.Given as goal
 
 abbrev pub invariant-loop-slot : goal.invariant-loop-slot

@@ -1,7 +1,7 @@
 -- Bytes that are read to their end from the start come to what is counted then.
 use Rattle.std.proofs.Common.{◌≡◌, true}
 use Rattle.ll_attr.specs.Words.{pieces_at}
-use Rattle.ll_check.specs.Chain.{Between, checked, checked_from, not_before, start}
+use Rattle.ll_entry.specs.Chain.{Between, checked, checked_from, not_before, start}
 use Rattle.ll_check.proofs.LaterLemmas.{wants-none}
 use Rattle.ll_check.proofs.ChunkLemmas.{where-err, where-ok, whole}
 use Rattle.ll_check.proofs.checker.check.Goals as goal

@@ -1,5 +1,5 @@
 -- Three lines with an end each, and what they tell.
-use Rattle.ll_check.proofs.ChunkLemmas.{header-is, three}
+use Rattle.ll_entry.proofs.ChainLemmas.{header-is, three}
 use Rattle.ll_check.proofs.chunk.header_of.Goals as goal
 
 pub returns-in-Some-clause-header : goal.returns-in-Some-clause-header

@@ -1,7 +1,7 @@
 -- Each line comes to what the definition says of it, whatever the events before.
 use Rattle.std.proofs.Common.{arith, sym}
 use Rattle.ll_attr.specs.Words.{pieces_at}
-use Rattle.ll_check.specs.Chain.{Inside, chain_of, checked_from}
+use Rattle.ll_entry.specs.Chain.{Inside, chain_of, checked_from}
 use Rattle.ll_check.proofs.LaterLemmas.{later-as}
 use Rattle.ll_check.proofs.ChunkLemmas.{after-line, wrong-line}
 use Rattle.ll_check.proofs.chunk.read_entries.Goals as goal

@@ -1,10 +1,9 @@
 -- What is read is spelled so, by where the point stands.
-use Rattle.std.proofs.Common.{sym, arith}
+use Rattle.std.proofs.Common.{sym, arith, ◌∙◌}
 use Rattle.std.proofs.lemmas.Slice.Eq.{bytes_eq-Decides}
 use Rattle.ll_format.proofs.Durations.{duration_some, duration_none, duration_uncut}
 use Rattle.ll_format.proofs.value.duration.Goals as goal
 use Rattle.ll_format.proofs.value.duration.Goals.{else-eq-via-then-eq+else-fraction-eq6, else-eq-via-else-eq}
-use Rattle.std.proofs.Common.{◌∙◌}
 
 pub returns-in_err-whole : goal.returns-in_err-whole
 returns-in_err-whole c =

@@ -2,7 +2,7 @@
 use Rattle.std.proofs.Common.{◌≡◌, ◌++◌, [], ◌∷◌, map, ap, sym, subst, ◌∙◌}
 use Rattle.std.specs.Result.{OnOk}
 use Rattle.indexmap.specs.IndexMap.{shift_remove_entry}
-use Rattle.ll_window.specs.Told.{other_removals}
+use Rattle.ll_item.specs.Told.{other_removals}
 use Rattle.ll_range.specs.Kept.{removal_at}
 use Rattle.ll_range.proofs.Entries.{has_id, removal_put}
 use Rattle.ll_range.proofs.changes.note.Goals as goal

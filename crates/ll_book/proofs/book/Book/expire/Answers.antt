@@ -1,5 +1,5 @@
 use Rattle.std.proofs.Common.{sym, subst}
-use Rattle.ll_book.specs.Waiting.{IsRising}
+use Rattle.ll_verdict.specs.Waiting.{IsRising}
 use Rattle.ll_book.proofs.Rising.{rising-expired}
 use Rattle.ll_book.proofs.book.Book.expire.Goals as goal
 

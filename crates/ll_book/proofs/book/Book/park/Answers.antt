@@ -1,5 +1,5 @@
 use Rattle.std.proofs.Common.{◌∙◌, ◌++◌, ◌∷◌, [], None, ap, sym, subst}
-use Rattle.ll_book.specs.Waiting.{AreBelow, IsRising}
+use Rattle.ll_verdict.specs.Waiting.{AreBelow, IsRising}
 use Rattle.ll_book.proofs.Rising.{rising-park}
 use Rattle.ll_book.proofs.book.Book.park.Goals as goal
 

@@ -1,6 +1,6 @@
 use Rattle.std.proofs.Common.{◌∙◌, is_some, ap, sym, subst}
 use Rattle.std.specs.List.{position}
-use Rattle.ll_book.specs.Waiting.{IsRising, is_ready_at, reply_at, without, without_ready}
+use Rattle.ll_verdict.specs.Waiting.{IsRising, is_ready_at, reply_at, without, without_ready}
 use Rattle.ll_book.proofs.Rising.{rising-filter}
 use Rattle.ll_book.proofs.Taking.{alone, not_ready, taken, reply-taken}
 use Rattle.ll_book.proofs.book.Book.take.Goals as goal

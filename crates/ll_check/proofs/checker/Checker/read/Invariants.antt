@@ -1,6 +1,6 @@
 use Rattle.std.specs.Prelude.{length}
 use Rattle.ll_attr.specs.Words.{pieces_at}
-use Rattle.ll_check.specs.Chain.{Chain}
+use Rattle.ll_entry.specs.Chain.{Chain}
 use Rattle.ll_check.specs.Found.{IsAt, Leads}
 use Rattle.ll_check.proofs.checker.Checker.read.Given as goal
 

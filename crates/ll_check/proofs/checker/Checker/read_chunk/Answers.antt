@@ -1,7 +1,7 @@
 -- What is found at a chunk's first lines is found after the entries so far.
 use Rattle.std.proofs.Common.{◌+◌, ap, refl, subst, sym}
 use Rattle.ll_attr.specs.Words.{pieces_at}
-use Rattle.ll_check.specs.Chain.{Between, checked_from}
+use Rattle.ll_entry.specs.Chain.{Between, checked_from}
 use Rattle.ll_check.specs.Found.{IsAt}
 use Rattle.ll_check.proofs.LaterLemmas.{later-as}
 use Rattle.ll_check.proofs.checker.Checker.read_chunk.Goals as goal

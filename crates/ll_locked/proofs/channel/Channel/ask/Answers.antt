@@ -1,6 +1,6 @@
 use Rattle.std.proofs.Common.{◌∙◌, ◌++◌, ◌∷◌, [], List, refl, subst, sym, ap, ap₂, append-nil}
 use Rattle.std.proofs.lemmas.Option.{none-some}
-use Rattle.ll_book.specs.Waiting.{found}
+use Rattle.ll_verdict.specs.Waiting.{found}
 use Rattle.ll_verdict.specs.Events.{Clock, Event}
 use Rattle.ll_record.specs.Recording.{IsRecorded, of_channel}
 use Rattle.ll_room.specs.Answers.{new_tickets}

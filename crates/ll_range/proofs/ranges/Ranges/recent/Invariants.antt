@@ -1,6 +1,6 @@
 -- The ids so far and those of the recent removals that are left are all of them.
 use Rattle.std.proofs.Common.{◌≡◌, ◌++◌, drop, filter, map}
-use Rattle.ll_window.specs.Told.{Removal}
+use Rattle.ll_item.specs.Told.{Removal}
 use Rattle.ll_range.specs.Announced.{is_recent}
 use Rattle.ll_range.proofs.ranges.Ranges.recent.Given as goal
 

@@ -1,8 +1,9 @@
 use Rattle.std.proofs.Common.{◌≡◌, ◌∙◌, ap, sym, subst, map, is_some, true, None}
-use Rattle.ll_book.specs.Waiting.{found, reply_at, ticket_in}
+use Rattle.ll_verdict.specs.Waiting.{found, reply_at, ticket_in}
 use Rattle.ll_room.specs.Home.{Stands, less}
 use Rattle.ll_room.proofs.KeptLemmas.{leave-kept, same-kept}
-use Rattle.ll_room.proofs.SettleLemmas.{collect-stands, fewer, open-found, open-ready, same-home, still, stranger, unready}
+use Rattle.ll_verdict.proofs.WaitingLemmas.{open-found, open-ready, unready}
+use Rattle.ll_room.proofs.SettleLemmas.{collect-stands, fewer, same-home, still, stranger}
 use Rattle.ll_room.proofs.room.Room.collect.Goals.{in-Some-find, in-None}
 use Rattle.ll_room.proofs.room.Room.collect.Goals as goal
 

@@ -1,7 +1,7 @@
 -- One is found where one is open.
 use Rattle.std.proofs.Common.{◌∙◌, ap, is_some}
 use Rattle.ll_room.specs.Answers.{is_open}
-use Rattle.ll_room.proofs.SettleLemmas.{open-found}
+use Rattle.ll_verdict.proofs.WaitingLemmas.{open-found}
 use Rattle.ll_room.proofs.room.Room.is_open.Goals as goal
 
 pub returns : goal.returns

@@ -1,4 +1,4 @@
-use ll_entry::EntryFault;
+use crate::entry::EntryFault;
 use std::alloc::AllocError;
 use thiserror::Error;
 
@@ -36,7 +36,7 @@ pub struct CheckFault {
 
 impl From<AllocError> for CheckKind {
     ghost use Rattle.std.specs.Prelude.{◌≡◌};
-    ghost use Rattle.ll_check.specs.declared.fault.CheckKind.TheVariants.{Memory};
+    ghost use Rattle.ll_entry.specs.declared.fault.CheckKind.TheVariants.{Memory};
 
     ghost from_gives = { λ error kind. kind ≡ Memory };
 
@@ -47,7 +47,7 @@ impl From<AllocError> for CheckKind {
 
 impl From<EntryFault> for CheckKind {
     ghost use Rattle.std.specs.Prelude.{◌≡◌};
-    ghost use Rattle.ll_check.specs.Chain.{kind_of};
+    ghost use Rattle.ll_entry.specs.Chain.{kind_of};
 
     ghost from_gives = { λ entry kind. kind ≡ kind_of entry };
 

@@ -1,11 +1,11 @@
 -- Whether an entry of a record is right after some events of its channel.
 use Rattle.std.specs.Prelude.{ℕ, ◌+◌, ◌^◌, ◌==◌, ◌&&◌, List, Bool, true, false, not, Option, Some, None, length, nat_le, option_map, if◌then◌else◌}
 use Rattle.std.specs.List.{list_any}
-use Rattle.ll_book.specs.Waiting.{has_ticket, reply_at}
+use Rattle.ll_verdict.specs.Waiting.{has_ticket, reply_at}
 use Rattle.ll_entry.specs.declared.entry.Recorded.{Recorded}
 use Rattle.ll_entry.specs.declared.entry.Recorded.TheVariants as recorded
 use Rattle.ll_item.specs.Settings.{Configuration}
-use Rattle.ll_room.specs.Full.{is_full, refusal_after}
+use Rattle.ll_verdict.specs.Full.{is_full, refusal_after}
 use Rattle.ll_verdict.specs.Events.{Event, Publish, Ask, Clock, Collect, Close, asks}
 use Rattle.ll_verdict.specs.Outcome.{outcome_of}
 use Rattle.ll_verdict.specs.State.{state_of}
@@ -14,8 +14,8 @@ use Rattle.ll_verdict.specs.declared.fault.PublishFault.{PublishFault}
 use Rattle.ll_verdict.specs.declared.reply.Outcome.{Outcome}
 use Rattle.ll_verdict.specs.declared.reply.Outcome.TheVariants.{Text, NotFound, TooFar, Busy, Timeout}
 use Rattle.ll_verdict.specs.declared.reply.Settled.{Settled}
-use Rattle.ll_check.specs.declared.fault.CheckKind.{CheckKind}
-use Rattle.ll_check.specs.declared.fault.CheckKind.TheVariants.{Refused, WrongReply}
+use Rattle.ll_entry.specs.declared.fault.CheckKind.{CheckKind}
+use Rattle.ll_entry.specs.declared.fault.CheckKind.TheVariants.{Refused, WrongReply}
 
 -- the event that an entry tells
 abbrev pub event_of : Recorded → Event

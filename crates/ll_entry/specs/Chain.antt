@@ -12,10 +12,10 @@ use Rattle.ll_item.specs.Same.{same_settings}
 use Rattle.ll_item.specs.Settings.{Configuration, settings_in}
 use Rattle.ll_item.specs.declared.settings.SettingsFault.{SettingsFault}
 use Rattle.ll_verdict.specs.Events.{Event}
-use Rattle.ll_check.specs.Entered.{event_of, fault_in}
-use Rattle.ll_check.specs.declared.fault.CheckFault.{CheckFault}
-use Rattle.ll_check.specs.declared.fault.CheckKind.{CheckKind}
-use Rattle.ll_check.specs.declared.fault.CheckKind.TheVariants.{BadChunk, Gap, OtherChannel, Refused, Memory}
+use Rattle.ll_entry.specs.Entered.{event_of, fault_in}
+use Rattle.ll_entry.specs.declared.fault.CheckFault.{CheckFault}
+use Rattle.ll_entry.specs.declared.fault.CheckKind.{CheckKind}
+use Rattle.ll_entry.specs.declared.fault.CheckKind.TheVariants.{BadChunk, Gap, OtherChannel, Refused, Memory}
 
 -- what the chunks so far tell
 pub record Chain : Type 0 where

@@ -3,7 +3,7 @@ use Rattle.std.specs.Prelude.{ℕ, ◌+◌, List, [], ◌∷◌, ◌++◌, Bool,
 use Rattle.ll_attr.specs.Attributes.{spelling}
 use Rattle.ll_item.specs.declared.item.Item.{Item}
 use Rattle.ll_item.specs.declared.item.Item.TheVariants as item
-use Rattle.ll_window.specs.declared.part.Part.{Part}
+use Rattle.ll_item.specs.declared.part.Part.{Part}
 
 -- a date range that is listed (section 4.4.5.1)
 pub record Listed : Type 0 where
@@ -62,3 +62,7 @@ step t (item.Unrange rendition id) = record t {
 -- of all items of one rendition
 abbrev pub told : List Item → Told
 told items = fold step start items
+
+-- how long all parts last, in microseconds
+abbrev pub end_time : List Item → ℕ
+end_time items = (told items).end_time
