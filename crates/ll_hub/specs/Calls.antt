@@ -1,5 +1,5 @@
 -- What the calls of a hub answer. A hub is the settings of its channels, a pass what its caller has seen of each.
-use Rattle.std.specs.Prelude.{◌≡◌, ◌≢◌, ◌<◌, ℕ, ⊤, List, Option, Some, None, length, slice_get}
+use Rattle.std.specs.Prelude.{◌≡◌, ◌≢◌, ◌<◌, ◌≤◌, ℕ, ⊤, List, Option, Some, None, length, slice_get}
 use Rattle.ll_directive.specs.Targets.{WantValue}
 use Rattle.ll_item.specs.Settings.{Configuration}
 use Rattle.ll_item.specs.declared.item.Item.{Item}
@@ -18,6 +18,8 @@ use Rattle.ll_locked.specs.declared.fault.RoomFault.TheVariants as room
 use Rattle.ll_locked.specs.declared.total.Total.{Total}
 use Rattle.ll_hub.specs.declared.hub.HubAsked.{HubAsked}
 use Rattle.ll_hub.specs.declared.hub.HubAsked.TheVariants.{Now, Held}
+use Rattle.ll_hub.specs.declared.hub.Waited.{Waited}
+use Rattle.ll_hub.specs.declared.hub.Waited.TheVariants as waited
 
 -- the channel at this place has these settings, and a caller has seen so many items of it
 pub record IsKnown (hub : List Configuration) (passed : List ℕ) (place : ℕ) (settings : Configuration) (seen : ℕ) : Type 0 where
@@ -123,6 +125,11 @@ pub record IsReplied (hub : List Configuration) (claim : ClaimValue) (before aft
   pub decided : IsDecided settings claim.entry mark.value
   pub passed : after ≡ noted_reply before claim.channel mark.value
 
+-- what waiting with a limit comes to: the reply, or the same claim again, and nothing seen
+abbrev pub IsWaited : List Configuration → ClaimValue → List ℕ → List ℕ → Waited → Type 0
+IsWaited hub claim before after (waited.Reply mark) = IsReplied hub claim before after mark
+IsWaited hub claim before after (waited.Still back) = (back ≡ claim) × (after ≡ before)
+
 abbrev pub IsWaitFault : List Configuration → ℕ → HubFault → Type 0
 IsWaitFault hub place UnknownChannel = slice_get hub place ≡ None
 IsWaitFault hub place Stranger = (settings : Configuration) × (slice_get hub place ≡ Some settings)
@@ -133,6 +140,11 @@ IsWaitFault hub place other = ⊥
 abbrev pub IsTickFault : List Configuration → ℕ → HubFault → Type 0
 IsTickFault hub ms (Room place (room.Clock fault)) = (place < length hub) × IsReadingRefused ms fault
 IsTickFault hub ms other = ⊥
+
+-- it names a place from the first on
+abbrev pub IsFrom : ℕ → HubFault → Type 0
+IsFrom first (Room place fault) = first ≤ place
+IsFrom first other = ⊥
 
 -- ---- rotate
 

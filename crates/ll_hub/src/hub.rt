@@ -19,6 +19,7 @@ use ll_verdict::Reply;
 use std::alloc::{AllocError, Global};
 use std::marker::Model;
 use std::sync::{Mutex, Wait};
+use std::time::{self, Duration};
 
 /// What a request gets when it is made.
 pub enum HubAsked {
@@ -26,6 +27,14 @@ pub enum HubAsked {
     Now(Stamped<Reply>),
     /// It is held: its reply is waited for.
     Held(Claim),
+}
+
+/// What waiting with a limit comes to.
+pub enum Waited {
+    /// The reply is there.
+    Reply(Stamped<Reply>),
+    /// The request is still held, and here is its claim again.
+    Still(Claim),
 }
 
 /// Channels under a lock each: a call on one channel waits for one on another no longer than it takes to count. It must be spent by
@@ -207,6 +216,33 @@ impl<L: Ledgers> Hub<L> {
         Ok(reply)
     }
 
+    /// Waits for the reply to a held request, no longer than about `limit`. It takes the channel's lock when it is called, and once more
+    /// after each wake-up. Where the clock can't be read, the limit counts as over. The claim is spent, also where the hub doesn't hold
+    /// the request, unless it comes back.
+    pub fn wait_within<R: Wait + time::Clock>(
+        &self,
+        rt: &R,
+        pass: &mut Pass<L>,
+        claim: Claim,
+        limit: Duration,
+    ) -> Result<Waited, HubFault>
+        ensures waited { IfOk result (λ w. calls.IsWaited self.now claim pass.old.seen pass.new.seen w) }
+        ensures counts { (pass.new.publishes ≡ pass.old.publishes) × (pass.new.asks ≡ pass.old.asks) }
+        ensures refused { IfErr result (λ f. calls.IsWaitFault self.now claim.channel f) }
+        ensures unchanged { OnErr result (pass.new ≡ pass.old) }
+    {
+        let channel = claim.channel();
+        let entry = claim.spend();
+        let (slot, known) = self.slots.reach(channel, Some(0))?;
+        match slot.wait_within(rt, known, entry, limit)? {
+            Some(reply) => {
+                pass.note_reply(channel, reply.get());
+                Ok(Waited::Reply(reply))
+            }
+            None => Ok(Waited::Still(Claim::new(channel, entry))),
+        }
+    }
+
     /// Gives a held request up: it gets no reply. The claim is spent; answers whether the hub held the request.
     pub fn close<R: Wait>(&self, rt: &R, claim: Claim) -> bool
         ensures { slice_get self.now claim.channel ≡ None → result ≡ false }
@@ -223,7 +259,16 @@ impl<L: Ledgers> Hub<L> {
     pub fn tick<R: Wait>(&self, rt: &R, ms: u64) -> Result<(), HubFault>
         ensures { IfErr result (λ f. calls.IsTickFault self.now ms f) }
     {
-        for channel in 0..self.slots.len() {
+        self.tick_from(rt, 0, ms)
+    }
+
+    /// Tells each channel from this place on, in their order, what the clock shows, in milliseconds, up to the first that refuses the
+    /// reading.
+    pub fn tick_from<R: Wait>(&self, rt: &R, first: usize, ms: u64) -> Result<(), HubFault>
+        ensures refused { IfErr result (λ f. calls.IsTickFault self.now ms f) }
+        ensures from { IfErr result (λ f. calls.IsFrom first f) }
+    {
+        for channel in first..self.slots.len() {
             if let Err(fault) = self.slots.tick(rt, channel, ms) {
                 return Err(HubFault::Room {
                     channel,

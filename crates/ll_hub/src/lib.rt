@@ -10,7 +10,7 @@ mod slots;
 mod totals;
 
 pub use claim::Claim;
-pub use hub::{Hub, HubAsked};
+pub use hub::{Hub, HubAsked, Waited};
 pub use ll_ledger::{Blanks, Ledgers, Named};
 pub use ll_locked::{Clock, HubFault, RoomFault, Total};
 pub use pass::Pass;

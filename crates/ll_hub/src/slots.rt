@@ -1,5 +1,5 @@
 //! The channels of a hub, under a lock each.
-ghost use Rattle.std.specs.Prelude.{◌≡◌, ◌+◌, ◌<◌, ◌≤◌, ◌++◌, ◌∷◌, [], None, Some, IfErr, IfOk, IsTrue, MatchOption, OnErr, OnOk, false, length, map, slice_get, sum, vec_capacity};
+ghost use Rattle.std.specs.Prelude.{◌≡◌, ◌+◌, ◌<◌, ◌≤◌, ◌++◌, ◌∷◌, [], None, Some, IfErr, IfOk, IfSome, IsTrue, MatchOption, OnErr, OnOk, false, length, map, slice_get, sum, vec_capacity};
 ghost use Rattle.ll_channels.specs.Channels.{channel_of_name};
 ghost use Rattle.ll_hub.specs.Calls as calls;
 ghost use Rattle.ll_ledger.specs.Ledgers.{blank};
@@ -19,6 +19,7 @@ use ll_verdict::{Entry, Reply};
 use std::alloc::{AllocError, Global};
 use std::marker::Model;
 use std::sync::{Condvar, Mutex, MutexGuard, Wait};
+use std::time::{Clock, Duration, Instant};
 
 /// One channel's lock, and what wakes those who wait for replies.
 pub(crate) struct Slot<L: Ledgers> {
@@ -247,6 +248,34 @@ impl<L: Ledgers> Slot<L> {
         unreachable!()
     }
 
+    /// Waits until the reply of a held request is there, or so much time has gone by: then there is none.
+    pub(crate) fn wait_within<R: Wait + Clock>(
+        &self,
+        rt: &R,
+        known: Known<'_>,
+        entry: Entry,
+        limit: Duration,
+    ) -> Result<Option<Stamped<Reply>>, HubFault>
+        ensures replied { IfOk result (λ o. IfSome o (λ r. (r.room ≡ known.entry.place) × (r.stamp ≡ stamp.Collect entry.ticket))) }
+        ensures decided { IfOk result (λ o. IfSome o (λ r. IsDecided known.entry.settings.now entry r.value)) }
+        ensures stranger { IfErr result (λ f. f ≡ HubFault.Stranger) }
+    {
+        let start = Instant::now(rt).ok();
+        let mut state = self.state.lock(rt);
+        for _ in rt.forever() {
+            match state.collect(known, entry) {
+                Tried::Got(reply) => return Ok(Some(reply)),
+                Tried::Stranger => return Err(HubFault::Stranger),
+                Tried::Still => {}
+            }
+            let Some(left) = left(rt, start, limit) else {
+                return Ok(None);
+            };
+            state = self.changed.wait_timeout(rt, state, left).0;
+        }
+        unreachable!()
+    }
+
     /// Closes what is held, tells what the channel has come to, and gives its shares. Notes where it isn't the channel of this place.
     fn finish(
         self,
@@ -269,6 +298,12 @@ impl<L: Ledgers> Slot<L> {
         let Slot { state, changed: _ } = self;
         state.into_inner().finish();
     }
+}
+
+/// What is left of a limit that runs from `start`: nothing, where it is over or the clock can't be read.
+fn left<R: Clock>(rt: &R, start: Option<Instant>, limit: Duration) -> Option<Duration> {
+    let left = limit.checked_sub(start?.elapsed(rt).ok()?)?;
+    if left.is_zero() { None } else { Some(left) }
 }
 
 /// Whether this is the channel at this place.
