@@ -15,6 +15,7 @@ pub(crate) struct Desk<'a, L: Ledgers, C, G, K, R> {
     pub(crate) gate: &'a G,
     pub(crate) sink: &'a K,
     pub(crate) hub: &'a Hub<L>,
+    pub(crate) reads: u64,
 }
 
 impl<L: Ledgers, C, G, K: Sink, R: Wait> Desk<'_, L, C, G, K, R> {

@@ -16,7 +16,7 @@ pub enum LinkFault {
     /// No memory was found for its bytes or an answer.
     #[error("Memory")]
     Memory,
-    /// It was read 2^32 times.
+    /// It was read as often as a connection is, 2^32 times where the caller sets no smaller number.
     #[error("Endless")]
     Endless,
 }

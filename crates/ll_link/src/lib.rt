@@ -10,4 +10,4 @@ mod workers;
 
 pub use fault::LinkFault;
 pub use link::{Gate, Link, Role, Source};
-pub use workers::{serve_link, serve_links};
+pub use workers::{serve_link, serve_link_within, serve_links};

@@ -11,6 +11,12 @@ pub trait Link: Writer + Drop {
         ensures unwritten { Self.written self.new ≡ Self.written self.old }
         ensures steady { OnOk result (Self.failures self.new ≡ Self.failures self.old) }
         ensures failed { OnErr result (Self.failures self.old < Self.failures self.new) };
+
+    /// Whether the other end has hung up, which may be seen only after the bytes that it sent before. It takes no bytes, and waits for
+    /// none.
+    fn gone(&mut self) -> bool
+        ensures unwritten { Self.written self.new ≡ Self.written self.old }
+        ensures steady { Self.failures self.new ≡ Self.failures self.old };
 }
 
 /// Who is at the other end of a connection.

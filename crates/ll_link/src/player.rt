@@ -7,18 +7,22 @@ ghost use Rattle.ll_link.specs.Faults.{IsTrue};
 use crate::desk::Desk;
 use crate::fault::LinkFault;
 use crate::link::{Gate, Link};
-use crate::workers::{PIECE, READS};
+use crate::workers::PIECE;
 use ll_device::write_all;
 use ll_directive::{TargetFault, Want};
-use ll_hub::{Claim, Clock, HubAsked, HubFault, Ledgers, Pass, RoomFault, Sink};
+use ll_hub::{Claim, Clock, HubAsked, HubFault, Ledgers, Pass, RoomFault, Sink, Waited};
 use ll_record::ReadingFault;
 use ll_room::AskFault;
 use ll_session::Session;
 use ll_wire::{Answer, Unavailable};
 use std::sync::Wait;
+use std::time::{self, Duration};
+
+/// How long a held request is waited for between two looks at whether its player has hung up, in seconds.
+const LOOK: u64 = 1;
 
 /// Answers a player's requests, one after another, and counts the answers.
-pub(crate) fn serve<L: Ledgers, P: Link, C: Clock, G: Gate, K: Sink, R: Wait>(
+pub(crate) fn serve<L: Ledgers, P: Link, C: Clock, G: Gate, K: Sink, R: Wait + time::Clock>(
     desk: &Desk<'_, L, C, G, K, R>,
     link: &mut P,
     pass: &mut Pass<L>,
@@ -32,7 +36,7 @@ pub(crate) fn serve<L: Ledgers, P: Link, C: Clock, G: Gate, K: Sink, R: Wait>(
 }
 
 /// Reads requests and answers them, until either side ends the connection.
-fn converse<L: Ledgers, P: Link, C: Clock, G: Gate, K: Sink, R: Wait>(
+fn converse<L: Ledgers, P: Link, C: Clock, G: Gate, K: Sink, R: Wait + time::Clock>(
     desk: &Desk<'_, L, C, G, K, R>,
     link: &mut P,
     pass: &mut Pass<L>,
@@ -42,9 +46,9 @@ fn converse<L: Ledgers, P: Link, C: Clock, G: Gate, K: Sink, R: Wait>(
 {
     let mut answers = 0;
     let mut piece = [0; PIECE];
-    for _ in 0..READS {
-        answer(desk, link, pass, session, &mut answers)?;
-        if session.shut() {
+    for _ in 0..desk.reads {
+        let stays = answer(desk, link, pass, session, &mut answers)?;
+        if !stays || session.shut() {
             return Ok(answers);
         }
         let Ok(count) = link.read(&mut piece) else {
@@ -58,23 +62,25 @@ fn converse<L: Ledgers, P: Link, C: Clock, G: Gate, K: Sink, R: Wait>(
     Err(LinkFault::Endless)
 }
 
-/// Answers all whole requests that came.
-fn answer<L: Ledgers, P: Link, C: Clock, G: Gate, K: Sink, R: Wait>(
+/// Answers all whole requests that came. Says whether the player stays: false, where it hung up while one was held.
+fn answer<L: Ledgers, P: Link, C: Clock, G: Gate, K: Sink, R: Wait + time::Clock>(
     desk: &Desk<'_, L, C, G, K, R>,
     link: &mut P,
     pass: &mut Pass<L>,
     session: &mut Session,
     answers: &mut u64,
-) -> Result<(), LinkFault>
+) -> Result<bool, LinkFault>
     ensures { IsTrue result (P.failures link.old) (P.failures link.new) }
 {
     for _ in desk.rt.forever() {
         let want = session.next_want()?;
         send(desk, link, session, answers)?;
         let Some(want) = want else {
-            return Ok(());
+            return Ok(true);
         };
-        let answer = ask(desk, pass, session, want)?;
+        let Some(answer) = ask(desk, link, pass, session, want)? else {
+            return Ok(false);
+        };
         if session.waiting() {
             session.answered(&answer)?;
         }
@@ -105,66 +111,93 @@ fn send<L: Ledgers, P: Link, C, G: Gate, K, R>(
     Ok(())
 }
 
-/// What a request is answered. Where the record of its channel is full, that is handed out and the request made once more.
-fn ask<L: Ledgers, C: Clock, G, K: Sink, R: Wait>(
+/// What a request is answered; nothing, where its player hung up while it was held. Where the record of its channel is full, that is
+/// handed out and the request made once more.
+fn ask<L: Ledgers, P: Link, C: Clock, G, K: Sink, R: Wait + time::Clock>(
     desk: &Desk<'_, L, C, G, K, R>,
+    link: &mut P,
     pass: &mut Pass<L>,
     session: &mut Session,
     want: Want,
-) -> Result<Answer, LinkFault>
-    ensures { (failures : ℕ) → IsTrue result failures failures }
+) -> Result<Option<Answer>, LinkFault>
+    ensures { IsTrue result (P.failures link.old) (P.failures link.new) }
 {
     let Some((channel, _)) = desk.hub.find(want.channel()) else {
-        return Ok(Answer::Target(TargetFault::NotFound));
+        return Ok(Some(Answer::Target(TargetFault::NotFound)));
     };
     let Ok(again) = want.copy() else {
-        return Ok(Answer::Unavailable(Unavailable::Memory));
+        return Ok(Some(Answer::Unavailable(Unavailable::Memory)));
     };
-    match ask_once(desk, pass, session, channel, want)? {
-        Answer::Unavailable(Unavailable::RecordFull) => {
+    match ask_once(desk, link, pass, session, channel, want)? {
+        Some(Answer::Unavailable(Unavailable::RecordFull)) => {
             desk.hand_out(channel)?;
-            ask_once(desk, pass, session, channel, again)
+            ask_once(desk, link, pass, session, channel, again)
         }
         answer => Ok(answer),
     }
 }
 
 /// What a request of the channel at this place is answered. Where it has to wait, its reply is waited for.
-fn ask_once<L: Ledgers, C: Clock, G, K: Sink, R: Wait>(
+fn ask_once<L: Ledgers, P: Link, C: Clock, G, K: Sink, R: Wait + time::Clock>(
     desk: &Desk<'_, L, C, G, K, R>,
+    link: &mut P,
     pass: &mut Pass<L>,
     session: &mut Session,
     channel: usize,
     want: Want,
-) -> Result<Answer, LinkFault>
-    ensures { (failures : ℕ) → IsTrue result failures failures }
+) -> Result<Option<Answer>, LinkFault>
+    ensures { IsTrue result (P.failures link.old) (P.failures link.new) }
 {
     match desk.hub.ask(desk.rt, desk.clock, pass, channel, want) {
-        Ok(HubAsked::Now(reply)) => Ok(Answer::Reply(reply.into_inner())),
-        Ok(HubAsked::Held(claim)) => wait(desk, pass, session, claim),
-        Err(fault) => unavailable(fault),
+        Ok(HubAsked::Now(reply)) => Ok(Some(Answer::Reply(reply.into_inner()))),
+        Ok(HubAsked::Held(claim)) => hold(desk, link, pass, session, claim),
+        Err(fault) => Ok(Some(unavailable(fault)?)),
     }
 }
 
 /// The reply to a request that is held. Where too many bytes wait after it, it is given up, and the session has shut.
-fn wait<L: Ledgers, C, G, K: Sink, R: Wait>(
+fn hold<L: Ledgers, P: Link, C, G, K: Sink, R: Wait + time::Clock>(
     desk: &Desk<'_, L, C, G, K, R>,
+    link: &mut P,
     pass: &mut Pass<L>,
     session: &mut Session,
     claim: Claim,
-) -> Result<Answer, LinkFault>
-    ensures { (failures : ℕ) → IsTrue result failures failures }
+) -> Result<Option<Answer>, LinkFault>
+    ensures { IsTrue result (P.failures link.old) (P.failures link.new) }
 {
     let fed = session.feed(&[]);
     if fed.is_err() || session.shut() {
         desk.hub.close(desk.rt, claim);
         fed?;
-        return Ok(Answer::Unavailable(Unavailable::Memory));
+        return Ok(Some(Answer::Unavailable(Unavailable::Memory)));
     }
-    match desk.hub.wait(desk.rt, pass, claim) {
-        Ok(reply) => Ok(Answer::Reply(reply.into_inner())),
-        Err(_) => Err(LinkFault::Hub),
+    wait(desk, link, pass, claim)
+}
+
+/// The reply to a request that is held. Where its player has hung up, it is given up, and there is none.
+fn wait<L: Ledgers, P: Link, C, G, K: Sink, R: Wait + time::Clock>(
+    desk: &Desk<'_, L, C, G, K, R>,
+    link: &mut P,
+    pass: &mut Pass<L>,
+    claim: Claim,
+) -> Result<Option<Answer>, LinkFault>
+    ensures { IsTrue result (P.failures link.old) (P.failures link.new) }
+{
+    let limit = Duration::from_secs(LOOK);
+    let mut held = claim;
+    for _ in desk.rt.forever() {
+        let still = match desk.hub.wait_within(desk.rt, pass, held, limit) {
+            Ok(Waited::Reply(reply)) => return Ok(Some(Answer::Reply(reply.into_inner()))),
+            Ok(Waited::Still(claim)) => claim,
+            Err(_) => return Err(LinkFault::Hub),
+        };
+        if link.gone() {
+            desk.hub.close(desk.rt, still);
+            return Ok(None);
+        }
+        held = still;
     }
+    unreachable!()
 }
 
 /// What a request is answered that its channel can't take now.

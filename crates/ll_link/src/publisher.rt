@@ -7,7 +7,7 @@ ghost use Rattle.ll_link.specs.Faults.{IsTrue};
 use crate::desk::Desk;
 use crate::fault::LinkFault;
 use crate::link::{Gate, Link};
-use crate::workers::{PIECE, READS};
+use crate::workers::PIECE;
 use ll_device::write_all;
 use ll_hub::{HubFault, Ledgers, Pass, RoomFault, Sink};
 use ll_item::{Item, Settings};
@@ -25,7 +25,7 @@ pub(crate) fn serve<L: Ledgers, P: Link, C, G: Gate, K: Sink, R: Wait>(
     let mut feed = Feed::new(desk.alloc);
     let mut answers = 0;
     let mut piece = [0; PIECE];
-    for _ in 0..READS {
+    for _ in 0..desk.reads {
         let Ok(count) = link.read(&mut piece) else {
             return Err(LinkFault::Read);
         };

@@ -10,18 +10,19 @@ use crossbeam_channel::{Receiver, Sender};
 use ll_hub::{Clock, Hub, HubFault, Ledgers, Pass, Sink};
 use std::alloc::Global;
 use std::sync::Wait;
-use std::thread;
 use std::thread::Threads;
+use std::{thread, time};
 
 /// How often a connection is read at most.
-pub(crate) const READS: u64 = 1 << 32;
+const READS: u64 = 1 << 32;
 
 /// How many bytes a read takes at most.
 pub(crate) const PIECE: usize = 4_096;
 
-/// Serves one connection to its end, and tells how many answers it got, or why it was ended. What it held is then closed. Where the record
-/// of a channel is full, it goes to the sink before the call that found it so is made once more.
-pub fn serve_link<L: Ledgers, P: Link, C: Clock, G: Gate, K: Sink, R: Wait>(
+/// Serves one connection to its end, and tells how many answers it got, or why it was ended. What it held is then closed; a player that
+/// hangs up while a request of it is held is at its end. Where the record of a channel is full, it goes to the sink before the call that
+/// found it so is made once more.
+pub fn serve_link<L: Ledgers, P: Link, C: Clock, G: Gate, K: Sink, R: Wait + time::Clock>(
     rt: &R,
     alloc: Global,
     role: Role,
@@ -34,6 +35,24 @@ pub fn serve_link<L: Ledgers, P: Link, C: Clock, G: Gate, K: Sink, R: Wait>(
 ) -> Result<u64, LinkFault>
     ensures { IsTrue result (P.failures link.old) (P.failures link.new) }
 {
+    serve_link_within(rt, alloc, role, link, clock, gate, sink, hub, pass, READS)
+}
+
+/// Serves one connection as [`serve_link`] does, but answers Endless after so many reads; more than 2^32 count as 2^32.
+pub fn serve_link_within<L: Ledgers, P: Link, C: Clock, G: Gate, K: Sink, R: Wait + time::Clock>(
+    rt: &R,
+    alloc: Global,
+    role: Role,
+    link: &mut P,
+    clock: &C,
+    gate: &G,
+    sink: &K,
+    hub: &Hub<L>,
+    pass: &mut Pass<L>,
+    reads: u64,
+) -> Result<u64, LinkFault>
+    ensures { IsTrue result (P.failures link.old) (P.failures link.new) }
+{
     let desk = Desk {
         rt,
         alloc,
@@ -41,6 +60,7 @@ pub fn serve_link<L: Ledgers, P: Link, C: Clock, G: Gate, K: Sink, R: Wait>(
         gate,
         sink,
         hub,
+        reads: reads.min(READS),
     };
     match role {
         Role::Player => player::serve(&desk, link, pass),
@@ -61,7 +81,7 @@ pub fn serve_links<
     C: Clock + Sync,
     G: Gate + Sync,
     K: Sink + Sync,
-    R: Threads + Wait + Sync,
+    R: Threads + Wait + time::Clock + Sync,
 >(
     rt: &R,
     alloc: Global,
@@ -124,7 +144,7 @@ fn gather<L: Ledgers>(
 }
 
 /// Serves one connection after another, until no more come, and gives the pass back.
-fn work<L: Ledgers, P: Link, C: Clock, G: Gate, K: Sink, R: Wait>(
+fn work<L: Ledgers, P: Link, C: Clock, G: Gate, K: Sink, R: Wait + time::Clock>(
     rt: &R,
     alloc: Global,
     role: Role,
