@@ -1,6 +1,7 @@
 -- What the lines of a chunk come to, one after another.
 use Rattle.std.proofs.Common.{◌≡◌, ◌≢◌, ℕ, ◌+◌, ◌==◌, List, [], ◌∷◌, true, false, cond, Option, Some, None, Result, Ok, Err, IfOk, IfErr, refl, ap, sym, subst, ◌∙◌, length, bytes_eq, codes, arith}
 use Rattle.ll_attr.specs.Words.{pieces_at}
+use Rattle.ll_entry.proofs.ChainLemmas.{ended-parts}
 use Rattle.ll_item.specs.Settings.{Configuration}
 use Rattle.ll_room.specs.Home.{Home, Stands}
 use Rattle.ll_verdict.specs.Events.{Event}

@@ -11,7 +11,7 @@ pub fn answer_line(alloc: Global, answer: Result<u64, CheckFault>) -> Result<Str
 {
     match answer {
         Ok(entries) => ok_line(alloc, entries),
-        Err(fault) => bad_line(alloc, fault.entry, fault.kind.name()),
+        Err(fault) => bad_line(alloc, fault.entry, kind_name(fault.kind)),
     }
 }
 
@@ -29,18 +29,16 @@ fn bad_line(alloc: Global, entry: u64, name: &str) -> Result<String, AllocError>
     format!(in alloc; "bad {entry} {name}\n")
 }
 
-impl CheckKind {
-    /// Its name.
-    pub fn name(self) -> &'static str
-        ensures { result.now ≡ spec.kind_name self }
-    {
-        match self {
-            CheckKind::BadChunk => "BadChunk",
-            CheckKind::Gap => "Gap",
-            CheckKind::OtherChannel => "OtherChannel",
-            CheckKind::Refused => "Refused",
-            CheckKind::WrongReply => "WrongReply",
-            CheckKind::Memory => "Memory",
-        }
+/// The name of how a chain isn't right.
+fn kind_name(kind: CheckKind) -> &'static str
+    ensures { result.now ≡ spec.kind_name kind }
+{
+    match kind {
+        CheckKind::BadChunk => "BadChunk",
+        CheckKind::Gap => "Gap",
+        CheckKind::OtherChannel => "OtherChannel",
+        CheckKind::Refused => "Refused",
+        CheckKind::WrongReply => "WrongReply",
+        CheckKind::Memory => "Memory",
     }
 }

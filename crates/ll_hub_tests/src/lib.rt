@@ -1,4 +1,4 @@
-//! Tests of `ll_hub` and `ll_link`, with threads. They stand here so that neither is proved a second time for its tests.
+//! Tests of `ll_hub`, with threads. They stand here so that it isn't proved a second time for its tests.
 #![tactic(auto)]
 
 #[cfg(test)]
@@ -8,16 +8,8 @@ mod fault_tests;
 #[cfg(test)]
 mod hub_tests;
 #[cfg(test)]
-mod link_tests;
-#[cfg(test)]
 mod record_tests;
 #[cfg(test)]
 mod rows;
 #[cfg(test)]
-mod socket_tests;
-#[cfg(test)]
 mod thread_tests;
-#[cfg(test)]
-mod wires;
-#[cfg(test)]
-mod worker_tests;

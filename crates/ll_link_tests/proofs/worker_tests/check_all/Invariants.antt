@@ -1,4 +1,4 @@
-use Rattle.ll_hub_tests.proofs.worker_tests.check_all.Given as goal
+use Rattle.ll_link_tests.proofs.worker_tests.check_all.Given as goal
 
 abbrev pub ghosts-serve_all-L-Named : goal.ghosts-serve_all-L-Named
 ghosts-serve_all-L-Named g a = record { names = a.blanks }

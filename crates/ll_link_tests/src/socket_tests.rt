@@ -1,7 +1,7 @@
 //! Connections over sockets of one machine.
 ghost use Rattle.std.specs.Prelude.{◌≡◌, None, if◌then◌else◌};
 
-use crate::cases::{Stopped, finished, hub_of_one};
+use crate::hubs::{Stopped, finished, hub_of_one};
 use crate::rows::same;
 use crate::wires::{ANSWER, Dropped, GET, LINE, Open, text_of};
 use ll_device::{Failed, Writer};

@@ -1,4 +1,4 @@
-use Rattle.ll_hub_tests.proofs.link_tests.check.Given as goal
+use Rattle.ll_link_tests.proofs.link_tests.check.Given as goal
 
 abbrev pub ghosts-serve-L-Named : goal.ghosts-serve-L-Named
 ghosts-serve-L-Named g a = record { names = a.blanks }

@@ -1,7 +1,7 @@
 //! Workers and the connections that they serve.
 ghost use Rattle.std.specs.Prelude.{◌≡◌, ◌≤◌, None};
 
-use crate::cases::{SEGMENT, Stopped, add_one, comes_to, finished, hub_of_one, published, seat};
+use crate::hubs::{SEGMENT, Stopped, add_one, comes_to, finished, hub_of_one, published, seat};
 use crate::rows::{same, same_number};
 use crate::wires::{ANSWER, Dropped, GET, Open, text_of};
 use ll_device::{Failed, Writer};

@@ -1,7 +1,7 @@
 //! Connections that fail, or take a few bytes at a time.
 ghost use Rattle.std.specs.Prelude.{◌≡◌, ◌≤◌};
 
-use crate::cases::{
+use crate::hubs::{
     SEGMENT, Stopped, Waiting, comes_to, finished, finished_with, hub_of_one, published, seat,
 };
 use crate::rows::{push, same, same_number, three};

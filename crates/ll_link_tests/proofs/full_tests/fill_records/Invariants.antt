@@ -1,4 +1,4 @@
-use Rattle.ll_hub_tests.proofs.record_tests.fill_records.Given as goal
+use Rattle.ll_link_tests.proofs.full_tests.fill_records.Given as goal
 
 abbrev pub ghosts-serve_after-L-Named : goal.ghosts-serve_after-L-Named
 ghosts-serve_after-L-Named g a = record { names = a.blanks }

@@ -1,4 +1,4 @@
-use Rattle.ll_hub_tests.proofs.socket_tests.sockets_are_served.Given as goal
+use Rattle.ll_link_tests.proofs.socket_tests.sockets_are_served.Given as goal
 
 abbrev pub ghosts-serve_sockets-L-Named : goal.ghosts-serve_sockets-L-Named
 ghosts-serve_sockets-L-Named g a = record { names = a.blanks }

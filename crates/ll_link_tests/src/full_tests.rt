@@ -1,0 +1,149 @@
+//! Records that are full while a connection is served.
+ghost use Rattle.std.specs.Prelude.{◌≡◌};
+
+use crate::hubs::{SEGMENT, Stopped, add_one, finished_with, hub_of_one, published, seat};
+use crate::rows::{Row, number, same, same_number};
+use crate::wires::{ANSWER, GET, LINE, Open, SOUND, Wire, text_of};
+use ll_check::check;
+use ll_hub::{Blanks, Hub, Ledgers, Pass, Sink};
+use ll_link::{Role, serve_link};
+use ll_record::Chunk;
+use std::alloc::Global;
+use std::marker::Brand;
+use std::process::Abort;
+use std::sync::atomic::{AtomicU64, Ordering};
+use std::sync::{Mutex, Wait};
+
+/// A sink that counts its chunks, and keeps their bytes one after another.
+#[derive(Drop)]
+struct Kept<'a, R> {
+    rt: &'a R,
+    bytes: Mutex<Vec<u8>>,
+    chunks: AtomicU64,
+}
+
+impl<'a, R: Wait> Kept<'a, R> {
+    /// One that has taken nothing.
+    fn new(rt: &'a R, alloc: Global) -> Kept<'a, R> {
+        Kept {
+            rt,
+            bytes: Mutex::new(Vec::new(alloc)),
+            chunks: AtomicU64::new(0),
+        }
+    }
+
+    /// How many chunks it has taken.
+    fn chunks(&self) -> u64 {
+        self.chunks.load(Ordering::SeqCst)
+    }
+}
+
+impl<R: Wait> Sink for Kept<'_, R> {
+    /// Where no memory is found, the bytes lack the chunk.
+    fn take(&self, _channel: usize, chunk: Chunk) {
+        let _ = self.bytes.lock(self.rt).extend_from_slice(chunk.bytes());
+        add_one(&self.chunks);
+    }
+}
+
+/// How many entries the chunks of a sink have, where they are right; 0 of others.
+fn entries<R: Wait>(rt: &R, alloc: Global, sink: &Kept<'_, R>) -> u64 {
+    let bytes = sink.bytes.lock(rt);
+    check(alloc, &bytes).unwrap_or(0)
+}
+
+/// Hands the record of a hub's first channel to a sink.
+fn hand_out<L: Ledgers, R: Wait + Abort>(rt: &R, hub: &Hub<L>, sink: &Kept<'_, R>) {
+    hub.rotate_to(rt, 0, sink).expect(rt, "a chunk");
+}
+
+/// Tells a hub so many readings of the clock.
+fn tick_each<L: Ledgers, R: Wait + Abort>(rt: &R, hub: &Hub<L>, readings: u64) {
+    for ms in 0..readings {
+        hub.tick(rt, ms).expect(rt, "a reading");
+    }
+}
+
+/// Serves one request of this role, which gets its answer, and hands what is full to a sink.
+fn serve_one<L: Ledgers, R: Wait + Abort>(
+    rt: &R,
+    alloc: Global,
+    hub: &Hub<L>,
+    pass: &mut Pass<L>,
+    sink: &Kept<'_, R>,
+    role: Role,
+) {
+    let (bytes, answer) = match role {
+        Role::Player => (GET, ANSWER),
+        Role::Publisher => (LINE, "ok 2\n"),
+    };
+    let mut wire = Wire::new(alloc, bytes, SOUND);
+    let _ = serve_link(rt, alloc, role, &mut wire, &Stopped, &Open, sink, hub, pass);
+    same(rt, "the answer", text_of(&wire.into_sent()), answer);
+}
+
+/// Puts so many readings of the clock into the record of a hub's first channel, and serves one request. The sink takes so many chunks,
+/// which have so many entries with those that are left at the end.
+fn fill_record<L: Ledgers, R: Wait + Abort>(
+    rt: &R,
+    alloc: Global,
+    hub: &Hub<L>,
+    pass: &mut Pass<L>,
+    role: Role,
+    row: Row<'_>,
+) {
+    tick_each(rt, hub, number(rt, row.column(0)));
+    let sink = Kept::new(rt, alloc);
+    serve_one(rt, alloc, hub, pass, &sink, role);
+    same_number(rt, row.line, sink.chunks(), number(rt, row.column(1)));
+    hand_out(rt, hub, &sink);
+    let entries = entries(rt, alloc, &sink);
+    same_number(rt, row.line, entries, number(rt, row.column(2)));
+}
+
+/// Serves a connection on a hub of one channel, in whose record are a segment and as many readings of the clock as a row says: the
+/// totals.
+fn serve_after<L: Ledgers, R: Wait + Abort>(
+    rt: &R,
+    alloc: Global,
+    blanks: Blanks,
+    role: Role,
+    row: Row<'_>,
+) -> String
+    requires names { blanks ≡ L.names }
+    requires channels { L.channels ≡ 1 }
+{
+    let hub: Hub<L> = hub_of_one(rt, alloc, blanks);
+    let mut pass = seat(rt, &hub);
+    let first = published(rt, alloc, &hub, &mut pass, 0, SEGMENT);
+    same_number(rt, row.line, first, 1);
+    fill_record(rt, alloc, &hub, &mut pass, role, row);
+    finished_with(rt, alloc, hub, pass)
+}
+
+/// What an item meets: how many readings there are, how many chunks the sink takes and how many entries they have in the end, and the
+/// totals.
+const FULL_OF_ITEMS: &str = "65534 | 0 | 65536 => 2 0 0;
+65535 | 1 | 65537 => 2 0 0;";
+
+/// What a request meets.
+const FULL_OF_REQUESTS: &str = "65533 | 0 | 65536 => 1 1 0;
+65534 | 1 | 65538 => 1 1 0;
+65535 | 1 | 65538 => 1 1 0;";
+
+/// A connection of this role comes to what each row of a table says.
+fn fill_records<R: Wait + Abort>(rt: &R, alloc: Global, role: Role, table: &str) {
+    for line in table.lines() {
+        let row = Row { line };
+        let totals = serve_after::<Brand, R>(rt, alloc, Blanks::new(), role, row);
+        row.compare(rt, totals.as_str());
+    }
+}
+
+/// A record that has no room for an item, or for a reading and a request, is handed out, and the item or the request gets its answer. A
+/// reading that was made before the record was full stays in it.
+#[test]
+fn full_records_are_handed_out(rt: HostRuntime) {
+    fill_records(&rt, rt.alloc(), Role::Publisher, FULL_OF_ITEMS);
+    fill_records(&rt, rt.alloc(), Role::Player, FULL_OF_REQUESTS);
+}
