@@ -13,6 +13,7 @@ use std::marker::Brand;
 use std::process::Abort;
 use std::sync::atomic::{AtomicU64, Ordering};
 use std::sync::{Mutex, Wait};
+use std::time::Clock;
 
 /// A sink that counts its chunks, and keeps their bytes one after another.
 #[derive(Drop)]
@@ -65,7 +66,7 @@ fn tick_each<L: Ledgers, R: Wait + Abort>(rt: &R, hub: &Hub<L>, readings: u64) {
 }
 
 /// Serves one request of this role, which gets its answer, and hands what is full to a sink.
-fn serve_one<L: Ledgers, R: Wait + Abort>(
+fn serve_one<L: Ledgers, R: Wait + Clock + Abort>(
     rt: &R,
     alloc: Global,
     hub: &Hub<L>,
@@ -84,7 +85,7 @@ fn serve_one<L: Ledgers, R: Wait + Abort>(
 
 /// Puts so many readings of the clock into the record of a hub's first channel, and serves one request. The sink takes so many chunks,
 /// which have so many entries with those that are left at the end.
-fn fill_record<L: Ledgers, R: Wait + Abort>(
+fn fill_record<L: Ledgers, R: Wait + Clock + Abort>(
     rt: &R,
     alloc: Global,
     hub: &Hub<L>,
@@ -103,7 +104,7 @@ fn fill_record<L: Ledgers, R: Wait + Abort>(
 
 /// Serves a connection on a hub of one channel, in whose record are a segment and as many readings of the clock as a row says: the
 /// totals.
-fn serve_after<L: Ledgers, R: Wait + Abort>(
+fn serve_after<L: Ledgers, R: Wait + Clock + Abort>(
     rt: &R,
     alloc: Global,
     blanks: Blanks,
@@ -132,7 +133,7 @@ const FULL_OF_REQUESTS: &str = "65533 | 0 | 65536 => 1 1 0;
 65535 | 1 | 65538 => 1 1 0;";
 
 /// A connection of this role comes to what each row of a table says.
-fn fill_records<R: Wait + Abort>(rt: &R, alloc: Global, role: Role, table: &str) {
+fn fill_records<R: Wait + Clock + Abort>(rt: &R, alloc: Global, role: Role, table: &str) {
     for line in table.lines() {
         let row = Row { line };
         let totals = serve_after::<Brand, R>(rt, alloc, Blanks::new(), role, row);

@@ -32,14 +32,6 @@ impl Clock for Stopped {
     }
 }
 
-impl Clock for Stopped {
-    ghost shows = { λ c ms. ms ≡ 0 };
-
-    fn now(&self) -> u64 {
-        0
-    }
-}
-
 /// A clock that counts how often it is read, and is read no sooner than something came to its count, or the turns are over.
 #[derive(Drop)]
 pub(crate) struct Waiting {

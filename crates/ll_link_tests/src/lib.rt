@@ -4,6 +4,8 @@
 #[cfg(test)]
 mod full_tests;
 #[cfg(test)]
+mod held_tests;
+#[cfg(test)]
 mod hubs;
 #[cfg(test)]
 mod link_tests;

@@ -1,37 +1,35 @@
 //! Connections that fail, or take a few bytes at a time.
 ghost use Rattle.std.specs.Prelude.{◌≡◌, ◌≤◌};
 
-use crate::hubs::{
-    SEGMENT, Stopped, Waiting, comes_to, finished, finished_with, hub_of_one, published, seat,
-};
-use crate::rows::{push, same, same_number, three};
-use crate::wires::{ANSWER, Dropped, GET, GET_FIRST, LINE, Open, Plan, SOUND, Wire, text_of};
+use crate::hubs::{SEGMENT, Stopped, finished_with, hub_of_one, published, seat};
+use crate::rows::{push, same, three};
+use crate::wires::{ANSWER, Dropped, GET, LINE, Open, Plan, SOUND, Wire, text_of};
 use ll_hub::{Blanks, Hub, Ledgers, Pass};
-use ll_link::{LinkFault, Role, serve_link};
+use ll_link::{LinkFault, Role, serve_link_within};
 use std::alloc::Global;
 use std::marker::Brand;
 use std::process::Abort;
 use std::sync::Wait;
-use std::sync::atomic::AtomicU64;
-use std::thread;
-use std::thread::Threads;
+use std::time::Clock;
 
 /// What a connection came to, what was sent, and the totals of its hub.
 #[derive(Drop)]
-struct Served {
-    result: Result<u64, LinkFault>,
-    sent: Vec<u8>,
-    totals: String,
+pub(crate) struct Served {
+    pub(crate) result: Result<u64, LinkFault>,
+    pub(crate) sent: Vec<u8>,
+    pub(crate) totals: String,
 }
 
 /// The name of what a connection came to.
-fn name(end: Result<u64, LinkFault>) -> &'static str {
+pub(crate) fn name(end: Result<u64, LinkFault>) -> &'static str {
     match end {
+        Ok(0) => "no answer",
         Ok(1) => "one answer",
         Ok(2) => "two answers",
         Ok(_) => "another number of answers",
         Err(LinkFault::Read) => "Read",
         Err(LinkFault::Write) => "Write",
+        Err(LinkFault::Endless) => "Endless",
         Err(_) => "another fault",
     }
 }
@@ -83,7 +81,7 @@ impl Talk {
 }
 
 /// Serves a connection on a hub of one channel, in which a segment was published.
-fn serve<L: Ledgers, R: Wait + Abort>(
+fn serve<L: Ledgers, R: Wait + Clock + Abort>(
     rt: &R,
     alloc: Global,
     blanks: Blanks,
@@ -97,8 +95,8 @@ fn serve<L: Ledgers, R: Wait + Abort>(
     let mut pass = seat(rt, &hub);
     published(rt, alloc, &hub, &mut pass, 0, SEGMENT);
     let mut wire = Wire::new(alloc, &talk.bytes, plan);
-    let result = serve_link(
-        rt, alloc, talk.role, &mut wire, &Stopped, &Open, &Dropped, &hub, &mut pass,
+    let result = serve_link_within(
+        rt, alloc, talk.role, &mut wire, &Stopped, &Open, &Dropped, &hub, &mut pass, plan.looks,
     );
     Served {
         result,
@@ -116,7 +114,7 @@ struct Wanted {
 }
 
 /// A connection of this plan comes to what is wanted. Nothing of it is held afterwards.
-fn check<R: Wait + Abort>(rt: &R, alloc: Global, talk: &Talk, plan: Plan, wanted: Wanted) {
+fn check<R: Wait + Clock + Abort>(rt: &R, alloc: Global, talk: &Talk, plan: Plan, wanted: Wanted) {
     let found = serve::<Brand, R>(rt, alloc, Blanks::new(), talk, plan);
     same(rt, "the end", name(found.result), name(wanted.result));
     let sent = talk.answers.get(..wanted.sent).unwrap_or(&talk.answers);
@@ -126,7 +124,7 @@ fn check<R: Wait + Abort>(rt: &R, alloc: Global, talk: &Talk, plan: Plan, wanted
 }
 
 /// A connection of this plan gets both answers.
-fn check_whole<R: Wait + Abort>(rt: &R, alloc: Global, talk: &Talk, plan: Plan) {
+fn check_whole<R: Wait + Clock + Abort>(rt: &R, alloc: Global, talk: &Talk, plan: Plan) {
     let wanted = Wanted {
         result: Ok(2),
         requests: 2,
@@ -136,7 +134,7 @@ fn check_whole<R: Wait + Abort>(rt: &R, alloc: Global, talk: &Talk, plan: Plan) 
 }
 
 /// A connection that gives so many bytes a read gets the answers to what came before a read that fails, whichever that is.
-fn fail_each_read<R: Wait + Abort>(rt: &R, alloc: Global, talk: &Talk, step: usize)
+fn fail_each_read<R: Wait + Clock + Abort>(rt: &R, alloc: Global, talk: &Talk, step: usize)
     requires { 1 ≤ step }
 {
     let all = talk.bytes.len().div_ceil(step).saturating_add(1);
@@ -172,7 +170,7 @@ fn fail_each_read<R: Wait + Abort>(rt: &R, alloc: Global, talk: &Talk, step: usi
 }
 
 /// Lets each read of two requests fail.
-fn fail_reads<R: Wait + Abort>(rt: &R, alloc: Global, role: Role) {
+fn fail_reads<R: Wait + Clock + Abort>(rt: &R, alloc: Global, role: Role) {
     let talk = two_requests(rt, alloc, role);
     fail_each_read(rt, alloc, &talk, 1);
     fail_each_read(rt, alloc, &talk, 7);
@@ -187,7 +185,7 @@ fn failed_reads_are_told(rt: HostRuntime) {
 }
 
 /// A connection that takes so many bytes a write gets what was written before a write that fails, whichever that is.
-fn fail_each_write<R: Wait + Abort>(rt: &R, alloc: Global, talk: &Talk, taken: usize)
+fn fail_each_write<R: Wait + Clock + Abort>(rt: &R, alloc: Global, talk: &Talk, taken: usize)
     requires { 1 ≤ taken }
 {
     let each = talk.answer().div_ceil(taken);
@@ -215,7 +213,7 @@ fn fail_each_write<R: Wait + Abort>(rt: &R, alloc: Global, talk: &Talk, taken: u
 }
 
 /// Lets each write of two answers fail.
-fn fail_writes<R: Wait + Abort>(rt: &R, alloc: Global, role: Role) {
+fn fail_writes<R: Wait + Clock + Abort>(rt: &R, alloc: Global, role: Role) {
     let talk = two_requests(rt, alloc, role);
     fail_each_write(rt, alloc, &talk, 2);
     fail_each_write(rt, alloc, &talk, 100);
@@ -230,7 +228,13 @@ fn failed_writes_are_told(rt: HostRuntime) {
 }
 
 /// A connection gets both answers that takes so many bytes a write, and one byte alone after so many writes.
-fn write_short<R: Wait + Abort>(rt: &R, alloc: Global, talk: &Talk, taken: usize, whole: usize) {
+fn write_short<R: Wait + Clock + Abort>(
+    rt: &R,
+    alloc: Global,
+    talk: &Talk,
+    taken: usize,
+    whole: usize,
+) {
     check_whole(
         rt,
         alloc,
@@ -244,7 +248,7 @@ fn write_short<R: Wait + Abort>(rt: &R, alloc: Global, talk: &Talk, taken: usize
 }
 
 /// Takes a part of an answer at a time.
-fn write_parts<R: Wait + Abort>(rt: &R, alloc: Global, role: Role) {
+fn write_parts<R: Wait + Clock + Abort>(rt: &R, alloc: Global, role: Role) {
     let talk = two_requests(rt, alloc, role);
     write_short(rt, alloc, &talk, 1, 9);
     write_short(rt, alloc, &talk, 2, 9);
@@ -262,7 +266,7 @@ fn short_writes_leave_nothing_out(rt: HostRuntime) {
 }
 
 /// Takes nothing of an answer.
-fn write_nothing<R: Wait + Abort>(rt: &R, alloc: Global, role: Role) {
+fn write_nothing<R: Wait + Clock + Abort>(rt: &R, alloc: Global, role: Role) {
     let talk = two_requests(rt, alloc, role);
     let wanted = Wanted {
         result: Err(LinkFault::Write),
@@ -279,74 +283,28 @@ fn writes_that_take_nothing_fail(rt: HostRuntime) {
     write_nothing(&rt, rt.alloc(), Role::Publisher);
 }
 
-/// Publishes a segment, once a request was made.
-fn publish_after<L: Ledgers, R: Wait + Abort>(
-    rt: &R,
-    alloc: Global,
-    hub: &Hub<L>,
-    asked: &AtomicU64,
-) -> Pass<L> {
-    let mut pass = seat(rt, hub);
-    comes_to(asked, 1);
-    let count = published(rt, alloc, hub, &mut pass, 0, SEGMENT);
-    same_number(rt, "the segment", count, 1);
-    pass
+/// A connection of this role that gives one request a read is ended after so many reads, and its first request got its answer. Read three
+/// times, it comes to its end.
+fn read_few<R: Wait + Clock + Abort>(rt: &R, alloc: Global, role: Role, looks: u64) {
+    let talk = two_requests(rt, alloc, role);
+    let step = talk.bytes.len() / 2;
+    let plan = Plan {
+        step,
+        looks,
+        ..SOUND
+    };
+    let wanted = Wanted {
+        result: Err(LinkFault::Endless),
+        requests: 1,
+        sent: talk.answer(),
+    };
+    check(rt, alloc, &talk, plan, wanted);
+    check_whole(rt, alloc, &talk, Plan { looks: 3, ..plan });
 }
 
-/// Serves a player whose request waits for what is published after it, where so many writes go well.
-fn serve_held<L: Ledgers + Send + Sync, R: Threads + Wait + Abort + Sync>(
-    rt: &R,
-    alloc: Global,
-    blanks: Blanks,
-    writes: usize,
-) -> Served
-    requires names { blanks ≡ L.names }
-    requires channels { L.channels ≡ 1 }
-{
-    let hub: Hub<L> = hub_of_one(rt, alloc, blanks);
-    let mut pass = seat(rt, &hub);
-    let mut wire = Wire::new(alloc, GET_FIRST, Plan { writes, ..SOUND });
-    let clock = Waiting::new(1);
-    let (result, publisher) = thread::join(
-        rt,
-        || serve_link(
-            rt,
-            alloc,
-            Role::Player,
-            &mut wire,
-            &clock,
-            &Open,
-            &Dropped,
-            &hub,
-            &mut pass,
-        ),
-        || publish_after(rt, alloc, &hub, &clock.readings),
-    );
-    let passes = vec![in alloc; pass, publisher].expect(rt, "passes");
-    Served {
-        result,
-        sent: wire.into_sent(),
-        totals: finished(rt, alloc, hub, passes),
-    }
-}
-
-/// A player whose request is held comes to this end, and is sent this, where so many writes go well.
-fn check_held<R: Threads + Wait + Abort + Sync>(
-    rt: &R,
-    alloc: Global,
-    writes: usize,
-    end: Result<u64, LinkFault>,
-    sent: &str,
-) {
-    let found = serve_held::<Brand, R>(rt, alloc, Blanks::new(), writes);
-    same(rt, "the end", name(found.result), name(end));
-    same(rt, "the answer", text_of(&found.sent), sent);
-    same(rt, "the totals", found.totals.as_str(), "1 1 0;");
-}
-
-/// A connection whose request was held isn't held any more, whether or not its answer could be sent.
+/// A connection that is read as often as is allowed is ended. What a player's last read brought isn't looked at.
 #[test]
-fn held_requests_are_spent(rt: HostRuntime) {
-    check_held(&rt, rt.alloc(), 0, Err(LinkFault::Write), "");
-    check_held(&rt, rt.alloc(), 1, Ok(1), ANSWER);
+fn reads_are_counted(rt: HostRuntime) {
+    read_few(&rt, rt.alloc(), Role::Player, 2);
+    read_few(&rt, rt.alloc(), Role::Publisher, 1);
 }

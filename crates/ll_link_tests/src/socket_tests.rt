@@ -15,7 +15,7 @@ use std::process::Abort;
 use std::sync::Wait;
 use std::test::Fail;
 use std::thread::Threads;
-use std::time::Duration;
+use std::time::{Clock, Duration};
 use std::{io, thread};
 
 /// How long a read may take, in seconds.
@@ -61,6 +61,10 @@ impl Link for Socket {
                 Err(Failed)
             }
         }
+    }
+
+    fn gone(&mut self) -> bool {
+        false
     }
 }
 
@@ -166,7 +170,7 @@ fn talk<R: Net<Listener = TcpListener, Stream = TcpStream> + Abort>(
 }
 
 /// Serves those who come in by a door with one worker: its pass, where memory was found.
-fn admit<L: Ledgers + Send + Sync, R: Threads + Wait + Sync>(
+fn admit<L: Ledgers + Send + Sync, R: Threads + Wait + Clock + Sync>(
     rt: &R,
     alloc: Global,
     hub: &Hub<L>,
@@ -180,7 +184,7 @@ fn admit<L: Ledgers + Send + Sync, R: Threads + Wait + Sync>(
 }
 
 /// Serves one publisher and one player: the workers' passes.
-fn serve_both<L: Ledgers + Send + Sync, R: Threads + Wait + Abort + Sync>(
+fn serve_both<L: Ledgers + Send + Sync, R: Threads + Wait + Clock + Abort + Sync>(
     rt: &R,
     alloc: Global,
     hub: &Hub<L>,
@@ -201,7 +205,7 @@ fn serve_both<L: Ledgers + Send + Sync, R: Threads + Wait + Abort + Sync>(
 /// Serves one publisher and one player, while they talk: the totals.
 fn serve_sockets<
     L: Ledgers + Send + Sync,
-    R: Net<Listener = TcpListener, Stream = TcpStream> + Threads + Wait + Abort + Sync,
+    R: Net<Listener = TcpListener, Stream = TcpStream> + Threads + Wait + Clock + Abort + Sync,
 >(
     rt: &R,
     alloc: Global,

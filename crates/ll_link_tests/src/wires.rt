@@ -63,6 +63,10 @@ pub(crate) struct Plan {
     pub(crate) writes: usize,
     /// After how many writes more comes one that takes one byte alone.
     pub(crate) whole: usize,
+    /// How often it is read at most.
+    pub(crate) looks: u64,
+    /// Whether the other end has hung up after its bytes.
+    pub(crate) gone: bool,
 }
 
 /// All bytes at once, and no failure.
@@ -72,6 +76,8 @@ pub(crate) const SOUND: Plan = Plan {
     taken: 100_000,
     writes: 100_000,
     whole: 100_000,
+    looks: u64::MAX,
+    gone: false,
 };
 
 /// A connection on which these bytes come, and which keeps what is sent. It fails once at most.
@@ -147,5 +153,9 @@ impl Link for Wire<'_> {
         buf[..count].copy_from_slice(front);
         self.rest = rest;
         Ok(count)
+    }
+
+    fn gone(&mut self) -> bool {
+        self.plan.gone
     }
 }

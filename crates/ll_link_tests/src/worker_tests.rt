@@ -14,6 +14,7 @@ use std::sync::atomic::{AtomicU64, Ordering};
 use std::sync::{Mutex, Wait};
 use std::thread;
 use std::thread::Threads;
+use std::time::Clock;
 
 /// A connection with one request, whose answer goes into a box. Each write is counted.
 #[derive(Drop)]
@@ -44,6 +45,10 @@ impl<R: Wait> Link for Peer<'_, R> {
         buf[..count].copy_from_slice(front);
         self.rest = rest;
         Ok(count)
+    }
+
+    fn gone(&mut self) -> bool {
+        false
     }
 }
 
@@ -123,7 +128,7 @@ impl Gate for Latch {
 }
 
 /// Serves a connection for each box by so many workers: their passes.
-fn serve_boxes<L: Ledgers + Send + Sync, G: Gate + Sync, R: Threads + Wait + Sync>(
+fn serve_boxes<L: Ledgers + Send + Sync, G: Gate + Sync, R: Threads + Wait + Clock + Sync>(
     rt: &R,
     alloc: Global,
     hub: &Hub<L>,
@@ -176,7 +181,7 @@ fn publish_first<L: Ledgers, R: Wait + Abort>(rt: &R, alloc: Global, hub: &Hub<L
 
 /// Publishes a segment, and serves two connections by two workers while another segment is published. Both are answered, and the first
 /// answer is kept meanwhile: the totals.
-fn serve_by_two<L: Ledgers + Send + Sync, R: Threads + Wait + Abort + Sync>(
+fn serve_by_two<L: Ledgers + Send + Sync, R: Threads + Wait + Clock + Abort + Sync>(
     rt: &R,
     alloc: Global,
     blanks: Blanks,
@@ -208,7 +213,7 @@ fn connections_share_no_worker(rt: HostRuntime) {
 
 /// Publishes a segment, and serves so many connections by so many workers. All their passes come back, and each connection is answered:
 /// the totals.
-fn serve_all<L: Ledgers + Send + Sync, R: Threads + Wait + Abort + Sync>(
+fn serve_all<L: Ledgers + Send + Sync, R: Threads + Wait + Clock + Abort + Sync>(
     rt: &R,
     alloc: Global,
     blanks: Blanks,
@@ -232,7 +237,7 @@ fn serve_all<L: Ledgers + Send + Sync, R: Threads + Wait + Abort + Sync>(
 }
 
 /// So many connections are served by so many workers.
-fn check_all<R: Threads + Wait + Abort + Sync>(
+fn check_all<R: Threads + Wait + Clock + Abort + Sync>(
     rt: &R,
     alloc: Global,
     workers: usize,

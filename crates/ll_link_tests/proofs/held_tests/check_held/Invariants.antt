@@ -1,4 +1,4 @@
-use Rattle.ll_link_tests.proofs.link_tests.check_held.Given as goal
+use Rattle.ll_link_tests.proofs.held_tests.check_held.Given as goal
 
 abbrev pub ghosts-serve_held-L-Named : goal.ghosts-serve_held-L-Named
 ghosts-serve_held-L-Named g a = record { names = a.blanks }
