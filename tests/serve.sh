@@ -137,6 +137,25 @@ hangs_up_while_held() {
     follow whole && is_served
 }
 
+# Players whose requests are held have all workers, and hang up: another is answered long before the 12 seconds of a time-out. Of every second one there
+# are bytes that no one has read.
+gives_workers_back() {
+    local number from
+    start 100 "$cam" || return 1
+    for ((number = 0; number < 100; number++)); do
+        connect "$port" && request "$next" >&"$peer" || return 1
+    done
+    sleep 0.5
+    for ((number = 0; number < 100; number += 2)); do
+        request "$present" >&"${peers[number]}"
+    done
+    from=${EPOCHREALTIME/./}
+    hang_up
+    is_served || return 1
+    [ $((${EPOCHREALTIME/./} - from)) -lt 3000000 ] || { echo "after $((${EPOCHREALTIME/./} - from)) us"; return 1; }
+    publish "$part" 'ok 1' && is_served
+}
+
 # A player asks 20,000 times and reads nothing for a while: the others are served, and in the end it gets every byte.
 reads_slowly() {
     local number writer bytes
@@ -285,7 +304,7 @@ done
 # Kept connections have a worker each; of those that aren't kept, the others come when one is free.
 try five_hundred_at_once 600
 try five_hundred_at_once 16 'Connection: close'
-for name in thousand_held most_channels drips_its_head sends_nothing hangs_up_while_held reads_slowly publisher_cut_off \
+for name in thousand_held most_channels drips_its_head sends_nothing hangs_up_while_held gives_workers_back reads_slowly publisher_cut_off \
     lines_of_publishers files_run_out stops_while_requests_are_held taken_ports; do
     try "$name"
 done

@@ -1,4 +1,6 @@
 //! Sockets as the links of players and publishers.
+use libc::net::{POLLRDHUP, SO_KEEPALIVE, SOL_SOCKET};
+use libc::types::pollfd;
 use ll_command::Fault;
 use ll_device::{Failed, Writer};
 use ll_link::{Link, Role, Source};
@@ -60,6 +62,23 @@ impl Link for Socket {
             }
         }
     }
+
+    /// Whether the peer has ended what it sends, also where bytes that it sent before weren't read, or the connection is broken.
+    fn gone(&mut self) -> bool {
+        let mut asked = [pollfd {
+            fd: self.stream.as_raw_fd(),
+            events: POLLRDHUP,
+            revents: 0,
+        }];
+        self.failed || libc::net::poll(&mut asked, 0) > 0
+    }
+}
+
+/// Has the system look, while nothing comes, whether the peer is there at all. It need not be able to.
+fn keep_alive(stream: &TcpStream) {
+    let on = [1, 0, 0, 0, 0, 0, 0, 0, 0, 0, 0, 0, 0, 0, 0, 0];
+    let fd = stream.as_raw_fd();
+    let _ = unsafe { libc::net::setsockopt(fd, SOL_SOCKET, SO_KEEPALIVE, &on, 4) };
 }
 
 /// Where connections of one role come in.
@@ -101,13 +120,16 @@ impl<'a, R: Net<Listener = TcpListener, Stream = TcpStream>> Door<'a, R> {
         }
     }
 
-    /// The next connection, with its limits set.
+    /// The next connection, with its limits set. One whose limits the system refuses is served without them.
     fn accept(&self) -> std::io::Result<Socket> {
         let (stream, _) = self.listener.accept()?;
-        stream.set_nodelay(true)?;
-        stream.set_write_timeout(Some(Duration::from_secs(LIMIT)))?;
-        if self.role == Role::Player {
-            stream.set_read_timeout(Some(Duration::from_secs(LIMIT)))?;
+        let _ = stream.set_nodelay(true);
+        let _ = stream.set_write_timeout(Some(Duration::from_secs(LIMIT)));
+        match self.role {
+            Role::Player => {
+                let _ = stream.set_read_timeout(Some(Duration::from_secs(LIMIT)));
+            }
+            Role::Publisher => keep_alive(&stream),
         }
         Ok(Socket {
             stream,

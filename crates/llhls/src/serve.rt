@@ -3,10 +3,9 @@ ghost use Rattle.std.specs.Prelude.{◌≡◌, ◌≤◌, ◌^◌, length};
 
 use crate::door::Door;
 use ll_command::Fault;
-use ll_hub::{Blanks, Clock, Hub, HubFault, Ledgers, Pass, RoomFault, Sink};
+use ll_hub::{Blanks, Clock, Hub, HubFault, Ledgers, Pass, Sink};
 use ll_item::Settings;
 use ll_link::{Gate, Role, serve_links};
-use ll_record::ReadingFault;
 use ll_server::{Config, ConfigFault, Records, Workers};
 use std::alloc::Global;
 use std::fs::File;
@@ -202,21 +201,20 @@ impl<
         }
     }
 
-    /// Tells the channels the time. Where the record of one is full, that is handed out and the time told once more.
+    /// Tells the channels the time. One that refuses it, since its record is full or no memory is found, has its record handed out and is
+    /// told once more; if it refuses again, those after it are told all the same.
     fn tell<L: Ledgers>(&self, hub: &Hub<L>) {
         let ms = self.watch.now();
-        for _ in 0..CHANNELS {
-            let Err(
-                HubFault::Room {
-                    channel,
-                    fault: RoomFault::Clock(ReadingFault::RecordFull),
-                },
-            ) = hub.tick(self.rt, ms)
-            else {
+        let (mut first, mut again) = (0, None);
+        for _ in 0..2 * CHANNELS {
+            let Err(HubFault::Room { channel, .. }) = hub.tick_from(self.rt, first, ms) else {
                 return;
             };
-            if hub.rotate_to(self.rt, channel, &self.records).is_err() {
-                return;
+            if again != Some(channel) && hub.rotate_to(self.rt, channel, &self.records).is_ok() {
+                again = Some(channel);
+                first = channel;
+            } else {
+                first = channel.saturating_add(1);
             }
         }
     }
