@@ -1,0 +1,66 @@
+#!/usr/bin/env bash
+# soak.sh [SECONDS [PROGRAM]]: for so long (60 seconds where it isn't given) 64 kept connections ask `llhls serve` (or `PROGRAM serve`) on loopback for the
+# present playlist, while 64 others wait for one part after another, and are connected anew in each tenth of the time. After each tenth it prints the
+# server's resident memory. The last line says whether it still grows: whether it is larger after the last tenth than at half time by more than a
+# hundredth, and 256 KB. The variables of the environment that an allocator looks at reach the server. It judges nothing.
+set -euo pipefail
+export LC_ALL=C
+here=$(cd "$(dirname "${BASH_SOURCE[0]}")" && pwd)
+length=${1:-60}
+program=$(realpath -- "${2:-$("$here/../tests/program.sh")}")
+room=$(mktemp -d)
+server=
+trap '[ -z "$server" ] || kill "$server" 2>/dev/null || true; rm -rf "$room"' EXIT
+"${CC:-cc}" -O2 -Wall -Wextra -Werror -o "$room/load" "$here/load.c"
+
+printf '%s\n' 'listen 127.0.0.1:0' 'publish 127.0.0.1:0' 'workers 256' \
+    'channel cam target=4 part=1000000 skip=24 window=36 renditions=hi first=0 start=0' >"$room/settings"
+: >"$room/log"
+"$program" serve "$room/settings" 2>>"$room/log" &
+server=$!
+publish_port=
+for ((tries = 0; tries < 200; tries++)); do
+    port=$(sed -n 's/^.*: players on .*:\([0-9]*\)$/\1/p' "$room/log")
+    publish_port=$(sed -n 's/^.*: publishers on .*:\([0-9]*\)$/\1/p' "$room/log")
+    if [ -n "$publish_port" ]; then
+        break
+    fi
+    sleep 0.05
+done
+if [ -z "$publish_port" ]; then
+    echo "$program isn't up: $(<"$room/log")" >&2
+    exit 1
+fi
+
+# resident: the server's resident memory in KB.
+resident() {
+    awk '/^VmRSS:/ { print $2 }' "/proc/$server/status"
+}
+
+# wait_for_parts: 64 connections wait for a part, again and again, until `room/stop` is there.
+wait_for_parts() {
+    while [ ! -e "$room/stop" ]; do
+        timeout 60 "$room/load" held "$port" "$publish_port" 64 4 >/dev/null
+    done
+}
+
+echo "at the start: $(resident) KB"
+half=0
+for tenth in 1 2 3 4 5 6 7 8 9 10; do
+    rm -f "$room/stop"
+    wait_for_parts &
+    held=$!
+    answers=$(timeout $((length + 60)) "$room/load" present "$port" 64 "$(awk -v n="$length" 'BEGIN { print n / 10 }')")
+    : >"$room/stop"
+    wait "$held"
+    now=$(resident)
+    echo "after $tenth tenths of $length s: $now KB, ${answers%% *} answers/s"
+    if [ "$tenth" = 5 ]; then
+        half=$now
+    fi
+done
+if [ $((now - half)) -gt $((half / 100 > 256 ? half / 100 : 256)) ]; then
+    echo "it still grows: by $((now - half)) KB since half time"
+else
+    echo "it grows no more: $((now - half)) KB since half time"
+fi
