@@ -5,7 +5,7 @@ use crate::cases::{
     DOOR, NOW, SEGMENT, Stopped, add_one, asked, finished, finished_with, hub_of_one, hub_of_two,
     published, reply, seat, settings,
 };
-use crate::rows::{Row, number, push, same, same_number};
+use crate::rows::{number, push, same, same_number};
 use ll_check::check;
 use ll_directive::read_target;
 use ll_hub::{Blanks, Hub, Ledgers, Pass, Sink};
@@ -18,8 +18,8 @@ use std::marker::Brand;
 use std::process::Abort;
 use std::sync::atomic::{AtomicU64, Ordering};
 use std::sync::{Mutex, Wait};
-use std::thread;
 use std::thread::Threads;
+use std::{str, thread};
 
 /// A sink that counts its chunks, and keeps their bytes one after another.
 #[derive(Drop)]
@@ -219,7 +219,8 @@ fn publish_each<L: Ledgers, R: Wait + Abort>(
 fn check_records<L: Ledgers, R: Wait + Abort>(rt: &R, alloc: Global, hub: &Hub<L>) {
     same_number(rt, "the first record", chunk(rt, hub, 0).entries(), 0);
     let second = chunk(rt, hub, 1);
-    let items = items(rt, alloc, text_of(second.bytes()));
+    let record = str::from_utf8(second.bytes()).expect(rt, "a text");
+    let items = items(rt, alloc, record);
     same(rt, "the second record", items.as_str(), ITEMS);
 }
 
