@@ -3,11 +3,12 @@
 
 mod desk;
 mod fault;
-mod link;
+mod gate;
 mod player;
 mod publisher;
 mod workers;
 
 pub use fault::LinkFault;
-pub use link::{Gate, Link, Role, Source};
+pub use gate::Gate;
+pub use ll_peer::{Link, Role, Source};
 pub use workers::{serve_link, serve_link_within, serve_links};

@@ -6,11 +6,12 @@ ghost use Rattle.ll_link.specs.Faults.{IsTrue};
 
 use crate::desk::Desk;
 use crate::fault::LinkFault;
-use crate::link::{Gate, Link};
+use crate::gate::Gate;
 use crate::workers::PIECE;
 use ll_device::write_all;
 use ll_directive::{TargetFault, Want};
 use ll_hub::{Claim, Clock, HubAsked, HubFault, Ledgers, Pass, RoomFault, Sink, Waited};
+use ll_peer::Link;
 use ll_record::ReadingFault;
 use ll_room::AskFault;
 use ll_session::Session;

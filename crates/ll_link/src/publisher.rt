@@ -6,11 +6,12 @@ ghost use Rattle.ll_link.specs.Faults.{IsTrue};
 
 use crate::desk::Desk;
 use crate::fault::LinkFault;
-use crate::link::{Gate, Link};
+use crate::gate::Gate;
 use crate::workers::PIECE;
 use ll_device::write_all;
 use ll_hub::{HubFault, Ledgers, Pass, RoomFault, Sink};
 use ll_item::{Item, Settings};
+use ll_peer::Link;
 use ll_publish::{Feed, Line, Refusal, reply_text};
 use std::sync::Wait;
 

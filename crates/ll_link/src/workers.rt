@@ -4,10 +4,11 @@ ghost use Rattle.ll_link.specs.Faults.{IsTrue};
 
 use crate::desk::Desk;
 use crate::fault::LinkFault;
-use crate::link::{Gate, Link, Role, Source};
+use crate::gate::Gate;
 use crate::{player, publisher};
 use crossbeam_channel::{Receiver, Sender};
 use ll_hub::{Clock, Hub, HubFault, Ledgers, Pass, Sink};
+use ll_peer::{Link, Role, Source};
 use std::alloc::Global;
 use std::sync::Wait;
 use std::thread::Threads;

@@ -5,7 +5,6 @@
 ghost use Rattle.std.specs.Prelude.{◌≡◌, IfErr};
 ghost use Rattle.ll_replay.specs.declared.outcome.RunFault.{RunFault};
 
-mod door;
 mod serve;
 mod words;
 

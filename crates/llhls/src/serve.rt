@@ -1,12 +1,12 @@
 //! The server.
 ghost use Rattle.std.specs.Prelude.{◌≡◌, ◌≤◌, ◌^◌, length};
 
-use crate::door::Door;
 use ll_command::Fault;
 use ll_hub::{Blanks, Clock, Hub, HubFault, Ledgers, Pass, Sink};
 use ll_item::Settings;
 use ll_link::{Gate, Role, serve_links};
 use ll_server::{Config, ConfigFault, Records, Workers};
+use ll_socket::Door;
 use std::alloc::Global;
 use std::fs::File;
 use std::marker::Brand;
@@ -79,8 +79,12 @@ pub(crate) fn serve<
         Err(ConfigFault::BadLine(line)) => return Err(Fault::BadLine(line)),
         Err(ConfigFault::Memory) => return Err(Fault::Memory),
     };
-    let mut players = Door::open(rt, config.players, Role::Player)?;
-    let mut publishers = Door::open(rt, config.publishers, Role::Publisher)?;
+    let Ok(mut players) = Door::open(rt, config.players, Role::Player) else {
+        return Err(Fault::Listen);
+    };
+    let Ok(mut publishers) = Door::open(rt, config.publishers, Role::Publisher) else {
+        return Err(Fault::Listen);
+    };
     let Ok(start) = Instant::now(rt) else {
         return Err(Fault::Clock);
     };
@@ -124,7 +128,9 @@ fn host<
     requires names { blanks ≡ L.names }
     requires channels { L.channels ≡ length channels.items }
 {
-    let (asked, told) = (players.address()?, publishers.address()?);
+    let (Ok(asked), Ok(told)) = (players.address(), publishers.address()) else {
+        return Err(Fault::Listen);
+    };
     let Ok(hub) = Hub::<L>::new(server.alloc, channels, blanks) else {
         return Err(Fault::Memory);
     };

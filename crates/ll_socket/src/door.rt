@@ -1,9 +1,7 @@
-//! Sockets as the links of players and publishers.
 use libc::net::{POLLRDHUP, SO_KEEPALIVE, SOL_SOCKET};
 use libc::types::pollfd;
-use ll_command::Fault;
 use ll_device::{Failed, Writer};
-use ll_link::{Link, Role, Source};
+use ll_peer::{Link, Role, Source};
 use std::io::{Read, Write};
 use std::net::{Net, SocketAddr, SocketAddrV4, TcpListener, TcpStream};
 use std::os::fd::AsRawFd;
@@ -21,7 +19,7 @@ const PAUSE: u64 = 50;
 
 /// A connection. Once a read or a write has failed, it gives no more bytes and takes all without sending them.
 #[derive(Drop)]
-pub(crate) struct Socket {
+pub struct Socket {
     stream: TcpStream,
     failed: bool,
 }
@@ -83,7 +81,7 @@ fn keep_alive(stream: &TcpStream) {
 
 /// Where connections of one role come in.
 #[derive(Drop)]
-pub(crate) struct Door<'a, R> {
+pub struct Door<'a, R> {
     rt: &'a R,
     role: Role,
     listener: TcpListener,
@@ -91,13 +89,13 @@ pub(crate) struct Door<'a, R> {
 }
 
 impl<'a, R: Net<Listener = TcpListener, Stream = TcpStream>> Door<'a, R> {
-    /// Listens at this address.
-    pub(crate) fn open(rt: &'a R, address: SocketAddrV4, role: Role) -> Result<Door<'a, R>, Fault> {
+    /// Listens at this address. It fails where the system refuses it.
+    pub fn open(rt: &'a R, address: SocketAddrV4, role: Role) -> Result<Door<'a, R>, Failed> {
         let Ok(listener) = TcpListener::bind(rt, address) else {
-            return Err(Fault::Listen);
+            return Err(Failed);
         };
         if libc::net::listen(listener.as_raw_fd(), BACKLOG) != 0 {
-            return Err(Fault::Listen);
+            return Err(Failed);
         }
         Ok(Door {
             rt,
@@ -108,15 +106,15 @@ impl<'a, R: Net<Listener = TcpListener, Stream = TcpStream>> Door<'a, R> {
     }
 
     /// Whose connections come in.
-    pub(crate) fn role(&self) -> Role {
+    pub fn role(&self) -> Role {
         self.role
     }
 
-    /// The address that it listens at.
-    pub(crate) fn address(&self) -> Result<SocketAddr, Fault> {
+    /// The address that it listens at. It fails where the system doesn't tell it.
+    pub fn address(&self) -> Result<SocketAddr, Failed> {
         match self.listener.local_addr() {
             Ok(address) => Ok(address),
-            Err(_) => Err(Fault::Listen),
+            Err(_) => Err(Failed),
         }
     }
 
