@@ -1,5 +1,5 @@
 //! The passes that a hub gives.
-ghost use Rattle.std.specs.Prelude.{◌≡◌, ◌≤◌, IfSome};
+ghost use Rattle.std.specs.Prelude.{◌≡◌, ◌+◌, ◌≤◌, ◌↔◌, IfSome, MatchOption, None};
 ghost use Rattle.ll_ledger.specs.Ledgers.{IsRest, blank};
 
 use crate::ledgers::{ChannelCounts, Ledgers, PASSES, PassCounts};
@@ -20,6 +20,7 @@ impl<L: Ledgers> Seats<L> {
     pub fn new(channels: ChannelCounts<L>, passes: PassCounts<L>) -> Seats<L>
         requires channels { IsRest channels L.channels }
         requires passes { IsRest passes 0 }
+        ensures { result.given ≡ 0 }
     {
         Seats {
             channels,
@@ -28,9 +29,11 @@ impl<L: Ledgers> Seats<L> {
         }
     }
 
-    /// The shares of one more pass, while there are any.
+    /// The shares of one more pass, unless 65,536 were given.
     pub fn take(&mut self) -> Option<PassCounts<L>>
-        ensures { IfSome result (λ c. c ≡ blank 1) }
+        ensures short { (result ≡ None) ↔ (self.old.given ≡ 65536) }
+        ensures seat { IfSome result (λ c. c ≡ blank 1) }
+        ensures counted { MatchOption result (self.new.given ≡ self.old.given) (λ c. self.new.given ≡ self.old.given + 1) }
     {
         if self.given >= PASSES {
             return None;
