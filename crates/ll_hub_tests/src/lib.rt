@@ -13,3 +13,5 @@ mod record_tests;
 mod rows;
 #[cfg(test)]
 mod thread_tests;
+#[cfg(test)]
+mod time_tests;
