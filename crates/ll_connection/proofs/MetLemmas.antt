@@ -1,5 +1,5 @@
 -- Of each connection as many requests wait as its session has wants out, whatever comes to it.
-use Rattle.std.proofs.Common.{◌≡◌, ℕ, zero, suc, ◌+◌, ◌≤◌, ◌==◌, ◌&&◌, ◌||◌, List, [], ◌∷◌, ◌++◌, Bool, true, false, cond, Option, Some, None, is_some, length, length-append, filter, map, if◌then◌else◌, refl, ap, ap₂, ◌∙◌, sym, subst, true≢false, slice_get, arith}
+use Rattle.std.proofs.Common.{◌≡◌, ◌≢◌, ℕ, zero, suc, ◌+◌, ◌≤◌, ◌==◌, ◌&&◌, ◌||◌, List, [], ◌∷◌, ◌++◌, Bool, true, false, cond, Option, Some, None, is_some, length, length-append, filter, map, if◌then◌else◌, refl, ap, ap₂, ◌∙◌, sym, subst, true≢false, slice_get, arith}
 use Rattle.std.proofs.lemmas.Bool.Decides.{nat_tests}
 use Rattle.std.proofs.lemmas.List.Elements.{filter-append}
 use Rattle.ll_channels.specs.Channels.{channel_of_name}
@@ -12,8 +12,9 @@ use Rattle.ll_held.specs.declared.wait.Wait.{Wait}
 use Rattle.ll_item.specs.Settings.{Configuration}
 use Rattle.ll_verdict.specs.Full.{is_full}
 use Rattle.ll_room.specs.Home.{AreDistinct, among}
-use Rattle.ll_session.specs.Past.{overflows}
-use Rattle.ll_session.specs.Talk.{SessionValue, fed, fresh, next_want, pulled, replied}
+use Rattle.ll_session.specs.Past.{next_by, next_entries, overflows}
+use Rattle.ll_session.specs.Requests.{Entry}
+use Rattle.ll_session.specs.Talk.{SessionValue, fed, fresh, next_want, pulled}
 use Rattle.ll_session.proofs.SplitLemmas.{taking-right}
 use Rattle.ll_verdict.specs.Events.{asks}
 use Rattle.ll_verdict.specs.Verdict.{at_once, held}
@@ -29,7 +30,8 @@ use Rattle.ll_connection.proofs.RoomsLaws.{asked-keeps}
 use Rattle.ll_connection.proofs.TurnLemmas.{found, kept_other}
 use Rattle.ll_connection.specs.Met.{AreMatched, outs, waiting_of, wants_out}
 use Rattle.ll_connection.specs.Turn.{Connections, bytes, bytes_to, end, end_of, left, reply, reply_to, session_of, with_session}
-use Rattle.ll_connection.specs.Visit.{Visit, answered_by, arrived, ask_in, asked, came, close_if, first_spoken, hand_in, released, step, step_by}
+use Rattle.ll_connection.specs.Visit.{Luck, Visit, answered_by, arrived, ask_in, asked, came, close_if, enough, first_spoken, hand_all, hand_in, muted_if, put_out, released, step, step_by, step_if}
+use Rattle.ll_connection.specs.Visit as visit
 
 -- ---- how many wait
 
@@ -188,7 +190,7 @@ get-map [] i c h = absurd (none_some c h)
 get-map (d ∷ cs) zero c h = refl
 get-map (d ∷ cs) (suc i) c h = get-map cs i c h
 
-module _ (n m : ℕ) (want : WantValue) (w : World) where
+module _ (n m : ℕ) (want : WantValue) (w : World) (found : Bool) where
   abbrev Adds : World → Option Answer → Type 0
   Adds v a = waiting_of m v.waits ≡ waiting_of m w.waits + (if n == m then unanswered a else 0)
 
@@ -207,14 +209,18 @@ module _ (n m : ℕ) (want : WantValue) (w : World) where
   asked_at i None h = cc
   asked_at i (Some c) h = asked_full i c (is_full (length c.events))
 
-  asked_in : (o : Option (ℕ × Configuration)) → channel_of_name (all_settings w) 0 want.channel ≡ o → Adds (ask_in n want w o).rooms (ask_in n want w o).answer
+  found_or : (i : ℕ) (found : Bool) → is_some (slice_get w.channels i) ≡ true → Adds (visit.ask_at found n i want w).rooms (visit.ask_at found n i want w).answer
+  found_or i true h = asked_at i (slice_get w.channels i) h
+  found_or i false h = no_more (waiting_of m w.waits) (n == m)
+
+  asked_in : (o : Option (ℕ × Configuration)) → channel_of_name (all_settings w) 0 want.channel ≡ o → Adds (ask_in found n want w o).rooms (ask_in found n want w o).answer
   asked_in None e = no_more (waiting_of m w.waits) (n == m)
   asked_in (Some c) e =
       let at = named-within (all_settings w) 0 c.0 want.channel c.1 e in
       let same : at.0 ≡ c.0 = omega (arith, at.1) in
-      asked_at c.0 (slice_get w.channels c.0) (get-map w.channels c.0 c.1 (ap (slice_get (all_settings w)) (sym same) ∙ at.2))
+      found_or c.0 found (get-map w.channels c.0 c.1 (ap (slice_get (all_settings w)) (sym same) ∙ at.2))
 
-  asked_counts : Adds (asked n want w).rooms (asked n want w).answer
+  asked_counts : Adds (asked found n want w).rooms (asked found n want w).answer
   asked_counts = asked_in (channel_of_name (all_settings w) 0 want.channel) refl
 
 -- ---- sessions
@@ -248,8 +254,25 @@ given_out s want e = grind (arith, e)
 pulled_sound : (s : SessionValue) → IsSound s → IsSound (pulled s)
 pulled_sound s h e = let right = (taking-right s.unread).1 in grind (arith, h, e, right)
 
-pub replied_out : (s : SessionValue) (a : Answer) → (replied s a).out ≡ None
-replied_out s a = grind arith
+pub replied_out : (found : Bool) (s : SessionValue) (a : Answer) → (put_out found s a).out ≡ None
+replied_out found s a = grind arith
+
+muted_sound : (es : List Entry) (s : SessionValue) → IsSound s → IsSound (muted_if es s)
+muted_sound [] s h = h
+muted_sound (e ∷ es) s h = λ shut. refl
+
+-- where anything can be taken no want is out
+muted_out : (es : List Entry) (s : SessionValue) → (es ≢ [] → s.out ≡ None) → (muted_if es s).out ≡ s.out
+muted_out [] s h = refl
+muted_out (e ∷ es) s h = sym (h (λ q. cc))
+
+pub taken_none : (s : SessionValue) → next_entries s ≢ [] → s.out ≡ None
+taken_none s some = by s.shut s.out some
+  where
+    by : (shut : Bool) (out : Option Bool) → next_by shut out s.unread ≢ [] → out ≡ None
+    by true out some = absurd (some refl)
+    by false None some = refl
+    by false (Some keep) some = absurd (some refl)
 
 -- ---- visits
 
@@ -285,66 +308,80 @@ module _ (n : ℕ) (others : ℕ → ℕ) where
   pub came-met : (piece : List ℕ) (v : Visit) → IsMet n others v → IsMet n others (came n piece v)
   came-met piece v h = came_by piece v (overflows v.session piece) refl h
 
-  abbrev rooms_after : WantValue → Visit → World
-  rooms_after want v = (asked n want v.rooms).rooms
+  abbrev rooms_after : Bool → WantValue → Visit → World
+  rooms_after asks want v = (asked asks n want v.rooms).rooms
 
-  answered_by-met : (want : WantValue) (v : Visit) (a : Option Answer) → next_want v.session ≡ Some want → (asked n want v.rooms).answer ≡ a → IsMet n others v
-      → IsMet n others (answered_by n (pulled v.session) (asked n want v.rooms).rooms a)
-  answered_by-met want v a e is h = by a is
+  answered_by-met : (asks found : Bool) (want : WantValue) (v : Visit) (a : Option Answer) → next_want v.session ≡ Some want → (asked asks n want v.rooms).answer ≡ a → IsMet n others v
+      → IsMet n others (answered_by found n (pulled v.session) (asked asks n want v.rooms).rooms a)
+  answered_by-met asks found want v a e is h = by a is
     where
       nothing : waiting_of n v.rooms.waits ≡ 0
       nothing = h.own ∙ ap outs (given_none v.session want e)
 
-      so_many : (a : Option Answer) → (asked n want v.rooms).answer ≡ a → waiting_of n (rooms_after want v).waits ≡ unanswered a
+      so_many : (a : Option Answer) → (asked asks n want v.rooms).answer ≡ a → waiting_of n (rooms_after asks want v).waits ≡ unanswered a
       so_many a is =
-          let counts : waiting_of n (rooms_after want v).waits ≡ waiting_of n v.rooms.waits + (if n == n then unanswered a else 0) =
-          asked_counts n n want v.rooms ∙ ap (λ a. waiting_of n v.rooms.waits + (if n == n then unanswered a else 0)) is in
-          let mine : waiting_of n (rooms_after want v).waits ≡ waiting_of n v.rooms.waits + unanswered a =
+          let counts : waiting_of n (rooms_after asks want v).waits ≡ waiting_of n v.rooms.waits + (if n == n then unanswered a else 0) =
+          asked_counts n n want v.rooms asks ∙ ap (λ a. waiting_of n v.rooms.waits + (if n == n then unanswered a else 0)) is in
+          let mine : waiting_of n (rooms_after asks want v).waits ≡ waiting_of n v.rooms.waits + unanswered a =
           counts ∙ ap (λ b. waiting_of n v.rooms.waits + (if b then unanswered a else 0)) (same_test n) in
           omega (arith, mine, nothing)
 
-      others_same : (m : ℕ) → (n == m) ≡ false → waiting_of m (rooms_after want v).waits ≡ others m
+      others_same : (m : ℕ) → (n == m) ≡ false → waiting_of m (rooms_after asks want v).waits ≡ others m
       others_same m f =
-          let counts : waiting_of m (rooms_after want v).waits ≡ waiting_of m v.rooms.waits + 0 =
-          asked_counts n m want v.rooms ∙ ap (λ b. waiting_of m v.rooms.waits + (if b then unanswered (asked n want v.rooms).answer else 0)) f in
+          let counts : waiting_of m (rooms_after asks want v).waits ≡ waiting_of m v.rooms.waits + 0 =
+          asked_counts n m want v.rooms asks ∙ ap (λ b. waiting_of m v.rooms.waits + (if b then unanswered (asked asks n want v.rooms).answer else 0)) f in
           omega (arith, counts, h.other m f)
 
-      tied : IsOpen (rooms_after want v)
-      tied = asked-keeps IsOpen ask_keeps close_keeps n want v.rooms h.rooms
+      tied : IsOpen (rooms_after asks want v)
+      tied = asked-keeps IsOpen ask_keeps close_keeps asks n want v.rooms h.rooms
 
-      by : (a : Option Answer) → (asked n want v.rooms).answer ≡ a → IsMet n others (answered_by n (pulled v.session) (rooms_after want v) a)
+      by : (a : Option Answer) → (asked asks n want v.rooms).answer ≡ a → IsMet n others (answered_by found n (pulled v.session) (rooms_after asks want v) a)
       by (Some x) is = record {
         rooms = tied;
-        own = so_many (Some x) is ∙ ap outs (sym (replied_out (pulled v.session) x));
+        own = so_many (Some x) is ∙ ap outs (sym (replied_out found (pulled v.session) x));
         other = others_same;
-        sound = λ shut. replied_out (pulled v.session) x;
+        sound = λ shut. replied_out found (pulled v.session) x;
       }
       by None is =
-          came-met [] (record { session = pulled v.session; rooms = rooms_after want v })
+          came-met [] (record { session = pulled v.session; rooms = rooms_after asks want v })
           (record { rooms = tied; own = so_many None is ∙ sym (given_out v.session want e); other = others_same; sound = pulled_sound v.session h.sound })
 
-  step_by-met : (v : Visit) (o : Option WantValue) → next_want v.session ≡ o → IsMet n others v → IsMet n others (step_by n (record v { session = pulled v.session }) o)
-  step_by-met v None e h = record {
+  step_by-met : (luck : Luck) (v : Visit) (o : Option WantValue) → next_want v.session ≡ o → IsMet n others v
+      → IsMet n others (step_by luck n (record v { session = pulled v.session }) o)
+  step_by-met luck v None e h = record {
     rooms = h.rooms;
     own = h.own ∙ ap outs (sym (pulled_none v.session e));
     other = h.other;
     sound = pulled_sound v.session h.sound;
   }
-  step_by-met v (Some want) e h = answered_by-met want v (asked n want v.rooms).answer e refl h
+  step_by-met luck v (Some want) e h = answered_by-met luck.asks luck.answers want v (asked luck.asks n want v.rooms).answer e refl h
 
-  pub step-met : (v : Visit) → IsMet n others v → IsMet n others (step n v)
-  step-met v h = step_by-met v (next_want v.session) refl h
+  step_if-met : (takes : Bool) (luck : Luck) (v : Visit) → IsMet n others v → IsMet n others (step_if takes luck n v)
+  step_if-met true luck v h = step_by-met luck v (next_want v.session) refl h
+  step_if-met false luck v h = record {
+    rooms = h.rooms;
+    own = h.own ∙ ap outs (sym (muted_out (next_entries v.session) v.session (taken_none v.session)));
+    other = h.other;
+    sound = muted_sound (next_entries v.session) v.session h.sound;
+  }
 
-  steps-met : (k : ℕ) (v : Visit) → IsMet n others v → IsMet n others (repeat (step n) k v)
+  pub step-met : (luck : Luck) (v : Visit) → IsMet n others v → IsMet n others (step luck n v)
+  step-met luck v h = step_if-met luck.takes luck v h
+
+  steps-met : (k : ℕ) (v : Visit) → IsMet n others v → IsMet n others (repeat (step enough n) k v)
   steps-met zero v h = h
-  steps-met (suc k) v h = step-met (repeat (step n) k v) (steps-met k v h)
+  steps-met (suc k) v h = step-met enough (repeat (step enough n) k v) (steps-met k v h)
 
-  pub hand_in-met : (v : Visit) → IsMet n others v → IsMet n others (hand_in n v)
-  unfolding hand_in
-  hand_in-met v h = steps-met (length v.session.unread) v h
+  hand_all-met : (v : Visit) → IsMet n others v → IsMet n others (hand_all n v)
+  unfolding hand_all
+  hand_all-met v h = steps-met (length v.session.unread) v h
 
-  pub arrived-met : (piece : List ℕ) (v : Visit) → IsMet n others v → IsMet n others (arrived n piece v)
-  arrived-met piece v h = hand_in-met (came n piece v) (came-met piece v h)
+  pub hand_in-met : (lucks : List Luck) (v : Visit) → IsMet n others v → IsMet n others (hand_in lucks n v)
+  hand_in-met [] v h = hand_all-met v h
+  hand_in-met (luck ∷ lucks) v h = hand_in-met lucks (step luck n v) (step-met luck v h)
+
+  pub arrived-met : (lucks : List Luck) (piece : List ℕ) (v : Visit) → IsMet n others v → IsMet n others (arrived lucks n piece v)
+  arrived-met lucks piece v h = hand_in-met lucks (came n piece v) (came-met piece v h)
 
 -- ---- all connections
 
@@ -386,20 +423,20 @@ turn-met n all v w before h = record {
     goes m t false f e = before.going m t (sym (kept_other n m (left v.session) all f) ∙ e)
 
 -- bytes came
-pub bytes-met : (n : ℕ) (piece : List ℕ) (all : Connections) (w : World) → AreMet w all → AreMet (bytes n piece all w).rooms (bytes n piece all w).connections
-bytes-met n piece all w h = by (session_of n all) refl
+pub bytes-met : (lucks : List Luck) (n : ℕ) (piece : List ℕ) (all : Connections) (w : World) → AreMet w all → AreMet (bytes lucks n piece all w).rooms (bytes lucks n piece all w).connections
+bytes-met lucks n piece all w h = by (session_of n all) refl
   where
-    by : (o : Option (Option SessionValue)) → session_of n all ≡ o → AreMet (bytes_to n piece all w o).rooms (bytes_to n piece all w o).connections
+    by : (o : Option (Option SessionValue)) → session_of n all ≡ o → AreMet (bytes_to lucks n piece all w o).rooms (bytes_to lucks n piece all w o).connections
     by None e =
         let v : Visit = record { session = fresh; rooms = w } in
-        turn-met n all (arrived n piece v) w h
-        (arrived-met n (λ m. wants_out (session_of m all)) piece v
+        turn-met n all (arrived lucks n piece v) w h
+        (arrived-met n (λ m. wants_out (session_of m all)) lucks piece v
         (record { rooms = h.rooms; own = h.matched n ∙ ap wants_out e; other = λ m f. h.matched m; sound = λ shut. refl }))
     by (Some None) e = h
     by (Some (Some s)) e =
         let v : Visit = record { session = s; rooms = w } in
-        turn-met n all (arrived n piece v) w h
-        (arrived-met n (λ m. wants_out (session_of m all)) piece v
+        turn-met n all (arrived lucks n piece v) w h
+        (arrived-met n (λ m. wants_out (session_of m all)) lucks piece v
         (record { rooms = h.rooms; own = h.matched n ∙ ap wants_out e; other = λ m f. h.matched m; sound = λ shut. absurd (true≢false (sym shut ∙ h.going n s e)) }))
 
 -- a connection ended
@@ -448,17 +485,22 @@ has_out n all k h = by (session_of n all) refl h
     by (Some None) e h = absurd (omega (arith, h))
     by (Some (Some s)) e h = record { session = s; there = e; is_out = out s.out h }
 
+-- the reply is put out, or no memory is found for it; then its next requests are made
+released-met : (lucks : List Luck) (n : ℕ) (others : ℕ → ℕ) (a : Reply) (s : SessionValue) (v : World) → ((found : Bool) → IsMet n others (record { session = put_out found s (player.Reply a); rooms = v }))
+    → IsMet n others (released lucks n a (record { session = s; rooms = v }))
+released-met [] n others a s v h = hand_in-met n others [] (record { session = put_out true s (player.Reply a); rooms = v }) (h true)
+released-met (luck ∷ lucks) n others a s v h = hand_in-met n others lucks (record { session = put_out luck.answers s (player.Reply a); rooms = v }) (h luck.answers)
+
 -- A request's reply goes to its connection, of which then no request waits in these rooms.
-pub reply-met : (n : ℕ) (a : Reply) (all : Connections) (w v : World) → AreMet w all → IsOpen v → waiting_of n v.waits ≡ 0
+pub reply-met : (lucks : List Luck) (n : ℕ) (a : Reply) (all : Connections) (w v : World) → AreMet w all → IsOpen v → waiting_of n v.waits ≡ 0
     → ((m : ℕ) → (n == m) ≡ false → waiting_of m v.waits ≡ waiting_of m w.waits) → HasOut n all
-    → AreMet (reply n a all v).rooms (reply n a all v).connections
-reply-met n a all w v h tied none same has =
-    subst (λ o. AreMet (reply_to n a all v o).rooms (reply_to n a all v o).connections) (sym has.there)
-    (turn-met n all (released n a (record { session = has.session; rooms = v })) w h
-    (hand_in-met n (λ m. wants_out (session_of m all)) (record { session = replied has.session (player.Reply a); rooms = v })
-    (record {
+    → AreMet (reply lucks n a all v).rooms (reply lucks n a all v).connections
+reply-met lucks n a all w v h tied none same has =
+    subst (λ o. AreMet (reply_to lucks n a all v o).rooms (reply_to lucks n a all v o).connections) (sym has.there)
+    (turn-met n all (released lucks n a (record { session = has.session; rooms = v })) w h
+    (released-met lucks n (λ m. wants_out (session_of m all)) a has.session v (λ found. record {
       rooms = tied;
-      own = none ∙ ap outs (sym (replied_out has.session (player.Reply a)));
+      own = none ∙ ap outs (sym (replied_out found has.session (player.Reply a)));
       other = λ m f. same m f ∙ h.matched m;
-      sound = λ shut. replied_out has.session (player.Reply a);
+      sound = λ shut. replied_out found has.session (player.Reply a);
     })))

@@ -1,32 +1,50 @@
 -- One connection: a request that is made, a step, and the answers that are written.
-use Rattle.std.proofs.Common.{◌≡◌, ℕ, ◌+◌, List, [], ◌∷◌, ◌++◌, Option, Some, None, ap, ◌∙◌, sym, subst, arith, min, length, length-append, take, drop, append_assoc, append-nil}
+use Rattle.std.proofs.Common.{◌≡◌, ◌≢◌, ℕ, ◌+◌, List, [], ◌∷◌, ◌++◌, Option, Bool, Some, None, true, false, refl, ap, ◌∙◌, sym, subst, arith, min, length, length-append, take, drop, append_assoc, append-nil}
 use Rattle.std.specs.Prelude.{flat_map}
 use Rattle.std.specs.List.{concat}
 use Rattle.std.proofs.lemmas.Grind.{flat_map-append}
 use Rattle.std.proofs.Math.Seq.{take-append_seam}
 use Rattle.ll_directive.specs.Targets.{WantValue}
+use Rattle.ll_directive.specs.declared.fault.TargetFault.TheVariants.{NotFound}
 use Rattle.ll_held.specs.declared.owner.Owner.{Owner}
 use Rattle.ll_held.specs.declared.owner.Owner.TheVariants.{Connection}
 use Rattle.ll_item.specs.Settings.{Configuration}
 use Rattle.ll_script.specs.Answers.{sent_line}
 use Rattle.ll_channels.specs.Channels.{channel_of_name}
 use Rattle.ll_session.specs.Output.{first_length}
-use Rattle.ll_session.specs.Talk.{SessionValue, fed, next_want, pulled}
+use Rattle.ll_session.specs.Past.{next_entries}
+use Rattle.ll_session.specs.Requests.{Entry}
+use Rattle.ll_session.specs.Talk.{SessionValue, fed, muted, next_want, pulled}
+use Rattle.ll_wire.specs.declared.answer.Answer.{Answer}
+use Rattle.ll_wire.specs.declared.answer.Answer.TheVariants as player
+use Rattle.ll_wire.specs.declared.answer.Unavailable.TheVariants.{Memory}
 use Rattle.ll_world.proofs.SettingsLaws.{ask-keeps, close-keeps}
 use Rattle.ll_world.specs.Kept.{Kept, Leads, answers_of, kept_world}
 use Rattle.ll_world.specs.World.{World, all_settings, ask, close, count_end, silent}
 use Rattle.ll_world.specs.declared.answer.Answer as rooms
 use Rattle.ll_connection.proofs.RoomsLaws.{came-keeps, step-keeps}
-use Rattle.ll_connection.proofs.StepLemmas.{hand_in-prefixed, hand_in-step, hand_in-still, prefixed, still}
+use Rattle.ll_connection.proofs.StepLemmas.{hand_all-still, hand_in-prefixed, prefixed, still_any, still_shut}
 use Rattle.ll_connection.specs.Stands.{AreTold, IsToldVisit, IsVisit, IsStill}
-use Rattle.ll_connection.specs.Visit.{Visit, asked, came, first_spoken, hand_in, step}
+use Rattle.ll_connection.specs.Visit.{Luck, Visit, asked, came, enough, first_spoken, hand_all, hand_in, muted_if, put_out, step}
 use Rattle.ll_connection.specs.declared.sent.Sent.{Sent}
 
 -- what the rooms answered to a request, and kept
 pub is_asked : (n : ℕ) (want : WantValue) (w : World) (settings : List Configuration) (place : ℕ) (c : Configuration) (k : Kept) (said : Option rooms.Answer)
     → settings ≡ all_settings w → channel_of_name settings 0 want.channel ≡ Some (place, c) → Leads k said (silent w) (ask (Connection n) place want (silent w))
-    → (k ≡ kept_world (asked n want w).rooms) × (first_spoken (answers_of said) ≡ (asked n want w).answer)
+    → (k ≡ kept_world (asked true n want w).rooms) × (first_spoken (answers_of said) ≡ (asked true n want w).answer)
 is_asked n want w settings place c k said e found l = rw (← e, found) (l.stands, ap first_spoken (sym l.answers))
+
+-- it names no channel
+pub is_unknown : (n : ℕ) (want : WantValue) (w : World) (settings : List Configuration) (k : Kept) → settings ≡ all_settings w
+    → channel_of_name settings 0 want.channel ≡ None → k ≡ kept_world w
+    → (k ≡ kept_world (asked true n want w).rooms) × (Some (player.Target NotFound) ≡ (asked true n want w).answer)
+is_unknown n want w settings k e none r = rw (← e, none) (r, refl)
+
+-- no memory was found for it
+pub is_starved : (n : ℕ) (want : WantValue) (w : World) (settings : List Configuration) (place : ℕ) (c : Configuration) (k : Kept)
+    → settings ≡ all_settings w → channel_of_name settings 0 want.channel ≡ Some (place, c) → k ≡ kept_world w
+    → (k ≡ kept_world (asked false n want w).rooms) × (Some (player.Unavailable Memory) ≡ (asked false n want w).answer)
+is_starved n want w settings place c k e found r = rw (← e, found) (r, refl)
 
 -- ---- the settings of all channels stay
 
@@ -42,21 +60,55 @@ closes settings w o e = e ∙ sym (close-keeps w o)
 pub came_has : (settings : List Configuration) (n : ℕ) (piece : List ℕ) (v : Visit) → settings ≡ all_settings v.rooms → settings ≡ all_settings (came n piece v).rooms
 came_has settings n piece v e = came-keeps (Has settings) (asks settings) (closes settings) n piece v e
 
-step_has : (settings : List Configuration) (n : ℕ) (v : Visit) → settings ≡ all_settings v.rooms → settings ≡ all_settings (step n v).rooms
-step_has settings n v e = step-keeps (Has settings) (asks settings) (closes settings) n v e
+step_has : (settings : List Configuration) (luck : Luck) (n : ℕ) (v : Visit) → settings ≡ all_settings v.rooms → settings ≡ all_settings (step luck n v).rooms
+step_has settings luck n v e = step-keeps (Has settings) (asks settings) (closes settings) luck n v e
 
 -- ---- after which nothing more is handed in
 
 -- a want waits
 pub waits_still : (n : ℕ) (s after : SessionValue) (want : WantValue) → next_want s ≡ Some want → after ≡ fed (pulled s) [] → IsStill n after
-waits_still n s after want e is w = grind arith
+waits_still n s after want e is w luck = grind arith
 
 -- no want is given
 pub none_still : (n : ℕ) (s after : SessionValue) → next_want s ≡ None → after ≡ pulled s → IsStill n after
-none_still n s after e is w =
+none_still n s after e is w luck =
     let v : Visit = record { session = s; rooms = w } in
-    let here : step n v ≡ record { session = after; rooms = w } = rw (is, e) in
-    subst (λ (u : Visit). step n u ≡ u) here (still n v e)
+    let here : step enough n v ≡ record { session = after; rooms = w } = rw (is, e) in
+    subst (λ (u : Visit). step luck n u ≡ u) here (still_any n luck v e)
+
+-- it has shut
+pub shut_still : (n : ℕ) (s : SessionValue) → s.shut ≡ true → IsStill n s
+shut_still n s e w luck = still_shut n luck (record { session = s; rooms = w }) e
+
+-- ---- one step, with its luck
+
+muted_some : (es : List Entry) (s : SessionValue) → es ≢ [] → muted_if es s ≡ muted s
+muted_some [] s some = absurd (some refl)
+muted_some (e ∷ es) s some = refl
+
+module _ (n : ℕ) (s after : SessionValue) (w : World) (k : Kept) where
+  abbrev at : Visit
+  at = record { session = s; rooms = w }
+
+  -- no memory is found to take requests
+  pub step_muted : next_entries s ≢ [] → after ≡ muted s → k ≡ kept_world w → (luck : Luck) × IsVisit after k (step luck n at)
+  step_muted some e r = (record { takes = false; asks = true; answers = true }, record { session = e ∙ sym (muted_some (next_entries s) s some); rooms = r })
+
+  -- no want is there
+  pub step_none : next_want s ≡ None → after ≡ pulled s → k ≡ kept_world w → (luck : Luck) × IsVisit after k (step luck n at)
+  step_none is e r = (enough, rw is (record { session = e; rooms = r }))
+
+  module _ (want : WantValue) (is : next_want s ≡ Some want) where
+    -- it is answered, or no memory is found for its answer
+    pub step_answered : (answer : Answer) (asks found : Bool) → k ≡ kept_world (asked asks n want w).rooms → Some answer ≡ (asked asks n want w).answer
+        → after ≡ put_out found (pulled s) answer → (luck : Luck) × IsVisit after k (step luck n at)
+    step_answered answer asks found r said e =
+        (record { takes = true; asks = asks; answers = found }, rw (is, ← said) (record { session = e; rooms = r }))
+
+    -- it waits
+    pub step_held : (asks : Bool) → None ≡ (asked asks n want w).answer → IsVisit after k (came n [] (record { session = pulled s; rooms = (asked asks n want w).rooms }))
+        → (luck : Luck) × IsVisit after k (step luck n at)
+    step_held asks said i = (record { takes = true; asks = asks; answers = true }, rw (is, ← said) i)
 
 -- ---- answers are written
 
@@ -97,8 +149,10 @@ pub record GoesOn (n : ℕ) (channels : List Configuration) (before now : Sent) 
   pub world : World
   pub stands : kept ≡ kept_world world
   pub settings : channels ≡ all_settings world
-  pub rest : (after : Sent) (s : SessionValue) (k : Kept) → IsToldVisit n now after s k (hand_in n (record { session = session; rooms = world }))
-      → IsToldVisit n before after s k (hand_in n v)
+  -- the luck so far
+  pub lucks : List Luck
+  pub rest : (after : Sent) (s : SessionValue) (k : Kept) (more : List Luck) → IsToldVisit n now after s k (hand_in more n (record { session = session; rooms = world }))
+      → IsToldVisit n before after s k (hand_in (lucks ++ more) n v)
 
 module _ (n : ℕ) where
   told_first : (answers : List (List ℕ)) (before now after : Sent) (s : SessionValue) (k : Kept) (u : Visit) → AreTold n answers before now
@@ -107,32 +161,34 @@ module _ (n : ℕ) where
       record { session = h.session; rooms = h.rooms; told = told_then n answers u.session.answers before now after t h.told }
 
   -- the answers so far are in front of those that follow
-  in_front : (s : SessionValue) (w : World) (v : Visit) → step n v ≡ record { session = s; rooms = w }
-      → hand_in n v ≡ prefixed s.answers (hand_in n (record { session = record s { answers = [] }; rooms = w }))
-  in_front s w v e =
-      hand_in-step n v
-      ∙ ap (hand_in n) (e ∙ ap (λ (x : List (List ℕ)). record { session = record s { answers = x }; rooms = w }) (sym (append-nil s.answers)))
-      ∙ hand_in-prefixed n s.answers (record { session = record s { answers = [] }; rooms = w })
+  in_front : (luck : Luck) (more : List Luck) (s : SessionValue) (w : World) (v : Visit) → step luck n v ≡ record { session = s; rooms = w }
+      → hand_in (luck ∷ more) n v ≡ prefixed s.answers (hand_in more n (record { session = record s { answers = [] }; rooms = w }))
+  in_front luck more s w v e =
+      ap (hand_in more n) (e ∙ ap (λ (x : List (List ℕ)). record { session = record s { answers = x }; rooms = w }) (sym (append-nil s.answers)))
+      ∙ hand_in-prefixed n more s.answers (record { session = record s { answers = [] }; rooms = w })
 
-  module _ (settings : List Configuration) (before now next : Sent) (s s1 s2 : SessionValue) (k k1 : Kept) (v : Visit) (g : GoesOn n settings before now s k v) where
+  module _ (settings : List Configuration) (before now next : Sent) (s s1 s2 : SessionValue) (k k1 : Kept) (v : Visit) (luck : Luck) (g : GoesOn n settings before now s k v) where
     abbrev here : Visit
     here = record { session = s; rooms = g.world }
 
     -- a step is made, and its answers are written
-    pub goes_on : IsVisit s1 k1 (step n here) → AreTold n s1.answers now next → s2 ≡ record s1 { answers = [] } → GoesOn n settings before next s2 k1 v
+    pub goes_on : IsVisit s1 k1 (step luck n here) → AreTold n s1.answers now next → s2 ≡ record s1 { answers = [] } → GoesOn n settings before next s2 k1 v
     goes_on i t e = record {
-      world = (step n here).rooms;
+      world = (step luck n here).rooms;
       stands = i.rooms;
-      settings = step_has settings n here g.settings;
-      rest = λ after x y h. g.rest after x y
-          (rw (in_front s1 (step n here).rooms here (rw i.session), ← e)
-          (told_first s1.answers now next after x y (hand_in n (record { session = s2; rooms = (step n here).rooms })) t h));
+      settings = step_has settings luck n here g.settings;
+      lucks = g.lucks ++ luck ∷ [];
+      rest = λ after x y more h.
+          subst (λ (l : List Luck). IsToldVisit n before after x y (hand_in l n v)) (sym (append_assoc g.lucks (luck ∷ []) more))
+          (g.rest after x y (luck ∷ more)
+          (rw (in_front luck more s1 (step luck n here).rooms here (rw i.session), ← e)
+          (told_first s1.answers now next after x y (hand_in more n (record { session = s2; rooms = (step luck n here).rooms })) t h)));
     }
 
     -- it was the last one
-    pub goes_last : IsVisit s1 k1 (step n here) → IsStill n s1 → AreTold n s1.answers now next → s2 ≡ record s1 { answers = [] }
-        → IsToldVisit n before next s2 k1 (hand_in n v)
+    pub goes_last : IsVisit s1 k1 (step luck n here) → IsStill n s1 → AreTold n s1.answers now next → s2 ≡ record s1 { answers = [] }
+        → (lucks : List Luck) × IsToldVisit n before next s2 k1 (hand_in lucks n v)
     goes_last i still t e =
-        let last : Visit = record { session = s1; rooms = (step n here).rooms } in
-        let all : hand_in n here ≡ last = hand_in-step n here ∙ ap (hand_in n) (rw i.session) ∙ hand_in-still n last (still last.rooms) in
-        g.rest next s2 k1 (rw all (record { session = e; rooms = i.rooms; told = t }))
+        let last : Visit = record { session = s1; rooms = (step luck n here).rooms } in
+        let all : hand_in (luck ∷ []) n here ≡ last = ap (hand_all n) (rw i.session) ∙ hand_all-still n last (still last.rooms enough) in
+        (g.lucks ++ luck ∷ [], g.rest next s2 k1 (luck ∷ []) (rw all (record { session = e; rooms = i.rooms; told = t })))

@@ -1,10 +1,10 @@
 -- What a step makes of a visit, and that as many steps as there are bytes are enough. The facts for other files:
 --   is_taken                            what is taken from some bytes and from more, and what is left
---   prefixed; came-, hand_in-prefixed   answers that were there before stay in front
+--   prefixed; came-, hand_all-prefixed   answers that were there before stay in front
 --   still-shut, still                   where no want is given, a further step changes nothing
 --   fewer                               where a want is given, fewer bytes are left
---   hand_in-is, -step, -still           steps that are made before all others, or that change nothing
-use Rattle.std.proofs.Common.{◌≡◌, ℕ, zero, suc, ◌+◌, ◌<◌, ◌≤◌, ◌⊎◌, inl, inr, List, [], ◌++◌, Bool, true, false, Option, Some, None, refl, ap, ◌∙◌, sym, subst, arith, length, drop, append_assoc, append-nil}
+--   hand_all-is, -step, -still           steps that are made before all others, or that change nothing
+use Rattle.std.proofs.Common.{◌≡◌, ℕ, zero, suc, ◌+◌, ◌<◌, ◌≤◌, ◌⊎◌, inl, inr, List, [], ◌∷◌, ◌++◌, Bool, true, false, Option, Some, None, refl, ap, ◌∙◌, sym, subst, arith, length, drop, append_assoc, append-nil, fold}
 use Rattle.std.proofs.lemmas.List.{drop-append-le, nil_from_length}
 use Rattle.ll_directive.specs.Targets.{WantValue}
 use Rattle.ll_session.specs.Requests.{wanted}
@@ -15,7 +15,7 @@ use Rattle.ll_wire.specs.Heads.{HeadValue, Unfinished, Whole, Fault, head_of}
 use Rattle.ll_wire.specs.declared.answer.Answer.{Answer}
 use Rattle.ll_wire.proofs.HeadLemmas.{nothing_there, whole-within}
 use Rattle.ll_world.specs.World.{World, repeat}
-use Rattle.ll_connection.specs.Visit.{Visit, answered_by, asked, came, hand_in, step}
+use Rattle.ll_connection.specs.Visit.{Luck, Visit, answered_by, asked, came, enough, hand_all, hand_in, put_out, step}
 
 -- ---- what is taken
 
@@ -67,6 +67,9 @@ is_taken bytes = taken_in (length bytes + 1) bytes (omega arith)
 pub fewer : (s : SessionValue) (want : WantValue) (a : Answer) → next_want s ≡ Some want → length (replied (pulled s) a).unread < length s.unread
 fewer s want a e = grind (arith, (is_taken s.unread).shortens)
 
+pub fewer_out : (s : SessionValue) (want : WantValue) (found : Bool) (a : Answer) → next_want s ≡ Some want → length (put_out found (pulled s) a).unread < length s.unread
+fewer_out s want found a e = grind (arith, (is_taken s.unread).shortens)
+
 -- these answers before those of a visit's session
 abbrev pub prefixed : List (List ℕ) → Visit → Visit
 prefixed before v = record v { session = record v.session { answers = before ++ v.session.answers } }
@@ -77,92 +80,106 @@ module _ (n : ℕ) where
   pub came-prefixed : (before : List (List ℕ)) (piece : List ℕ) (v : Visit) → came n piece (prefixed before v) ≡ prefixed before (came n piece v)
   came-prefixed before piece v = grind (arith, append_assoc {A = List ℕ})
 
-  step-prefixed : (before : List (List ℕ)) (v : Visit) → step n (prefixed before v) ≡ prefixed before (step n v)
-  step-prefixed before v = grind (arith, append_assoc {A = List ℕ})
+  pub step-prefixed : (luck : Luck) (before : List (List ℕ)) (v : Visit) → step luck n (prefixed before v) ≡ prefixed before (step luck n v)
+  step-prefixed luck before v = grind (arith, append_assoc {A = List ℕ})
 
-  steps-prefixed : (before : List (List ℕ)) (k : ℕ) (v : Visit) → repeat (step n) k (prefixed before v) ≡ prefixed before (repeat (step n) k v)
+  pub all-prefixed : (lucks : List Luck) (before : List (List ℕ)) (v : Visit)
+      → fold (λ u luck. step luck n u) (prefixed before v) lucks ≡ prefixed before (fold (λ u luck. step luck n u) v lucks)
+  all-prefixed [] before v = refl
+  all-prefixed (luck ∷ lucks) before v = ap (λ (u : Visit). fold (λ u luck. step luck n u) u lucks) (step-prefixed luck before v) ∙ all-prefixed lucks before (step luck n v)
+
+  steps-prefixed : (before : List (List ℕ)) (k : ℕ) (v : Visit) → repeat (step enough n) k (prefixed before v) ≡ prefixed before (repeat (step enough n) k v)
   steps-prefixed before zero v = refl
-  steps-prefixed before (suc k) v = ap (step n) (steps-prefixed before k v) ∙ step-prefixed before (repeat (step n) k v)
+  steps-prefixed before (suc k) v = ap (step enough n) (steps-prefixed before k v) ∙ step-prefixed enough before (repeat (step enough n) k v)
 
   -- ---- a step after which none is given
 
-  pub still-shut : (v : Visit) → v.session.shut ≡ true → step n v ≡ v
+  pub still-shut : (v : Visit) → v.session.shut ≡ true → step enough n v ≡ v
   still-shut v is = rw is
 
-  pub still : (v : Visit) → next_want v.session ≡ None → step n (step n v) ≡ step n v
+  pub still : (v : Visit) → next_want v.session ≡ None → step enough n (step enough n v) ≡ step enough n v
   still v e = grind (arith, append-nil {A = List ℕ}, (is_taken v.session.unread).rests)
+
+  pub still_any : (luck : Luck) (v : Visit) → next_want v.session ≡ None → step luck n (step enough n v) ≡ step enough n v
+  still_any luck v e = grind (arith, append-nil {A = List ℕ}, (is_taken v.session.unread).rests)
+
+  pub still_shut : (luck : Luck) (v : Visit) → v.session.shut ≡ true → step luck n v ≡ v
+  still_shut luck v e = grind (arith, e)
 
   -- ---- a step after which fewer bytes are left
 
-  answered_short : (a : Option Answer) (s : SessionValue) (w : World) → length (answered_by n s w a).session.unread ≤ length s.unread
+  answered_short : (a : Option Answer) (s : SessionValue) (w : World) → length (answered_by true n s w a).session.unread ≤ length s.unread
   answered_short a s w = grind (arith, append-nil {A = ℕ})
 
-  pub shrinks : (v : Visit) (want : WantValue) → next_want v.session ≡ Some want → length (step n v).session.unread < length v.session.unread
+  pub shrinks : (v : Visit) (want : WantValue) → next_want v.session ≡ Some want → length (step enough n v).session.unread < length v.session.unread
   shrinks v want e =
-      let a = asked n want v.rooms in
+      let a = asked true n want v.rooms in
       let less : length (pulled v.session).unread < length v.session.unread = grind (arith, (is_taken v.session.unread).shortens) in
       rw e (omega (arith, answered_short a.answer (pulled v.session) a.rooms, less))
 
   -- ---- as many steps as there are bytes are enough
 
-  either : (v : Visit) → (step n (step n v) ≡ step n v) ⊎ (length (step n v).session.unread < length v.session.unread)
+  either : (v : Visit) → (step enough n (step enough n v) ≡ step enough n v) ⊎ (length (step enough n v).session.unread < length v.session.unread)
   either v = by (next_want v.session) refl
     where
-      by : (want : Option WantValue) → next_want v.session ≡ want → (step n (step n v) ≡ step n v) ⊎ (length (step n v).session.unread < length v.session.unread)
+      by : (want : Option WantValue) → next_want v.session ≡ want → (step enough n (step enough n v) ≡ step enough n v) ⊎ (length (step enough n v).session.unread < length v.session.unread)
       by None e = inl (still v e)
       by (Some want) e = inr (shrinks v want e)
 
-  no_bytes : (v : Visit) → length v.session.unread ≤ 0 → step n v ≡ v
+  no_bytes : (v : Visit) → length v.session.unread ≤ 0 → step enough n v ≡ v
   no_bytes v le =
       let e = nil_from_length v.session.unread (omega arith) in
       let nothing : taking v.session.unread ≡ nothing_in v.session.unread = ap taking e ∙ taking_at [] Unfinished (sym nothing_there) ∙ ap nothing_in (sym e) in
       grind (arith, append-nil {A = List ℕ})
 
   abbrev steps : ℕ → Visit → Visit
-  steps k v = repeat (step n) k v
+  steps k v = repeat (step enough n) k v
 
-  first_step : (k : ℕ) (v : Visit) → steps (suc k) v ≡ steps k (step n v)
+  first_step : (k : ℕ) (v : Visit) → steps (suc k) v ≡ steps k (step enough n v)
   first_step zero v = refl
-  first_step (suc k) v = ap (step n) (first_step k v)
+  first_step (suc k) v = ap (step enough n) (first_step k v)
 
-  steps_still : (k : ℕ) (v : Visit) → step n v ≡ v → steps k v ≡ v
+  steps_still : (k : ℕ) (v : Visit) → step enough n v ≡ v → steps k v ≡ v
   steps_still zero v e = refl
-  steps_still (suc k) v e = ap (step n) (steps_still k v e) ∙ e
+  steps_still (suc k) v e = ap (step enough n) (steps_still k v e) ∙ e
 
   -- where one step is all
-  one_step : (k : ℕ) (v : Visit) → step n (step n v) ≡ step n v → steps (suc k) v ≡ step n v
-  one_step k v e = first_step k v ∙ steps_still k (step n v) e
+  one_step : (k : ℕ) (v : Visit) → step enough n (step enough n v) ≡ step enough n v → steps (suc k) v ≡ step enough n v
+  one_step k v e = first_step k v ∙ steps_still k (step enough n v) e
 
-  enough : (k m : ℕ) (v : Visit) → length v.session.unread ≤ k → length v.session.unread ≤ m → steps k v ≡ steps m v
-  enough zero m v le less = sym (steps_still m v (no_bytes v le))
-  enough (suc k) zero v le less = steps_still (suc k) v (no_bytes v less)
-  enough (suc k) (suc m) v le less =
+  suffices : (k m : ℕ) (v : Visit) → length v.session.unread ≤ k → length v.session.unread ≤ m → steps k v ≡ steps m v
+  suffices zero m v le less = sym (steps_still m v (no_bytes v le))
+  suffices (suc k) zero v le less = steps_still (suc k) v (no_bytes v less)
+  suffices (suc k) (suc m) v le less =
       elim (either v) [
         | inl e ↦ one_step k v e ∙ sym (one_step m v e)
-        | inr lt ↦ first_step k v ∙ enough k m (step n v) (omega (arith, lt)) (omega (arith, lt)) ∙ sym (first_step m v)
+        | inr lt ↦ first_step k v ∙ suffices k m (step enough n v) (omega (arith, lt)) (omega (arith, lt)) ∙ sym (first_step m v)
       ]
 
-  after_step : (k : ℕ) (v : Visit) → length v.session.unread ≤ k → steps (suc k) v ≡ steps (length (step n v).session.unread) (step n v)
+  after_step : (k : ℕ) (v : Visit) → length v.session.unread ≤ k → steps (suc k) v ≡ steps (length (step enough n v).session.unread) (step enough n v)
   after_step k v le =
       elim (either v) [
-        | inl once ↦ one_step k v once ∙ sym (steps_still (length (step n v).session.unread) (step n v) once)
-        | inr lt ↦ first_step k v ∙ enough k (length (step n v).session.unread) (step n v) (omega (arith, lt)) (omega arith)
+        | inl once ↦ one_step k v once ∙ sym (steps_still (length (step enough n v).session.unread) (step enough n v) once)
+        | inr lt ↦ first_step k v ∙ suffices k (length (step enough n v).session.unread) (step enough n v) (omega (arith, lt)) (omega arith)
       ]
 
-pub hand_in-prefixed : (n : ℕ) (before : List (List ℕ)) (v : Visit) → hand_in n (prefixed before v) ≡ prefixed before (hand_in n v)
-unfolding hand_in
-hand_in-prefixed n before v = steps-prefixed n before (length v.session.unread) v
+pub hand_all-prefixed : (n : ℕ) (before : List (List ℕ)) (v : Visit) → hand_all n (prefixed before v) ≡ prefixed before (hand_all n v)
+unfolding hand_all
+hand_all-prefixed n before v = steps-prefixed n before (length v.session.unread) v
 
-pub hand_in-is : (n : ℕ) (v : Visit) → hand_in n v ≡ repeat (step n) (length v.session.unread) v
-unfolding hand_in
-hand_in-is n v = refl
+pub hand_all-is : (n : ℕ) (v : Visit) → hand_all n v ≡ repeat (step enough n) (length v.session.unread) v
+unfolding hand_all
+hand_all-is n v = refl
 
-pub hand_in-step : (n : ℕ) (v : Visit) → hand_in n v ≡ hand_in n (step n v)
-unfolding hand_in
-hand_in-step n v =
+pub hand_all-step : (n : ℕ) (v : Visit) → hand_all n v ≡ hand_all n (step enough n v)
+unfolding hand_all
+hand_all-step n v =
     let k = length v.session.unread in
-    enough n k (suc k) v (omega arith) (omega arith) ∙ after_step n k v (omega arith)
+    suffices n k (suc k) v (omega arith) (omega arith) ∙ after_step n k v (omega arith)
 
-pub hand_in-still : (n : ℕ) (v : Visit) → step n v ≡ v → hand_in n v ≡ v
-unfolding hand_in
-hand_in-still n v e = steps_still n (length v.session.unread) v e
+pub hand_all-still : (n : ℕ) (v : Visit) → step enough n v ≡ v → hand_all n v ≡ v
+unfolding hand_all
+hand_all-still n v e = steps_still n (length v.session.unread) v e
+
+pub hand_in-prefixed : (n : ℕ) (lucks : List Luck) (before : List (List ℕ)) (v : Visit) → hand_in lucks n (prefixed before v) ≡ prefixed before (hand_in lucks n v)
+hand_in-prefixed n lucks before v = ap (hand_all n) (all-prefixed n lucks before v) ∙ hand_all-prefixed n before (fold (λ u luck. step luck n u) v lucks)

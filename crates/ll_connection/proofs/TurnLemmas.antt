@@ -10,7 +10,7 @@ use Rattle.ll_world.specs.Kept.{Kept, kept_world}
 use Rattle.ll_world.specs.World.{World}
 use Rattle.ll_connection.specs.Stands.{IsToldVisit, IsTurn, open_in, opened}
 use Rattle.ll_connection.specs.Turn.{Connections, Turn, bytes_to, end_of, left, nothing, reply_to, session_of, shut_text, turn, with_session}
-use Rattle.ll_connection.specs.Visit.{Visit, arrived}
+use Rattle.ll_connection.specs.Visit.{Luck, Visit, arrived}
 use Rattle.ll_connection.specs.declared.sent.Sent.{Sent}
 
 abbrev pub Slot : Type 0
@@ -68,15 +68,15 @@ open_is o s e = grind arith
 pub none_opened : (o : Option Slot) → opened o ≡ None → o ≡ Some None
 none_opened o e = grind arith
 
-pub is_opened : (n : ℕ) (piece : List ℕ) (all : Connections) (w : World) (o : Option Slot) (s : SessionValue) → opened o ≡ Some s
-    → turn n all (arrived n piece (record { session = s; rooms = w })) ≡ bytes_to n piece all w o
-is_opened n piece all w o s e = grind arith
+pub is_opened : (lucks : List Luck) (n : ℕ) (piece : List ℕ) (all : Connections) (w : World) (o : Option Slot) (s : SessionValue) → opened o ≡ Some s
+    → turn n all (arrived lucks n piece (record { session = s; rooms = w })) ≡ bytes_to lucks n piece all w o
+is_opened lucks n piece all w o s e = grind arith
 
 pub none_ends : (n : ℕ) (all : Connections) (w : World) (o : Option Slot) → open_in o ≡ None → nothing all w ≡ end_of n all w o
 none_ends n all w o e = grind arith
 
-pub none_replied : (n : ℕ) (reply : Reply) (all : Connections) (w : World) (o : Option Slot) → open_in o ≡ None → nothing all w ≡ reply_to n reply all w o
-none_replied n reply all w o e = grind arith
+pub none_replied : (lucks : List Luck) (n : ℕ) (reply : Reply) (all : Connections) (w : World) (o : Option Slot) → open_in o ≡ None → nothing all w ≡ reply_to lucks n reply all w o
+none_replied lucks n reply all w o e = grind arith
 
 -- ---- what a turn comes to
 

@@ -5,7 +5,7 @@ use Rattle.ll_session.specs.Talk.{SessionValue, fresh}
 use Rattle.ll_world.specs.Kept.{Kept, kept_world}
 use Rattle.ll_world.specs.World.{World, count_end}
 use Rattle.ll_connection.specs.Turn.{Connections, Turn}
-use Rattle.ll_connection.specs.Visit.{Visit, step}
+use Rattle.ll_connection.specs.Visit.{Luck, Visit, step}
 use Rattle.ll_connection.specs.declared.sent.Sent.{Sent}
 
 -- what was kept and written is what a turn comes to
@@ -33,7 +33,7 @@ pub record IsToldVisit (n : ℕ) (before after : Sent) (s : SessionValue) (kept 
 
 -- for private contracts: a further step of this connection changes nothing
 abbrev pub IsStill : ℕ → SessionValue → Type 0
-IsStill n s = (w : World) → step n (record { session = s; rooms = w }) ≡ record { session = s; rooms = w }
+IsStill n s = (w : World) (luck : Luck) → step luck n (record { session = s; rooms = w }) ≡ record { session = s; rooms = w }
 
 -- for private contracts: the session that is open under a number, of what stands there
 abbrev pub open_in : Option (Option SessionValue) → Option SessionValue

@@ -7,6 +7,7 @@ use Rattle.ll_verdict.specs.declared.reply.Reply.{Reply}
 use Rattle.ll_world.specs.World.{World}
 use Rattle.ll_connection.specs.Stands.{opened}
 use Rattle.ll_connection.specs.Turn.{Connections, Turn, bytes, reply, session_of, shut_text, with_session}
+use Rattle.ll_connection.specs.Visit.{Luck}
 
 -- the connection of this number is open, or new: its session is that of all that was done with it, and all is sent
 pub record IsTalking (n : ℕ) (all : Connections) (p : Past) : Type 0 where
@@ -25,8 +26,8 @@ pub record IsTalked (n : ℕ) (p : Past) (more : List ℕ) (all : Connections) (
   pub kept : t.connections ≡ with_session n (if (fold called p calls).session.shut then None else Some (fold called p calls).session) all
   pub text : t.text ≡ flat_map (sent_line n) answers ++ shut_text (fold called p calls).session.shut n
 
--- bytes that come, and a reply that goes, to a connection that hasn't ended
+-- bytes that come, and a reply that goes, to a connection that hasn't ended, whatever memory is found
 abbrev pub TalkLaw : Type 0
 TalkLaw = (n : ℕ) (all : Connections) (w : World) (p : Past) → IsTalking n all p
-    → ((piece : List ℕ) → IsTalked n p piece all (bytes n piece all w))
-    × ((a : Reply) → session_of n all ≡ Some (Some p.session) → IsTalked n p [] all (reply n a all w))
+    → ((piece : List ℕ) (lucks : List Luck) → IsTalked n p piece all (bytes lucks n piece all w))
+    × ((a : Reply) (lucks : List Luck) → session_of n all ≡ Some (Some p.session) → IsTalked n p [] all (reply lucks n a all w))

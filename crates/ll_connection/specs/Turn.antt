@@ -6,7 +6,7 @@ use Rattle.ll_script.specs.Answers.{sent_line, shut_line}
 use Rattle.ll_session.specs.Talk.{SessionValue, fresh}
 use Rattle.ll_verdict.specs.declared.reply.Reply.{Reply}
 use Rattle.ll_world.specs.World.{World, close}
-use Rattle.ll_connection.specs.Visit.{Visit, arrived, released}
+use Rattle.ll_connection.specs.Visit.{Luck, Visit, arrived, released}
 
 -- the connections by their numbers, in order of opening; one that has ended has no session
 abbrev pub Connections : Type 0
@@ -52,14 +52,14 @@ turn n all v = record {
 }
 
 -- a new number opens a connection; one that has ended takes no bytes
-abbrev pub bytes_to : ℕ → List ℕ → Connections → World → Option (Option SessionValue) → Turn
-bytes_to n piece all w None = turn n all (arrived n piece (record { session = fresh; rooms = w }))
-bytes_to n piece all w (Some None) = nothing all w
-bytes_to n piece all w (Some (Some s)) = turn n all (arrived n piece (record { session = s; rooms = w }))
+abbrev pub bytes_to : List Luck → ℕ → List ℕ → Connections → World → Option (Option SessionValue) → Turn
+bytes_to lucks n piece all w None = turn n all (arrived lucks n piece (record { session = fresh; rooms = w }))
+bytes_to lucks n piece all w (Some None) = nothing all w
+bytes_to lucks n piece all w (Some (Some s)) = turn n all (arrived lucks n piece (record { session = s; rooms = w }))
 
 -- these bytes came on the connection of this number
-abbrev pub bytes : ℕ → List ℕ → Connections → World → Turn
-bytes n piece all w = bytes_to n piece all w (session_of n all)
+abbrev pub bytes : List Luck → ℕ → List ℕ → Connections → World → Turn
+bytes lucks n piece all w = bytes_to lucks n piece all w (session_of n all)
 
 abbrev pub end_of : ℕ → Connections → World → Option (Option SessionValue) → Turn
 end_of n all w None = nothing all w
@@ -70,11 +70,11 @@ end_of n all w (Some (Some s)) = nothing (with_session n None all) (close (Conne
 abbrev pub end : ℕ → Connections → World → Turn
 end n all w = end_of n all w (session_of n all)
 
-abbrev pub reply_to : ℕ → Reply → Connections → World → Option (Option SessionValue) → Turn
-reply_to n reply all w None = nothing all w
-reply_to n reply all w (Some None) = nothing all w
-reply_to n reply all w (Some (Some s)) = turn n all (released n reply (record { session = s; rooms = w }))
+abbrev pub reply_to : List Luck → ℕ → Reply → Connections → World → Option (Option SessionValue) → Turn
+reply_to lucks n reply all w None = nothing all w
+reply_to lucks n reply all w (Some None) = nothing all w
+reply_to lucks n reply all w (Some (Some s)) = turn n all (released lucks n reply (record { session = s; rooms = w }))
 
 -- the request of the connection of this number gets its reply
-abbrev pub reply : ℕ → Reply → Connections → World → Turn
-reply n answer all w = reply_to n answer all w (session_of n all)
+abbrev pub reply : List Luck → ℕ → Reply → Connections → World → Turn
+reply lucks n answer all w = reply_to lucks n answer all w (session_of n all)

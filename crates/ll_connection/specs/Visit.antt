@@ -1,16 +1,17 @@
 -- One connection at the rooms: what bytes and replies make of its session and of the channels.
-use Rattle.std.specs.Prelude.{ℕ, List, [], ◌∷◌, Bool, true, false, Option, Some, None, length}
+use Rattle.std.specs.Prelude.{ℕ, List, [], ◌∷◌, Bool, true, false, Option, Some, None, fold, length}
 use Rattle.ll_directive.specs.Targets.{WantValue}
 use Rattle.ll_directive.specs.declared.fault.TargetFault.TheVariants.{NotFound}
 use Rattle.ll_held.specs.declared.owner.Owner.TheVariants.{Connection}
 use Rattle.ll_item.specs.Settings.{Configuration}
 use Rattle.ll_channels.specs.Channels.{channel_of_name}
-use Rattle.ll_session.specs.Past.{overflows}
-use Rattle.ll_session.specs.Talk.{SessionValue, fed, next_want, pulled, replied}
+use Rattle.ll_session.specs.Past.{next_entries, overflows}
+use Rattle.ll_session.specs.Requests.{Entry}
+use Rattle.ll_session.specs.Talk.{SessionValue, fed, muted, next_want, pulled, replied}
 use Rattle.ll_verdict.specs.declared.reply.Reply.{Reply}
 use Rattle.ll_wire.specs.declared.answer.Answer.{Answer}
 use Rattle.ll_wire.specs.declared.answer.Answer.TheVariants as player
-use Rattle.ll_wire.specs.declared.answer.Unavailable.TheVariants.{RecordFull}
+use Rattle.ll_wire.specs.declared.answer.Unavailable.TheVariants.{Memory, RecordFull}
 use Rattle.ll_world.specs.World.{World, all_settings, ask, close, repeat, silent}
 use Rattle.ll_world.specs.declared.answer.Answer as rooms
 use Rattle.ll_world.specs.declared.answer.Answer.TheVariants.{Accepted, Refused, ClockRefused, Replied, Unavailable}
@@ -19,6 +20,21 @@ use Rattle.ll_world.specs.declared.answer.Answer.TheVariants.{Accepted, Refused,
 pub record Visit : Type 0 where
   pub session : SessionValue
   pub rooms : World
+
+-- ---- memory
+
+-- what memory is found for while a connection's next request is handed in
+pub record Luck : Type 0 where
+  -- to take it from the bytes, and to answer what is refused before it; else the connection shuts
+  pub takes : Bool
+  -- for the request in its channel; else it is no event, and is answered so
+  pub asks : Bool
+  -- for its answer; else the connection shuts
+  pub answers : Bool
+
+-- for all
+abbrev pub enough : Luck
+enough = record { takes = true; asks = true; answers = true }
 
 -- ---- a request is made
 
@@ -42,13 +58,18 @@ pub record Asked : Type 0 where
 abbrev pub heard : World → Asked
 heard w = record { rooms = silent w; answer = first_spoken w.answers }
 
-abbrev pub ask_in : ℕ → WantValue → World → Option (ℕ × Configuration) → Asked
-ask_in n want w None = record { rooms = w; answer = Some (player.Target NotFound) }
-ask_in n want w (Some channel) = heard (ask (Connection n) channel.0 want (silent w))
+-- a request of the channel at a place, for which memory is found or not
+abbrev pub ask_at : Bool → ℕ → ℕ → WantValue → World → Asked
+ask_at true n place want w = heard (ask (Connection n) place want (silent w))
+ask_at false n place want w = record { rooms = w; answer = Some (player.Unavailable Memory) }
+
+abbrev pub ask_in : Bool → ℕ → WantValue → World → Option (ℕ × Configuration) → Asked
+ask_in found n want w None = record { rooms = w; answer = Some (player.Target NotFound) }
+ask_in found n want w (Some channel) = ask_at found n channel.0 want w
 
 -- a request of the connection of this number, of the channel that it names
-abbrev pub asked : ℕ → WantValue → World → Asked
-asked n want w = ask_in n want w (channel_of_name (all_settings w) 0 want.channel)
+abbrev pub asked : Bool → ℕ → WantValue → World → Asked
+asked found n want w = ask_in found n want w (channel_of_name (all_settings w) 0 want.channel)
 
 -- ---- bytes come
 
@@ -62,32 +83,55 @@ came n piece v = record { session = fed v.session piece; rooms = close_if (overf
 
 -- ---- requests are handed in
 
+-- the answer to the want that is out is put out, where memory is found for it
+abbrev pub put_out_by : Option Bool → Bool → SessionValue → Answer → SessionValue
+put_out_by None found s answer = s
+put_out_by (Some keep) true s answer = replied s answer
+put_out_by (Some keep) false s answer = muted s
+
+abbrev pub put_out : Bool → SessionValue → Answer → SessionValue
+put_out found s answer = put_out_by s.out found s answer
+
 -- a request is answered, or it waits; then too many bytes may have come after it already
-abbrev pub answered_by : ℕ → SessionValue → World → Option Answer → Visit
-answered_by n s w (Some answer) = record { session = replied s answer; rooms = w }
-answered_by n s w None = came n [] (record { session = s; rooms = w })
+abbrev pub answered_by : Bool → ℕ → SessionValue → World → Option Answer → Visit
+answered_by found n s w (Some answer) = record { session = put_out found s answer; rooms = w }
+answered_by found n s w None = came n [] (record { session = s; rooms = w })
 
-abbrev pub answered : ℕ → SessionValue → Asked → Visit
-answered n s a = answered_by n s a.rooms a.answer
+abbrev pub answered : Bool → ℕ → SessionValue → Asked → Visit
+answered found n s a = answered_by found n s a.rooms a.answer
 
-abbrev pub step_by : ℕ → Visit → Option WantValue → Visit
-step_by n v None = v
-step_by n v (Some want) = answered n v.session (asked n want v.rooms)
+abbrev pub step_by : Luck → ℕ → Visit → Option WantValue → Visit
+step_by luck n v None = v
+step_by luck n v (Some want) = answered luck.answers n v.session (asked luck.asks n want v.rooms)
 
--- the session's next want is asked, where it gives one
-abbrev pub step : ℕ → Visit → Visit
-step n v = step_by n (record v { session = pulled v.session }) (next_want v.session)
+abbrev pub muted_if : List Entry → SessionValue → SessionValue
+muted_if [] s = s
+muted_if (e ∷ entries) s = muted s
 
--- All requests are handed in, up to one that waits. A request has a byte at least, so there are no more of them than bytes.
-unfoldable pub hand_in : ℕ → Visit → Visit
-hand_in n v = repeat (step n) (length v.session.unread) v
+abbrev pub step_if : Bool → Luck → ℕ → Visit → Visit
+step_if true luck n v = step_by luck n (record v { session = pulled v.session }) (next_want v.session)
+step_if false luck n v = record v { session = muted_if (next_entries v.session) v.session }
+
+-- the session's next want is asked, where it gives one; where there is nothing to take, no memory is needed
+abbrev pub step : Luck → ℕ → Visit → Visit
+step luck n v = step_if luck.takes luck n v
+
+-- All requests are handed in, up to one that waits, and memory is found for each. A request has a byte at least, so there are no more of
+-- them than bytes.
+unfoldable pub hand_all : ℕ → Visit → Visit
+hand_all n v = repeat (step enough n) (length v.session.unread) v
+
+-- All requests are handed in, up to one that waits, the first of them with this luck.
+abbrev pub hand_in : List Luck → ℕ → Visit → Visit
+hand_in lucks n v = hand_all n (fold (λ u luck. step luck n u) v lucks)
 
 -- ---- what comes to a connection
 
 -- these bytes came, with all that they make happen
-abbrev pub arrived : ℕ → List ℕ → Visit → Visit
-arrived n piece v = hand_in n (came n piece v)
+abbrev pub arrived : List Luck → ℕ → List ℕ → Visit → Visit
+arrived lucks n piece v = hand_in lucks n (came n piece v)
 
--- its request that waited gets this reply, with all that this makes happen
-abbrev pub released : ℕ → Reply → Visit → Visit
-released n reply v = hand_in n (record v { session = replied v.session (player.Reply reply) })
+-- its request that waited gets this reply, with all that this makes happen; the first luck is the reply's
+abbrev pub released : List Luck → ℕ → Reply → Visit → Visit
+released [] n reply v = hand_in [] n (record v { session = put_out true v.session (player.Reply reply) })
+released (luck ∷ lucks) n reply v = hand_in lucks n (record v { session = put_out luck.answers v.session (player.Reply reply) })

@@ -1,9 +1,10 @@
 //! All connections of a script.
-ghost use Rattle.std.specs.Prelude.{◌≡◌, ◌++◌, ◌==◌, [], None, Some, IfOk, OnOk, if◌then◌else◌};
+ghost use Rattle.std.specs.Prelude.{List, ◌≡◌, ◌++◌, ◌==◌, [], None, Some, IfOk, OnOk, if◌then◌else◌};
 ghost use Rattle.std.specs.Map.{set_value};
 ghost use Rattle.ll_world.specs.Kept.{kept_world};
 ghost use Rattle.ll_world.specs.World.{World, all_settings};
 ghost use Rattle.ll_connection.specs.Turn as turn;
+ghost use Rattle.ll_connection.specs.Visit.{Luck};
 ghost use Rattle.ll_connection.specs.Stands.{IsTurn, open_in, opened};
 
 use crate::open::Open;
@@ -65,7 +66,7 @@ impl Connections {
         piece: &[u8],
     ) -> Result<Sent, AllocError>
         ensures { (w : World) → rooms.old ≡ kept_world w → declared.now ≡ all_settings w
-            → IfOk result (λ sent. IsTurn self.new rooms.new sent (turn.bytes number piece.now self.old w)) }
+            → IfOk result (λ sent. (lucks : List Luck) × IsTurn self.new rooms.new sent (turn.bytes lucks number piece.now self.old w)) }
     {
         let Some(session) = self.take_or_open(number) else {
             return Ok(Sent::nothing(self.alloc));
@@ -102,7 +103,7 @@ impl Connections {
         reply: Reply,
     ) -> Result<Sent, AllocError>
         ensures { (w : World) → rooms.old ≡ kept_world w → declared.now ≡ all_settings w
-            → IfOk result (λ sent. IsTurn self.new rooms.new sent (turn.reply number reply self.old w)) }
+            → IfOk result (λ sent. (lucks : List Luck) × IsTurn self.new rooms.new sent (turn.reply lucks number reply self.old w)) }
     {
         let Some(session) = self.take(number) else {
             return Ok(Sent::nothing(self.alloc));

@@ -1,5 +1,5 @@
 //! One connection that hasn't ended.
-ghost use Rattle.std.specs.Prelude.{◌≡◌, ◌<◌, [], Ok, IfOk, OnOk, false, length, true};
+ghost use Rattle.std.specs.Prelude.{List, Bool, ◌≡◌, ◌<◌, [], Ok, IfOk, OnOk, false, length, true};
 ghost use Rattle.ll_session.specs.Talk.{fed};
 ghost use Rattle.ll_world.specs.Kept.{answers_of, kept_world};
 ghost use Rattle.ll_world.specs.World.{World, all_settings};
@@ -14,7 +14,7 @@ use ll_script::push_sent;
 use ll_session::Session;
 use ll_verdict::Reply;
 use ll_wire::{Answer, Unavailable};
-use ll_world::{Answer as Said, Rooms};
+use ll_world::{Answer as Said, AskStop, Rooms};
 use std::alloc::AllocError;
 
 /// A connection with its session. It must be spent.
@@ -33,8 +33,8 @@ impl Open {
         sent: &mut Sent,
     ) -> Result<(), AllocError>
         ensures arrived { (w : World) → rooms.old ≡ kept_world w → declared.now ≡ all_settings w
-            → OnOk result (IsToldVisit self.old.number sent.old sent.new self.new.session rooms.new
-            (visit.arrived self.old.number piece.now (record { session = self.old.session; rooms = w }))) }
+            → OnOk result ((lucks : List visit.Luck) × IsToldVisit self.old.number sent.old sent.new self.new.session rooms.new
+            (visit.arrived lucks self.old.number piece.now (record { session = self.old.session; rooms = w }))) }
         ensures number { self.new.number ≡ self.old.number }
     {
         self.come(rooms, piece)?;
@@ -51,13 +51,11 @@ impl Open {
         sent: &mut Sent,
     ) -> Result<(), AllocError>
         ensures released { (w : World) → rooms.old ≡ kept_world w → declared.now ≡ all_settings w
-            → OnOk result (IsToldVisit self.old.number sent.old sent.new self.new.session rooms.new
-            (visit.released self.old.number reply (record { session = self.old.session; rooms = w }))) }
+            → OnOk result ((lucks : List visit.Luck) × IsToldVisit self.old.number sent.old sent.new self.new.session rooms.new
+            (visit.released lucks self.old.number reply (record { session = self.old.session; rooms = w }))) }
         ensures number { self.new.number ≡ self.old.number }
     {
-        if self.session.waiting() {
-            self.session.answered(&Answer::Reply(reply))?;
-        }
+        self.put_out(&Answer::Reply(reply));
         self.hand_in(rooms, declared, sent)?;
         Ok(())
     }
@@ -88,8 +86,8 @@ impl Open {
         sent: &mut Sent,
     ) -> Result<(), AllocError>
         ensures handed_in { (w : World) → rooms.old ≡ kept_world w → declared.now ≡ all_settings w
-            → OnOk result (IsToldVisit self.old.number sent.old sent.new self.new.session rooms.new
-            (visit.hand_in self.old.number (record { session = self.old.session; rooms = w }))) }
+            → OnOk result ((lucks : List visit.Luck) × IsToldVisit self.old.number sent.old sent.new self.new.session rooms.new
+            (visit.hand_in lucks self.old.number (record { session = self.old.session; rooms = w }))) }
         ensures number { self.new.number ≡ self.old.number }
     {
         loop {
@@ -104,23 +102,40 @@ impl Open {
     /// Hands in the next request, where there is one. Answers whether another may follow.
     fn step(&mut self, rooms: &mut Rooms, declared: &Declared) -> Result<bool, AllocError>
         ensures stepped { (w : World) → rooms.old ≡ kept_world w → declared.now ≡ all_settings w
-            → OnOk result (IsVisit self.new.session rooms.new (visit.step self.old.number (record { session = self.old.session; rooms = w }))) }
+            → OnOk result ((luck : visit.Luck) × IsVisit self.new.session rooms.new (visit.step luck self.old.number (record { session = self.old.session; rooms = w }))) }
         ensures last { IfOk result (λ more. more ≡ false → IsStill self.old.number self.new.session) }
         ensures fewer { IfOk result (λ more. more ≡ true → length self.new.session.unread < length self.old.session.unread) }
         ensures number { self.new.number ≡ self.old.number }
     {
-        let Some(want) = self.session.next_want()? else {
+        let Ok(taken) = self.session.next_want() else {
+            self.session.mute();
+            return Ok(false);
+        };
+        let Some(want) = taken else {
             return Ok(false);
         };
         match self.ask(rooms, declared, want)? {
             Some(answer) => {
-                self.session.answered(&answer)?;
+                self.put_out(&answer);
                 Ok(true)
             }
             None => {
                 self.come(rooms, &[])?;
                 Ok(false)
             }
+        }
+    }
+
+    /// Puts out the answer to the want that is out, if one is; where no memory is found for it, the session shuts.
+    fn put_out(&mut self, answer: &Answer)
+        ensures put { (found : Bool) × (self.new.session ≡ visit.put_out found self.old.session answer.now) }
+        ensures number { self.new.number ≡ self.old.number }
+    {
+        if !self.session.waiting() {
+            return;
+        }
+        if self.session.answered(answer).is_err() {
+            self.session.mute();
         }
     }
 
@@ -132,13 +147,16 @@ impl Open {
         want: Want,
     ) -> Result<Option<Answer>, AllocError>
         ensures asked { (w : World) → rooms.old ≡ kept_world w → declared.now ≡ all_settings w
-            → IfOk result (λ answer. (rooms.new ≡ kept_world (visit.asked self.now.number want w).rooms) × (answer ≡ (visit.asked self.now.number want w).answer)) }
+            → IfOk result (λ answer. (found : Bool) × (rooms.new ≡ kept_world (visit.asked found self.now.number want w).rooms) × (answer ≡ (visit.asked found self.now.number want w).answer)) }
     {
         let Some((place, _)) = declared.find(want.channel()) else {
             return Ok(Some(Answer::Target(TargetFault::NotFound)));
         };
-        let said = rooms.ask(Owner::Connection(self.number), place, want)?;
-        Ok(spoken(said))
+        match rooms.ask(Owner::Connection(self.number), place, want) {
+            Ok(said) => Ok(spoken(said)),
+            Err(AskStop::Request) => Ok(Some(Answer::Unavailable(Unavailable::Memory))),
+            Err(AskStop::Place) => Err(AllocError),
+        }
     }
 
     /// No memory was found: its session is spent.

@@ -9,5 +9,5 @@ mod target;
 mod want;
 
 pub use fault::TargetFault;
-pub use target::read_target;
+pub use target::{named_channel, read_target};
 pub use want::{Awaited, Skip, Want};

@@ -32,6 +32,16 @@ pub fn read_target(alloc: Global, target: &[u8]) -> Result<Want, TargetFault>
     Ok(Want::of(channel, rendition, awaited, skip))
 }
 
+/// The name of the channel in a target that wants something, as [`read_target`] reads it. It takes no memory, so a channel that isn't
+/// there can be told where none is found.
+pub fn named_channel(target: &[u8]) -> Option<&str>
+    ensures { (want : spec.WantValue) → want_in target.now ≡ Ok want → MatchOption result ⊥ (λ name. name.now ≡ want.channel) }
+{
+    let (path, _) = parts_of(target)?;
+    let (channel, _) = names_in(path)?;
+    Some(channel)
+}
+
 /// The path without its first slash and the query, where the target has the form of one.
 fn parts_of(target: &[u8]) -> Option<(&str, &str)>
     ensures path { MatchOption result (spec.path_in target.now ≡ None) (λ parts. spec.path_in target.now ≡ Some parts.0.now) }

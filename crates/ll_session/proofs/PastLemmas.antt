@@ -1,6 +1,6 @@
 -- Whatever is done with a session, it answers the requests in its bytes.
 use Rattle.std.proofs.Common.{◌≡◌, ℕ, ◌+◌, List, [], ◌∷◌, ◌++◌, Bool, true, false, Option, Some, None, refl, ap, ◌∙◌, sym, subst, arith, length, length-append, append_assoc, append-nil, fold}
-use Rattle.std.specs.Prelude.{if◌then◌else◌, nat_lt}
+use Rattle.std.specs.Prelude.{◌||◌, if◌then◌else◌, nat_lt}
 use Rattle.ll_directive.specs.Targets.{WantValue}
 use Rattle.ll_wire.specs.Response.{response_bytes}
 use Rattle.ll_wire.specs.declared.fault.HeadFault.TheVariants.{HeadTooLarge}
@@ -8,7 +8,7 @@ use Rattle.ll_wire.specs.declared.answer.Answer.{Answer}
 use Rattle.ll_wire.specs.declared.answer.Answer.TheVariants as answer
 use Rattle.ll_session.specs.Requests.{Entry, Wanted, Refused, Faulty, requests}
 use Rattle.ll_session.specs.Talk.{Taking, taking, entries_of, given, kept_of, fed_to, refusals, overflow, most_waiting}
-use Rattle.ll_session.specs.Past.{Call, Feed, Next, Reply, Send, Past, before_any, called, past, conversation, IsTalk}
+use Rattle.ll_session.specs.Past.{Call, Feed, Mute, Next, Reply, Send, Past, before_any, called, past, conversation, IsTalk}
 use Rattle.ll_session.proofs.SplitLemmas.{goes_on, wants, taking-splits, taking-right}
 use Rattle.ll_session.proofs.SentLemmas.{HasFirst, Put, put_more, put_sent, responds}
 
@@ -63,7 +63,7 @@ Balanced false (Some keep) entries replies =
 
 record Holds (p : Past) : Type 0 where
   reads : ReadsOn p.session.shut p.session.out p.fed p.entries p.session.unread
-  balanced : Balanced p.overflowed p.session.out p.entries p.replies
+  balanced : Balanced (p.overflowed || p.session.shut) p.session.out p.entries p.replies
   put : Put p.gone p.session.answers (conversation p.overflowed p.entries p.replies)
   shut : p.overflowed ≡ true → p.session.shut ≡ true
   none : p.session.shut ≡ true → p.session.out ≡ None
@@ -191,6 +191,12 @@ module _ (unread : List ℕ) (answers : List (List ℕ)) (bytes : List ℕ) (ent
   next_balanced passed (Some want) balanced none =
       (entries ++ passed, want.0, sym (append_assoc entries passed (Wanted want.0 want.1 ∷ [])), omega (arith, wants-append entries passed, balanced, none))
 
+  -- one that has shut needs no balance
+  next_balanced_if : (ends : Bool) (passed : List Entry) (want : Option (WantValue × Bool)) → wants entries ≡ length replies → wants passed ≡ 0
+      → Balanced ends (kept_of want) (entries ++ (passed ++ given want)) replies
+  next_balanced_if true passed want balanced none = tt
+  next_balanced_if false passed want balanced none = next_balanced passed want balanced none
+
   next_reads : (passed : List Entry) (rest : List ℕ) (want : Option (WantValue × Bool)) (ends : Bool) → Holds (at false None false)
       → ((more : List ℕ) → requests (unread ++ more) ≡ (passed ++ given want) ++ (if goes_on ends (kept_of want) then requests (rest ++ more) else []))
       → ReadsOn ends (kept_of want) bytes (entries ++ (passed ++ given want)) rest
@@ -207,7 +213,7 @@ module _ (unread : List ℕ) (answers : List (List ℕ)) (bytes : List ℕ) (ent
       → Holds (at false None false) → Holds (next_at t.passed t.rest t.want t.ends)
   next_taken t passes none splits h = record {
     reads = next_reads t.passed t.rest t.want t.ends h splits;
-    balanced = next_balanced t.passed t.want h.balanced passes;
+    balanced = next_balanced_if t.ends t.passed t.want h.balanced passes;
     put =
         put_more gone answers (refusals t.passed) (conversation false entries replies) (conversation false (entries ++ entries_of t) replies) (refusals_have_first t.passed)
         (next_answers entries t.passed t.want replies h.balanced passes) h.put;
@@ -249,9 +255,28 @@ module _ (unread : List ℕ) (answers : List (List ℕ)) (bytes : List ℕ) (ent
   }
   reply_holds false (Some false) false a h = record {
     reads = ([], ap requests (sym (append-nil bytes)) ∙ h.reads []);
-    balanced = replied_balanced false a h.balanced;
+    balanced = tt;
     put = reply_put false a h.balanced h.put;
     shut = λ e. cc;
+    none = λ e. refl;
+  }
+
+  -- ---- no memory is found to go on
+
+  mute_reads : (shut : Bool) (out : Option Bool) → ReadsOn shut out bytes entries unread → (later : List Entry) × (requests bytes ≡ entries ++ later)
+  mute_reads true out r = r
+  mute_reads false out r = (_, ap requests (sym (append-nil bytes)) ∙ r [])
+
+  mute_balanced : (overflowed : Bool) → Balanced (overflowed || true) None entries replies
+  mute_balanced true = tt
+  mute_balanced false = tt
+
+  mute_holds : (shut : Bool) (out : Option Bool) (overflowed : Bool) → Holds (at shut out overflowed) → Holds (called (at shut out overflowed) Mute)
+  mute_holds shut out overflowed h = record {
+    reads = mute_reads shut out h.reads;
+    balanced = mute_balanced overflowed;
+    put = h.put;
+    shut = λ e. refl;
     none = λ e. refl;
   }
 
@@ -272,6 +297,7 @@ call_holds p (Feed piece) h =
 call_holds p Next h = next_holds p.session.unread p.session.answers p.fed p.entries p.replies p.gone p.session.shut p.session.out p.overflowed h
 call_holds p (Reply a) h =
     reply_holds p.session.unread p.session.answers p.fed p.entries p.replies p.gone p.session.shut p.session.out p.overflowed a h
+call_holds p Mute h = mute_holds p.session.unread p.session.answers p.fed p.entries p.replies p.gone p.session.shut p.session.out p.overflowed h
 call_holds p (Send n) h =
     send_holds p.session.unread p.session.answers p.fed p.entries p.replies p.gone p.session.shut p.session.out p.overflowed n h
 

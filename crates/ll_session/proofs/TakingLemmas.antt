@@ -1,5 +1,5 @@
 -- What is taken from the front of some bytes, one head after another.
-use Rattle.std.proofs.Common.{◌≡◌, ℕ, zero, suc, ◌<◌, ◌≤◌, List, [], ◌∷◌, ◌++◌, Bool, true, false, Some, refl, ap, ◌∙◌, sym, subst, arith, append_assoc, drop, length}
+use Rattle.std.proofs.Common.{◌≡◌, ◌≢◌, ℕ, zero, suc, ◌<◌, ◌≤◌, List, [], ◌∷◌, ◌++◌, Bool, true, false, Some, refl, ap, ◌∙◌, sym, subst, arith, append_assoc, drop, length}
 use Rattle.std.specs.Prelude.{Result, Ok, Err}
 use Rattle.std.proofs.lemmas.List.{nil_from_length}
 use Rattle.ll_directive.specs.Targets.{WantValue}
@@ -8,7 +8,7 @@ use Rattle.ll_wire.specs.Heads.{HeadValue, Unfinished, Whole, Fault, RequestValu
 use Rattle.ll_wire.specs.declared.fault.HeadFault.{HeadFault}
 use Rattle.ll_wire.proofs.HeadLemmas.{nothing_there}
 use Rattle.ll_session.specs.Requests.{Entry, Refused, Faulty, wanted}
-use Rattle.ll_session.specs.Talk.{Taking, taking, taking_in, taking_by, take_request, nothing_in, passing, ending, refusal, refusals}
+use Rattle.ll_session.specs.Talk.{Taking, entries_of, taking, taking_in, taking_by, take_request, nothing_in, passing, ending, refusal, refusals}
 use Rattle.ll_session.specs.Told.{AddsUp}
 use Rattle.ll_session.proofs.RequestLemmas.{less_after}
 
@@ -93,3 +93,19 @@ module _ (all : Taking) (told : List (List ℕ)) (bytes rest : List ℕ) (same :
       → AddsUp all (told ++ refusal (Refused fault true)) (taking (drop r.len bytes))
   at_refused r fault is reads kept =
       adds_passing all told (refusal (Refused fault true)) (Refused fault true) (taking (drop r.len bytes)) refl (at_request r (Err fault) true is (sym reads) kept)
+
+-- ---- whether anything is taken
+
+pub none_taken : (bytes : List ℕ) → Unfinished ≡ head_of bytes → taking bytes ≡ nothing_in bytes
+none_taken bytes e = taking_at bytes Unfinished e
+
+some_request : (w : Result WantValue TargetFault) (keep : Bool) (later : List ℕ → Taking) (rest : List ℕ) → entries_of (take_request w keep later rest) ≢ []
+some_request (Ok want) keep later rest e = cc
+some_request (Err fault) true later rest e = cc
+some_request (Err fault) false later rest e = cc
+
+pub some_taken : (bytes : List ℕ) (f : HeadValue) → f ≡ head_of bytes → f ≢ Unfinished → entries_of (taking bytes) ≢ []
+some_taken bytes Unfinished e not none = not refl
+some_taken bytes (Fault fault) e not none = let is = taking_at bytes (Fault fault) e in cc
+some_taken bytes (Whole r) e not none =
+    some_request (wanted r.target) r.keep taking (drop r.len bytes) (ap entries_of (sym (taking_at bytes (Whole r) e)) ∙ none)

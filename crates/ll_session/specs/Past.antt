@@ -6,13 +6,14 @@ use Rattle.ll_wire.specs.declared.answer.Answer.{Answer}
 use Rattle.ll_wire.specs.declared.answer.Answer.TheVariants as answer
 use Rattle.ll_session.specs.Requests.{Entry, Wanted, Refused, Faulty, requests}
 use Rattle.ll_session.specs.Output.{unsent}
-use Rattle.ll_session.specs.Talk.{SessionValue, fresh, fed, pulled, replied, sent, taking, entries_of, overflow, most_waiting}
+use Rattle.ll_session.specs.Talk.{SessionValue, fresh, fed, muted, pulled, replied, sent, taking, entries_of, overflow, most_waiting}
 
--- a call that changes a session: `feed`, `next_want`, `answered`, `sent`. One that finds no memory changes nothing, and is left out
+-- a call that changes a session: `feed`, `next_want`, `answered`, `mute`, `sent`. One that finds no memory changes nothing, and is left out
 pub data Call : Type 0 where
   Feed : List ℕ → Call
   Next : Call
   Reply : Answer → Call
+  Mute : Call
   Send : ℕ → Call
 
 -- the session; the bytes that it took; the wants that it gave and what it refused; the answers that it was given; the bytes that
@@ -62,6 +63,7 @@ called p (Feed piece) = record p {
 }
 called p Next = record p { session = pulled p.session; entries = p.entries ++ next_entries p.session }
 called p (Reply a) = reply_by p.session.out p a
+called p Mute = record p { session = muted p.session }
 called p (Send n) = record p { session = sent p.session n; gone = p.gone ++ take n (concat p.session.answers) }
 
 abbrev pub past : List Call → Past

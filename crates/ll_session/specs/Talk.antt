@@ -141,6 +141,10 @@ replied_by (Some false) s a = shuts s (response_bytes a false)
 abbrev pub replied : SessionValue → Answer → SessionValue
 replied s a = replied_by s.out s a
 
+-- no memory is found to go on: nothing more is taken or put out, and it shuts
+abbrev pub muted : SessionValue → SessionValue
+muted s = record s { unread = []; out = None; shut = true }
+
 -- so many bytes were sent
 abbrev pub sent : SessionValue → ℕ → SessionValue
 sent s n = record s { answers = unsent n s.answers }

@@ -1,12 +1,13 @@
 //! One connection's session.
-ghost use Rattle.std.specs.Prelude.{◌≡◌, ◌++◌, IfOk, IsSome, OnErr, OnOk, drop, false, is_some, length, nat_lt};
+ghost use Rattle.std.specs.Prelude.{◌≡◌, ◌≢◌, ◌++◌, [], IfOk, IsSome, OnErr, OnOk, drop, false, is_some, length, nat_lt};
 ghost use Rattle.std.specs.List.{concat};
 ghost use Rattle.ll_wire.specs.Response.{response_bytes};
 ghost use Rattle.ll_session.specs.Output.{first_length};
+ghost use Rattle.ll_session.specs.Past as past;
 ghost use Rattle.ll_session.specs.Talk as talk;
 
 use crate::output::{Output, drop_front};
-use crate::taken::{Taken, take_front};
+use crate::taken::{Taken, is_unfinished, take_front};
 use ll_directive::Want;
 use ll_wire::{Answer, HeadFault, response};
 use std::alloc::{AllocError, Global};
@@ -87,8 +88,9 @@ impl Session {
         ensures ok { OnOk result (self.new ≡ talk.pulled self.old) }
         ensures want { IfOk result (λ want. want ≡ talk.next_want self.old) }
         ensures err { OnErr result (self.new ≡ self.old) }
+        ensures needed { OnErr result (past.next_entries self.old ≢ []) }
     {
-        if self.shut || self.waiting() {
+        if self.shut || self.waiting() || is_unfinished(&self.unread) {
             return Ok(None);
         }
         let Taken {
@@ -136,6 +138,15 @@ impl Session {
         self.out = None;
         self.shut = true;
         Ok(())
+    }
+
+    /// No memory was found to go on: what was put out can still be sent, nothing more is put out, and the session shuts.
+    pub fn mute(&mut self)
+        ensures { self.new ≡ talk.muted self.old }
+    {
+        self.unread.clear();
+        self.out = None;
+        self.shut = true;
     }
 
     /// The bytes that were put out and not sent.

@@ -1,8 +1,8 @@
 //! What is taken from the front of a connection's bytes.
-ghost use Rattle.std.specs.Prelude.{◌≡◌, ◌≤◌, ◌++◌, ◌∷◌, [], IfOk, None, Some, OnOk, drop, false, length, true};
+ghost use Rattle.std.specs.Prelude.{◌≡◌, ◌≢◌, ◌≤◌, ◌++◌, ◌∷◌, [], IfOk, None, Some, OnOk, drop, false, length, true};
 ghost use Rattle.ll_wire.specs.Response.{response_bytes};
 ghost use Rattle.ll_session.specs.Requests.{wanted};
-ghost use Rattle.ll_session.specs.Talk.{taking};
+ghost use Rattle.ll_session.specs.Talk.{entries_of, nothing_in, taking};
 ghost use Rattle.ll_session.specs.Told.{AddsUp};
 
 use crate::output::Output;
@@ -19,6 +19,19 @@ pub(crate) struct Taken {
     pub(crate) want: Option<(Want, bool)>,
     /// Whether a refusal ends the connection.
     pub(crate) ends: bool,
+}
+
+/// Whether nothing can be taken from the front of these bytes: no whole head is there. It takes no memory.
+#[tactic(auto, using(crate::proofs::TakingLemmas::none_taken, crate::proofs::TakingLemmas::some_taken))]
+pub(crate) fn is_unfinished(unread: &[u8]) -> bool
+    ensures nothing { result ≡ true → taking unread.now ≡ nothing_in unread.now }
+    ensures something { result ≡ false → entries_of (taking unread.now) ≢ [] }
+{
+    match next_head(unread) {
+        Head::Part => true,
+        Head::Bad(_) => false,
+        Head::Whole(_, _) => false,
+    }
 }
 
 /// Takes the requests at the front of these bytes up to the first want.

@@ -2,6 +2,15 @@ use ll_held::Owner;
 use ll_room::ClockFault;
 use ll_verdict::{PublishFault, Reply};
 
+/// Why no memory was found for a request.
+#[derive(Clone, Copy, Debug, PartialEq, Eq)]
+pub enum AskStop {
+    /// None was found for the request in its channel, and nothing has changed.
+    Request,
+    /// None was found to keep whose request it is: it was given up.
+    Place,
+}
+
 /// What an act of a script is answered.
 #[derive(Drop)]
 pub enum Answer {

@@ -4,5 +4,5 @@
 mod answer;
 mod rooms;
 
-pub use answer::Answer;
+pub use answer::{Answer, AskStop};
 pub use rooms::Rooms;

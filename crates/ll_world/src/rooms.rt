@@ -1,11 +1,11 @@
 //! The rooms of the channels of a script, and the requests that wait in them.
-ghost use Rattle.std.specs.Prelude.{◌≢◌, ◌≡◌, ◌<◌, ◌++◌, ◌∷◌, [], ℕ, None, Some, true, IfOk, OnErr, OnOk, is_some, length, slice_get};
+ghost use Rattle.std.specs.Prelude.{◌≢◌, ◌≡◌, ◌<◌, ◌++◌, ◌∷◌, [], ℕ, None, Some, true, IfOk, IsErrOf, OnErr, OnOk, is_some, length, slice_get};
 ghost use Rattle.ll_world.specs.Kept.{Leads, kept_world};
 ghost use Rattle.ll_world.specs.World as world;
 ghost use Rattle.ll_world.specs.World.{World, start};
 ghost use Rattle.ll_held.specs.Waits.{under, wait_of, without};
 
-use crate::answer::Answer;
+use crate::answer::{Answer, AskStop};
 use ll_directive::Want;
 use ll_held::{Held, Owner, Wait};
 use ll_item::{Item, Settings};
@@ -105,13 +105,9 @@ impl Rooms {
 
     /// Makes a request of the channel at this place, whose reply is told to this owner: now, or once it is due. It fails only where
     /// no memory is found.
-    pub fn ask(
-        &mut self,
-        owner: Owner,
-        place: usize,
-        want: Want,
-    ) -> Result<Option<Answer>, AllocError>
+    pub fn ask(&mut self, owner: Owner, place: usize, want: Want) -> Result<Option<Answer>, AskStop>
         ensures asked { (w : World) → self.old ≡ kept_world w → IfOk result (λ a. Leads self.new a w (world.ask owner place want w)) }
+        ensures unchanged { IsErrOf result AskStop.Request → self.new ≡ self.old }
     {
         let Some(room) = self.rooms.get_mut(place) else {
             return Ok(None);
@@ -127,12 +123,12 @@ impl Rooms {
                     Ok(None)
                 }
                 Err(parked) => match room.close(parked) {
-                    Closed::Done => Err(AllocError),
+                    Closed::Done => Err(AskStop::Place),
                     Closed::Stranger(_parked) => unreachable!(),
                 },
             },
             Err(AskFault::RecordFull) => Ok(Some(Answer::Unavailable(owner))),
-            Err(AskFault::Memory) => Err(AllocError),
+            Err(AskFault::Memory) => Err(AskStop::Request),
         }
     }
 

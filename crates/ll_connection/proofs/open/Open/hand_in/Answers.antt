@@ -6,7 +6,8 @@ pub returns-then-not-more-clause-handed_in : goal.returns-then-not-more-clause-h
 returns-then-not-more-clause-handed_in c w e d =
     let g = c.loop-more.invariant.goes w e d in
     let same = c.loop-more.invariant.number in
-    goes_last _ _ _ _ _ _ _ _ _ _ _ g (rw same at (c.in_ok-more.ensures.stepped g.world g.stands g.settings))
+    let one = c.in_ok-more.ensures.stepped g.world g.stands g.settings in
+    goes_last _ _ _ _ _ _ _ _ _ _ _ one.0 g (rw same at one.1)
     (rw same at (c.in_ok-more.ensures.last c.if-not-more.true)) (rw (c.in_ok-more.ensures.number, same) at c.in_ok-tell.ensures.told) c.in_ok-tell.ensures.session
 
 pub loop-more-preserved : goal.loop-more-preserved
@@ -16,6 +17,7 @@ loop-more-preserved c =
       number = c.in_ok-tell.ensures.number ∙ c.in_ok-more.ensures.number ∙ same;
       goes = λ w e d.
           let g = c.loop-more.invariant.goes w e d in
-          goes_on _ _ _ _ _ _ _ _ _ _ _ g (rw same at (c.in_ok-more.ensures.stepped g.world g.stands g.settings))
+          let one = c.in_ok-more.ensures.stepped g.world g.stands g.settings in
+          goes_on _ _ _ _ _ _ _ _ _ _ _ one.0 g (rw same at one.1)
           (rw (c.in_ok-more.ensures.number, same) at c.in_ok-tell.ensures.told) c.in_ok-tell.ensures.session;
     }

@@ -11,12 +11,10 @@ use Rattle.ll_world.proofs.StandLemmas.{still_same}
 use Rattle.ll_world.proofs.CallLemmas.{held_leads, kept_of, newest_closes, none_read, tied_back, tied_held}
 use Rattle.ll_world.proofs.rooms.Rooms.ask.Goals as goal
 
-pub returns-in_default : goal.returns-in_default
-returns-in_default c = record {
-  asked = λ w e.
-      let v = c.self.inside.rooms in
-      ask_nowhere (kept_of v.items c.self.inside.held c.self.inside.events) w c.args.owner c.args.place c.args.want (c.self.view_is ∙ e) (none_read v.items _ c.args.place v.ok.0 c.in_default.ensures.variant.1);
-}
+pub returns-in_default-clause-asked : goal.returns-in_default-clause-asked
+returns-in_default-clause-asked c w e =
+    let v = c.self.inside.rooms in
+    ask_nowhere (kept_of v.items c.self.inside.held c.self.inside.events) w c.args.owner c.args.place c.args.want (c.self.view_is ∙ e) (none_read v.items _ c.args.place v.ok.0 c.in_default.ensures.variant.1)
 
 pub invariant_of-self-in-Ok-Now : goal.invariant_of-self-in-Ok-Now
 invariant_of-self-in-Ok-Now c =
@@ -46,30 +44,24 @@ invariant_of-self-in-Err c =
     (slice_get_read v.items _ c.args.place c.in-Some.room.now v.ok.0 (c.in-Some.ensures.variant.0 refl) c.in-Some.ensures.value)
     c.in-Ok-Held.ensures.same c.in-Ok-Held.ensures.asked c.in-Done.ensures.same (c.in-Done.ensures.given_up refl) (c.in-Done.ensures.fewer refl) (ap (λ a. others a (tickets c.ask.new.self)) (sym c.in-Ok-Held.field-0-is) ∙ c.in-Ok-Held.ensures.newest) c.in-Err.ensures.handed_back.0 c.in-Err.ensures.handed_back.1
 
-pub returns-in-Ok-Now : goal.returns-in-Ok-Now
-returns-in-Ok-Now c = record {
-  asked = λ w e.
-      let v = c.self.inside.rooms in
-      subst (λ r. Leads (kept_of (slice_set v.items c.args.place c.ask.new.self) c.self.inside.held c.saturating_add-self-inside.result) (Some (Replied c.args.owner r)) w (ask c.args.owner c.args.place c.args.want w)) (sym c.into_inner.ensures)
-      (asked_now _ (kept_of v.items c.self.inside.held c.self.inside.events) w c.args.owner c.args.place c.args.want c.in-Ok-Now.reply c.in-Some.room.now c.ask.new.self c.saturating_add-self-inside.ensures (c.self.view_is ∙ e)
-      (slice_get_read v.items _ c.args.place c.in-Some.room.now v.ok.0 (c.in-Some.ensures.variant.0 refl) c.in-Some.ensures.value)
-      c.in-Ok-Now.ensures.same c.in-Ok-Now.ensures.asked (λ events st. sym c.in-Ok-Now.field-0-is ∙ c.in-Ok-Now.ensures.answer events st) c.in-Ok-Now.ensures.within);
-}
+pub returns-in-Ok-Now-clause-asked : goal.returns-in-Ok-Now-clause-asked
+returns-in-Ok-Now-clause-asked c w e =
+    let v = c.self.inside.rooms in
+    subst (λ r. Leads (kept_of (slice_set v.items c.args.place c.ask.new.self) c.self.inside.held c.saturating_add-self-inside.result) (Some (Replied c.args.owner r)) w (ask c.args.owner c.args.place c.args.want w)) (sym c.into_inner.ensures)
+    (asked_now _ (kept_of v.items c.self.inside.held c.self.inside.events) w c.args.owner c.args.place c.args.want c.in-Ok-Now.reply c.in-Some.room.now c.ask.new.self c.saturating_add-self-inside.ensures (c.self.view_is ∙ e)
+    (slice_get_read v.items _ c.args.place c.in-Some.room.now v.ok.0 (c.in-Some.ensures.variant.0 refl) c.in-Some.ensures.value)
+    c.in-Ok-Now.ensures.same c.in-Ok-Now.ensures.asked (λ events st. sym c.in-Ok-Now.field-0-is ∙ c.in-Ok-Now.ensures.answer events st) c.in-Ok-Now.ensures.within)
 
-pub returns-in-Ok : goal.returns-in-Ok
-returns-in-Ok c = record {
-  asked = λ w e.
-      let v = c.self.inside.rooms in
-      held_leads v.items c.self.inside.held c.put.new.self c.self.inside.events _ w c.args.owner c.args.place c.args.want c.in-Ok-Held.parked c.in-Some.room.now c.ask.new.self c.saturating_add-self-inside-in-Ok.ensures (c.self.view_is ∙ e) c.self.invariant
-      (slice_get_read v.items _ c.args.place c.in-Some.room.now v.ok.0 (c.in-Some.ensures.variant.0 refl) c.in-Some.ensures.value)
-      c.in-Ok-Held.ensures.same c.in-Ok-Held.ensures.asked (λ events st. sym c.in-Ok-Held.field-0-is ∙ c.in-Ok-Held.ensures.answer events st) c.in-Ok-Held.ensures.within c.in-Ok.ensures.put;
-}
+pub returns-in-Ok-clause-asked : goal.returns-in-Ok-clause-asked
+returns-in-Ok-clause-asked c w e =
+    let v = c.self.inside.rooms in
+    held_leads v.items c.self.inside.held c.put.new.self c.self.inside.events _ w c.args.owner c.args.place c.args.want c.in-Ok-Held.parked c.in-Some.room.now c.ask.new.self c.saturating_add-self-inside-in-Ok.ensures (c.self.view_is ∙ e) c.self.invariant
+    (slice_get_read v.items _ c.args.place c.in-Some.room.now v.ok.0 (c.in-Some.ensures.variant.0 refl) c.in-Some.ensures.value)
+    c.in-Ok-Held.ensures.same c.in-Ok-Held.ensures.asked (λ events st. sym c.in-Ok-Held.field-0-is ∙ c.in-Ok-Held.ensures.answer events st) c.in-Ok-Held.ensures.within c.in-Ok.ensures.put
 
-pub returns-in-Err-RecordFull : goal.returns-in-Err-RecordFull
-returns-in-Err-RecordFull c = record {
-  asked = λ w e.
-      let v = c.self.inside.rooms in
-      asked_full (kept_of v.items c.self.inside.held c.self.inside.events) w c.args.owner c.args.place c.args.want c.in-Some.room.now c.ask.new.self (c.self.view_is ∙ e)
-      (slice_get_read v.items _ c.args.place c.in-Some.room.now v.ok.0 (c.in-Some.ensures.variant.0 refl) c.in-Some.ensures.value)
-      c.in-Err-RecordFull.ensures.unchanged (c.in-Err-RecordFull.ensures.full (ap Err c.in-Err-RecordFull.field-0-is));
-}
+pub returns-in-Err-RecordFull-clause-asked : goal.returns-in-Err-RecordFull-clause-asked
+returns-in-Err-RecordFull-clause-asked c w e =
+    let v = c.self.inside.rooms in
+    asked_full (kept_of v.items c.self.inside.held c.self.inside.events) w c.args.owner c.args.place c.args.want c.in-Some.room.now c.ask.new.self (c.self.view_is ∙ e)
+    (slice_get_read v.items _ c.args.place c.in-Some.room.now v.ok.0 (c.in-Some.ensures.variant.0 refl) c.in-Some.ensures.value)
+    c.in-Err-RecordFull.ensures.unchanged (c.in-Err-RecordFull.ensures.full (ap Err c.in-Err-RecordFull.field-0-is))
