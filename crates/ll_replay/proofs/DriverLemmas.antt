@@ -1,41 +1,35 @@
 -- What a driver says of a step of the world, and of one step after another.
-use Rattle.std.proofs.Common.{◌≡◌, ℕ, zero, suc, ◌+◌, ◌-◌, ◌≤◌, List, [], ◌++◌, Option, None, ap, sym, ◌∙◌, subst, append_assoc, append-nil, arith}
-use Rattle.std.specs.Prelude.{IfErr, OnErr, OnOk, Result, Ok, Err}
+use Rattle.std.proofs.Common.{◌≡◌, ℕ, zero, suc, ◌-◌, ◌≤◌, List, [], ◌∷◌, ◌++◌, Option, None, refl, ap, sym, ◌∙◌, subst, append_assoc, append-nil, arith, fold, length}
+use Rattle.std.proofs.lemmas.List.Sums.{fold-append}
 use Rattle.std.specs.declared.alloc.Global.{Global}
 use Rattle.std.specs.declared.vec.Vec.{Vec}
 use Rattle.std.specs.Io.KnownBytes.{Appends}
 use Rattle.std.proofs.KnownBytes.{Appends-trans}
-use Rattle.ll_world.specs.World.{repeat}
+use Rattle.ll_connection.specs.Visit.{Luck}
 use Rattle.ll_replay.specs.Cuts.{IsCutBetween}
-use Rattle.ll_replay.specs.Kept.{Keeps, Kept, Says, Stands, told}
+use Rattle.ll_replay.specs.Kept.{Kept, Says, Stands, told}
 use Rattle.ll_device.specs.Written.{AppendsPrefix}
 use Rattle.ll_replay.specs.Stream.{StopsBetween}
-use Rattle.ll_replay.specs.Script.{Script, tick}
+use Rattle.ll_replay.specs.Script.{Script, rest_at, so_many, tick}
 use Rattle.ll_replay.specs.declared.outcome.RunFault.{RunFault}
 use Rattle.ll_replay.specs.declared.outcome.RunFault.TheVariants as fault
 use Rattle.ll_replay.proofs.ScriptLaws.{Follows}
 use Rattle.ll_device.proofs.WriteLemmas.{AppendsPrefix-after, AppendsPrefix-longer}
 
 -- a step whose answer was written
-pub said : (new old : Kept) (step : Script → Script) (follows : (w : Script) → Follows w (step w)) (answer : Option (Vec ℕ Global)) (r : Result Unit RunFault)
-    (mid after : Option (List ℕ)) → ((w : Script) → Keeps old w → Says new answer w (step w)) → OnOk r (Appends mid after (told answer))
-    → OnOk r ((w : Script) (base : Option (List ℕ)) → Stands old base mid w → Stands new base after (step w))
-said new old step follows answer (Err f) mid after says wrote = tt
-said new old step follows answer (Ok x) mid after says wrote = λ w base s.
-    let is = says w s.keeps in record {
-      keeps = is.keeps;
-      goes_on = (follows w).2 ∙ s.goes_on;
-      wrote = subst (Appends base after) (sym is.text) (Appends-trans base mid after w.text (told answer) s.wrote wrote);
-    }
+pub said : (new old : Kept) (base mid after : Option (List ℕ)) (w v : Script) (answer : Option (Vec ℕ Global)) → Follows w v → Says new answer w v
+    → Stands old base mid w → Appends mid after (told answer) → Stands new base after v
+said new old base mid after w v answer follows is s wrote = record {
+  keeps = is.keeps;
+  goes_on = follows.2 ∙ s.goes_on;
+  wrote = subst (Appends base after) (sym is.text) (Appends-trans base mid after w.text (told answer) s.wrote wrote);
+}
 
 -- a fault in writing the answer to a step
-pub said-cut : (new old : Kept) (step : Script → Script) (answer : Option (Vec ℕ Global)) (r : Result Unit RunFault) (mid after : Option (List ℕ))
-    → ((w : Script) → Keeps old w → Says new answer w (step w)) → IfErr r (λ f. f ≡ fault.Write) → OnErr r (AppendsPrefix mid after (told answer))
-    → IfErr r (λ f. (w : Script) (base : Option (List ℕ)) → Stands old base mid w → IsCutBetween base after w (step w) f)
-said-cut new old step answer (Ok x) mid after says kind prefix = tt
-said-cut new old step answer (Err f) mid after says kind prefix = λ w base s.
-    let more = AppendsPrefix-after base mid after w.text (told answer) (step w).text (says w s.keeps).text s.wrote prefix in
-    subst (IsCutBetween base after w (step w)) (sym kind) more
+pub said-cut : (new old : Kept) (base mid after : Option (List ℕ)) (w v : Script) (answer : Option (Vec ℕ Global)) (f : RunFault) → Says new answer w v
+    → Stands old base mid w → f ≡ fault.Write → AppendsPrefix mid after (told answer) → IsCutBetween base after w v f
+said-cut new old base mid after w v answer f is s kind prefix =
+    subst (IsCutBetween base after w v) (sym kind) (AppendsPrefix-after base mid after w.text (told answer) v.text is.text s.wrote prefix)
 
 -- a run that stops before it says anything of what comes next
 pub stops-before : (k : Kept) (base written : Option (List ℕ)) (w v : Script) → Stands k base written w → Follows w v → StopsBetween base written w v
@@ -67,15 +61,33 @@ cut-later base written w v u fault.Memory a c = (
 cut-later base written w v u fault.Read a c = c
 cut-later base written w v u fault.Endless a c = c
 
--- where a tick changes nothing, no further one does
+-- ---- replies, one after another
 
-still_more : (place n d m : ℕ) (w : Script) → m ≡ d + n → tick place (repeat (tick place) n w) ≡ repeat (tick place) n w
-    → repeat (tick place) m w ≡ repeat (tick place) n w
-still_more place n zero m w e still = let same : m ≡ n = omega (arith, e) in ap (λ k. repeat (tick place) k w) same
-still_more place n (suc d) zero w e still = absurd (omega (arith, e))
-still_more place n (suc d) (suc k) w e still =
-    let less : k ≡ d + n = omega (arith, e) in ap (tick place) (still_more place n d k w less still) ∙ still
+-- where none is due, none is told, whatever memory is found
+pub all-still : (place : ℕ) (w : Script) (list : List (List Luck)) → ((lucks : List Luck) → tick place w lucks ≡ w) → fold (tick place) w list ≡ w
+all-still place w [] still = refl
+all-still place w (lucks ∷ list) still = ap (λ v. fold (tick place) v list) (still lucks) ∙ all-still place w list still
 
-pub ticks-still : (place n m : ℕ) (w : Script) → n ≤ m → tick place (repeat (tick place) n w) ≡ repeat (tick place) n w
-    → repeat (tick place) m w ≡ repeat (tick place) n w
-ticks-still place n m w le still = still_more place n (m - n) m w (omega (arith, le)) still
+so_many-all : (n : ℕ) (list : List (List Luck)) → length list ≡ n → so_many n list ≡ list
+so_many-all zero [] e = refl
+so_many-all zero (lucks ∷ list) e = absurd (omega (arith, e))
+so_many-all (suc n) [] e = absurd (omega (arith, e))
+so_many-all (suc n) (lucks ∷ list) e = ap (λ more. lucks ∷ more) (so_many-all n list (omega (arith, e)))
+
+so_many-more : (n : ℕ) (list : List (List Luck)) → length list ≤ n → so_many n list ≡ list ++ so_many (n - length list) []
+so_many-more n [] h = let same : n ≡ n - 0 = omega arith in ap (λ m. so_many m []) same
+so_many-more zero (lucks ∷ list) h = absurd (omega (arith, h))
+so_many-more (suc n) (lucks ∷ list) h =
+    let left : n - length list ≡ suc n - length (lucks ∷ list) = omega arith in
+    ap (λ more. lucks ∷ more) (so_many-more n list (omega (arith, h)) ∙ ap (λ m. list ++ so_many m []) left)
+
+-- these are told first, and then the others that are due
+pub rest_at-more : (replies : List (List Luck)) (place : ℕ) (w : Script) → length replies ≤ length w.rooms.waits
+    → rest_at replies place w ≡ fold (tick place) (fold (tick place) w replies) (so_many (length w.rooms.waits - length replies) [])
+rest_at-more replies place w h =
+    ap (fold (tick place) w) (so_many-more (length w.rooms.waits) replies h)
+    ∙ fold-append (tick place) w replies (so_many (length w.rooms.waits - length replies) [])
+
+-- these are all
+pub rest_at-all : (replies : List (List Luck)) (place : ℕ) (w : Script) → length replies ≡ length w.rooms.waits → rest_at replies place w ≡ fold (tick place) w replies
+rest_at-all replies place w e = ap (fold (tick place) w) (so_many-all (length w.rooms.waits) replies e)

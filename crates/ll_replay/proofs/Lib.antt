@@ -1,3 +1,4 @@
+pub mod DoneLemmas
 pub mod DriverLemmas
 pub mod HeardLemmas
 pub mod LineLemmas

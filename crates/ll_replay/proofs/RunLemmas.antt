@@ -32,7 +32,7 @@ pub StopsAfter-now : (held : List ℕ) (kept : Kept) (base written before left a
     → StandsFor held kept base written bytes → Consumes before left bytes → Keeps left after → StopsAfter before after base written
 StopsAfter-now held kept base written before left after bytes s p e =
     let fits : length (open_line bytes) ≤ 65537 = rw (← s.holds) s.fits in
-    (bytes, Consumes-kept before left after bytes p e, s.stands.goes_on, fits, s.stands.wrote)
+    (bytes, s.list, Consumes-kept before left after bytes p e, s.lines, s.stands.goes_on, fits, s.stands.wrote)
 
 -- a fault that is handed on
 pub IfErr-handed : {X : Type 0} (P : RunFault → Type 0) (r : Result X RunFault) (f : RunFault) → IsErrAnd r (λ y. y ≡ f) → P f → IfErr r P

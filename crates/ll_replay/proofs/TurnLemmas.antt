@@ -5,6 +5,7 @@ use Rattle.std.specs.declared.alloc.Global.{Global}
 use Rattle.std.specs.declared.vec.Vec.{Vec}
 use Rattle.ll_connection.specs.Stands.{IsTurn}
 use Rattle.ll_connection.specs.Turn as connection
+use Rattle.ll_connection.specs.Visit.{Luck}
 use Rattle.ll_connection.specs.declared.sent.Sent.{Sent}
 use Rattle.ll_connection.proofs.RoomsLaws as laws
 use Rattle.ll_directive.specs.Targets.{WantValue}
@@ -36,14 +37,16 @@ module _ (all : List Configuration) where
   closes : (w : world.World) (o : Owner) → Same all w → Same all (world.close o w)
   closes w o h = close-keeps w o ∙ h
 
-pub bytes-same : (n : ℕ) (piece : List ℕ) (all : connection.Connections) (w : world.World) → all_settings (connection.bytes n piece all w).rooms ≡ all_settings w
-bytes-same n piece all w = laws.bytes-keeps (Same (all_settings w)) (asks (all_settings w)) (closes (all_settings w)) n piece all w refl
+pub bytes-same : (lucks : List Luck) (n : ℕ) (piece : List ℕ) (all : connection.Connections) (w : world.World)
+    → all_settings (connection.bytes lucks n piece all w).rooms ≡ all_settings w
+bytes-same lucks n piece all w = laws.bytes-keeps (Same (all_settings w)) (asks (all_settings w)) (closes (all_settings w)) lucks n piece all w refl
 
 pub end-same : (n : ℕ) (all : connection.Connections) (w : world.World) → all_settings (connection.end n all w).rooms ≡ all_settings w
 end-same n all w = laws.end-keeps (Same (all_settings w)) (asks (all_settings w)) (closes (all_settings w)) n all w refl
 
-pub reply-same : (n : ℕ) (a : Reply) (all : connection.Connections) (w : world.World) → all_settings (connection.reply n a all w).rooms ≡ all_settings w
-reply-same n a all w = laws.reply-keeps (Same (all_settings w)) (asks (all_settings w)) (closes (all_settings w)) n a all w refl
+pub reply-same : (lucks : List Luck) (n : ℕ) (a : Reply) (all : connection.Connections) (w : world.World)
+    → all_settings (connection.reply lucks n a all w).rooms ≡ all_settings w
+reply-same lucks n a all w = laws.reply-keeps (Same (all_settings w)) (asks (all_settings w)) (closes (all_settings w)) lucks n a all w refl
 
 -- ---- what is sent is written and counted
 
@@ -77,17 +80,20 @@ turned-says old new all held sent t w k turn same is = record {
 
 -- a call on the connections, of which all that is sent is counted and written
 pub sent-says : (old now new : Kept) (all : connection.Connections) (held : rooms.Kept) (sent : Sent) (text : Vec ℕ Global)
-    (t : connection.Connections → world.World → connection.Turn) → old ≡ now → text ≡ sent.text
-    → ((v : world.World) → old.rooms ≡ rooms.kept_world v → old.declared ≡ all_settings v → IsTurn all held sent (t old.connections v))
-    → ((all : connection.Connections) (v : world.World) → all_settings (t all v).rooms ≡ all_settings v)
+    (t : List Luck → connection.Connections → world.World → connection.Turn) → old ≡ now → text ≡ sent.text
+    → ((v : world.World) → old.rooms ≡ rooms.kept_world v → old.declared ≡ all_settings v → (lucks : List Luck) × IsTurn all held sent (t lucks old.connections v))
+    → ((lucks : List Luck) (all : connection.Connections) (v : world.World) → all_settings (t lucks all v).rooms ≡ all_settings v)
     → new ≡ goes_on_as old held all (min (old.replies + sent.replies) count_end)
-    → (w : Script) → Keeps now w → Says new (Some text) w (turned w (t w.connections w.rooms))
+    → (w : Script) → Keeps now w → (lucks : List Luck) × Says new (Some text) w (turned w (t lucks w.connections w.rooms))
 sent-says old now new all held sent text t same spelled turns keeps is w k =
     let q = subst (λ s. Keeps s w) (sym same) k in
     let turn = turns w.rooms (ap (λ (s : Kept). s.rooms) q.stands) (ap (λ (s : Kept). s.declared) q.stands) in
-    subst (λ x. Says new (Some x) w (turned w (t w.connections w.rooms))) (sym spelled)
-    (turned-says old new all held sent (t w.connections w.rooms) w q
-    (subst (λ l. IsTurn all held sent (t l w.rooms)) (ap (λ (s : Kept). s.connections) q.stands) turn) (keeps w.connections w.rooms) is)
+    let lucks = turn.0 in (
+      lucks,
+      subst (λ x. Says new (Some x) w (turned w (t lucks w.connections w.rooms))) (sym spelled)
+          (turned-says old new all held sent (t lucks w.connections w.rooms) w q
+          (subst (λ l. IsTurn all held sent (t lucks l w.rooms)) (ap (λ (s : Kept). s.connections) q.stands) turn.1) (keeps lucks w.connections w.rooms) is),
+    )
 
 -- nothing is written for a connection that ended
 ends_silent : (n : ℕ) (all : connection.Connections) (w : world.World) (o : Option (Option SessionValue))
@@ -135,8 +141,8 @@ module _ (old now : Kept) (held : rooms.Kept) (place : ℕ) (a : Option answer.A
   -- one to a connection
   pub tick-passed : {E : Type 0} (r : Result (Option (Vec ℕ Global)) E) (n : ℕ) (reply : Reply) (mid new : Kept) → a ≡ Some (said.Replied (Connection n) reply)
       → mid ≡ record old { rooms = held }
-      → ((u : Script) → Keeps mid u → IfOk r (λ t. Says new t u (turned u (connection.reply n reply u.connections u.rooms))))
-      → (w : Script) → Keeps now w → IfOk r (λ t. Says new t w (tick place w))
+      → ((u : Script) → Keeps mid u → IfOk r (λ t. (lucks : List Luck) × Says new t u (turned u (connection.reply lucks n reply u.connections u.rooms))))
+      → (w : Script) → Keeps now w → IfOk r (λ t. (lucks : List Luck) × Says new t w (tick place w lucks))
   tick-passed (Err e) n reply mid new is_a is_mid goes w k = tt
   tick-passed (Ok t) n reply mid new is_a is_mid goes w k =
       let q = here w k in
@@ -145,30 +151,36 @@ module _ (old now : Kept) (held : rooms.Kept) (place : ℕ) (a : Option answer.A
       within old.replies w.replies count_end (ap (λ (s : Kept). s.replies) q.stands) ∙ ap (λ o. min (old.replies + reply_count (answers_of o)) count_end) (sym is_a) in
       let nothing : [] ≡ flat_map spelled (answers_of a) = ap (λ o. flat_map spelled (answers_of o)) (sym is_a) in
       let first : Says (hears old held old.replies) None w (heard w v) = heard-says old held old.replies w v a None q (there w q) (tick-keeps w.rooms place) quiet nothing in
-      let second = goes (heard w v) (subst (λ s. Keeps s (heard w v)) (sym is_mid) first.keeps) in
-      let to : tick place w ≡ turned (heard w v) (connection.reply n reply w.connections (silent v)) =
-      ap (fold passed_on (heard w v)) (answers_are held a w.rooms v q.silent (there w q) ∙ ap answers_of is_a) in
-      subst (Says new t w) (sym to)
-      (record { keeps = second.keeps; text = second.text ∙ ap (λ l. l ++ told t) (first.text ∙ append-nil w.text) })
+      let next = goes (heard w v) (subst (λ s. Keeps s (heard w v)) (sym is_mid) first.keeps) in
+      let lucks = next.0 in
+      let second = next.1 in
+      let to : tick place w lucks ≡ turned (heard w v) (connection.reply lucks n reply w.connections (silent v)) =
+      ap (fold (passed_on lucks) (heard w v)) (answers_are held a w.rooms v q.silent (there w q) ∙ ap answers_of is_a) in (
+        lucks,
+        subst (Says new t w) (sym to)
+            (record { keeps = second.keeps; text = second.text ∙ ap (λ l. l ++ told t) (first.text ∙ append-nil w.text) }),
+      )
     where
       within : (n r e : ℕ) → n ≡ min r e → n ≡ min (n + 0) e
       within n r e h = omega arith
 
-  module _ (other : (w : Script) → fold passed_on w (answers_of a) ≡ w) where
-    stays : (w : Script) → Keeps old w → tick place w ≡ heard w (world.tick place w.rooms)
-    stays w q =
+  module _ (other : (lucks : List Luck) (w : Script) → fold (passed_on lucks) w (answers_of a) ≡ w) where
+    stays : (lucks : List Luck) (w : Script) → Keeps old w → tick place w lucks ≡ heard w (world.tick place w.rooms)
+    stays lucks w q =
         let v = world.tick place w.rooms in
-        ap (fold passed_on (heard w v)) (answers_are held a w.rooms v q.silent (there w q)) ∙ other (heard w v)
+        ap (fold (passed_on lucks) (heard w v)) (answers_are held a w.rooms v q.silent (there w q)) ∙ other lucks (heard w v)
 
     -- any other
     pub tick-heard : {E : Type 0} (r : Result (Option (Vec ℕ Global)) E) (new : Kept) → new ≡ hears old held (min (old.replies + reply_count (answers_of a)) count_end)
-        → IfOk r (λ t. told t ≡ flat_map spelled (answers_of a)) → (w : Script) → Keeps now w → IfOk r (λ t. Says new t w (tick place w))
+        → IfOk r (λ t. told t ≡ flat_map spelled (answers_of a)) → (w : Script) → Keeps now w → IfOk r (λ t. (lucks : List Luck) × Says new t w (tick place w lucks))
     tick-heard (Err e) new is text w k = tt
-    tick-heard (Ok t) new is text w k =
-        subst (Says new t w) (sym (stays w (here w k)))
-        (heard-result {E = Unit} (Ok t) old now new held (world.tick place) a same (λ v. tick-keeps v place) leads is text w k)
+    tick-heard (Ok t) new is text w k = (
+      [],
+      subst (Says new t w) (sym (stays [] w (here w k)))
+          (heard-result {E = Unit} (Ok t) old now new held (world.tick place) a same (λ v. tick-keeps v place) leads is text w k),
+    )
 
     pub tick-still : {E : Type 0} (r : Result (Option (Vec ℕ Global)) E) → ((v : world.World) → old.rooms ≡ rooms.kept_world v → a ≡ None → world.tick place v ≡ v)
-        → IfOk r (λ t. t ≡ None → a ≡ None) → (w : Script) → Keeps now w → IfOk r (λ t. t ≡ None → tick place w ≡ w)
+        → IfOk r (λ t. t ≡ None → a ≡ None) → (w : Script) → Keeps now w → IfOk r (λ t. t ≡ None → (lucks : List Luck) → tick place w lucks ≡ w)
     tick-still (Err e) still none w k = tt
-    tick-still (Ok t) still none w k = λ nothing. stays w (here w k) ∙ still-result {E = Unit} (Ok t) old now (world.tick place) a same still none w k nothing
+    tick-still (Ok t) still none w k = λ nothing lucks. stays lucks w (here w k) ∙ still-result {E = Unit} (Ok t) old now (world.tick place) a same still none w k nothing

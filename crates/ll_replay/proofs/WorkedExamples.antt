@@ -20,4 +20,4 @@ use Rattle.ll_replay.specs.Worked.{WorkedScript}
 
 pub worked : WorkedScript
 unfolding line_text segment_uri part_uri map_uri report_uri seconds digits configuration_of nth_date time_of digits_2 digits_3 digits_4 ok_line refusal_line text_reply named_reply rendition_refusal is_there raw_pairs split percent_decode line is_utf8 chars encode_utf8
-worked = record { at_once = refl; later = refl; refusals = refl; last_refusals_told = refl; waiting = refl; same_text = refl; same_ending = refl }
+worked = record { no_memory = refl; at_once = refl; later = refl; refusals = refl; last_refusals_told = refl; waiting = refl; same_text = refl; same_ending = refl }

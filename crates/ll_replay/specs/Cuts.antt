@@ -1,12 +1,12 @@
 -- For private contracts: what a fault says of a line, of a script and of a run, and what a stream stands for.
-use Rattle.std.specs.Prelude.{◌≡◌, ◌≤◌, ℕ, List, Option, Some, length, ⊤}
+use Rattle.std.specs.Prelude.{◌≡◌, ◌≤◌, ℕ, List, Option, Some, length, map, ⊤}
 use Rattle.std.specs.Io.KnownBytes.{Appends}
 use Rattle.ll_replay.specs.declared.outcome.RunFault.{RunFault}
 use Rattle.ll_replay.specs.declared.outcome.RunFault.TheVariants as fault
 use Rattle.ll_replay.specs.Kept.{Kept, Stands}
 use Rattle.ll_device.specs.Written.{AppendsPrefix}
-use Rattle.ll_replay.specs.Stream.{EndsBy, StopsAfter, StopsBetween, StopsForMemory, open_line, script, world_so_far}
-use Rattle.ll_replay.specs.Script.{Script, BadLine, LineTooLong}
+use Rattle.ll_replay.specs.Stream.{EndsBy, IsBegun, StopsAfter, StopsBetween, StopsForMemory, come_to, ended_lines, open_line, text_of}
+use Rattle.ll_replay.specs.Script.{Marked, Script, BadLine, LineTooLong}
 
 -- what a fault says of the way from one world to the next
 abbrev pub IsCutBetween : (base written : Option (List ℕ)) → (before after : Script) → RunFault → Type 0
@@ -21,7 +21,7 @@ IsCutBetween base written before after fault.Endless = ⊥
 abbrev pub IsCutAt : Option (List ℕ) → Option (List ℕ) → List ℕ → RunFault → Type 0
 IsCutAt base written input (fault.BadLine n) = EndsBy (BadLine n) base written input
 IsCutAt base written input (fault.LineTooLong n) = EndsBy (LineTooLong n) base written input
-IsCutAt base written input fault.Write = AppendsPrefix base written (script input)
+IsCutAt base written input fault.Write = IsBegun base written input
 IsCutAt base written input fault.Memory = StopsForMemory base written input
 IsCutAt base written input fault.Read = ⊥
 IsCutAt base written input fault.Endless = ⊥
@@ -45,4 +45,6 @@ HasFailed read write endless (fault.LineTooLong n) = ⊤
 pub record StandsFor (held : List ℕ) (kept : Kept) (base written : Option (List ℕ)) (bytes : List ℕ) : Type 0 where
   pub holds : held ≡ open_line bytes
   pub fits : length held ≤ 65537
-  pub stands : Stands kept base written (world_so_far bytes)
+  pub list : List Marked
+  pub lines : map text_of list ≡ ended_lines bytes
+  pub stands : Stands kept base written (come_to list)

@@ -1,5 +1,5 @@
 -- For private contracts: what a driver keeps in place of all events.
-use Rattle.std.specs.Prelude.{◌≡◌, ℕ, List, [], Option, None, Some, ◌++◌, min}
+use Rattle.std.specs.Prelude.{◌≡◌, ℕ, List, [], Option, None, Some, ◌++◌, if◌then◌else◌, min}
 use Rattle.std.specs.declared.alloc.Global.{Global}
 use Rattle.std.specs.declared.vec.Vec.{Vec}
 use Rattle.std.specs.Io.KnownBytes.{Appends}
@@ -7,7 +7,10 @@ use Rattle.ll_connection.specs.Turn.{Connections}
 use Rattle.ll_item.specs.Settings.{Configuration}
 use Rattle.ll_world.specs.Kept as rooms
 use Rattle.ll_world.specs.World as rooms_world
-use Rattle.ll_replay.specs.Script.{Script}
+use Rattle.ll_script.specs.Lines.{starved}
+use Rattle.ll_script.specs.declared.act.Act.{Act}
+use Rattle.ll_replay.specs.declared.driver.Done.{Done}
+use Rattle.ll_replay.specs.Script.{Lot, Script, act, makes_due}
 
 pub record Kept : Type 0 where
   pub rooms : rooms.Kept
@@ -43,6 +46,16 @@ told (Some text) = text.items
 pub record Says (driver : Kept) (answer : Option (Vec ℕ Global)) (old new : Script) : Type 0 where
   pub keeps : Keeps driver new
   pub text : new.text ≡ old.text ++ told answer
+
+-- what an act comes to with this memory
+abbrev pub met : Lot → Act → Act
+met lot a = if lot.refused then starved a else a
+
+-- an act was done, with what memory was found for: what it says, and where it may have made replies due
+pub record IsDone (driver : Kept) (result : Done) (a : Act) (old : Script) : Type 0 where
+  pub lot : Lot
+  pub due : result.due ≡ makes_due (met lot a)
+  pub says : Says driver result.answer old (act lot.requests old (met lot a))
 
 -- a driver stands for what a script has come to, and what was written since base is its text
 pub record Stands (driver : Kept) (base written : Option (List ℕ)) (w : Script) : Type 0 where

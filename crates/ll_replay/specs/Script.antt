@@ -1,13 +1,14 @@
 -- What a script comes to, line by line.
-use Rattle.std.specs.Prelude.{ℕ, ◌+◌, List, [], ◌++◌, Bool, true, false, Option, Some, None, length, filter, flat_map, fold, min, nat_lt}
+use Rattle.std.specs.Prelude.{ℕ, zero, suc, ◌+◌, List, [], ◌∷◌, ◌++◌, Bool, true, false, Option, Some, None, length, filter, flat_map, fold, if◌then◌else◌, min, nat_lt}
 use Rattle.ll_connection.specs.Turn as connection
+use Rattle.ll_connection.specs.Visit.{Luck}
 use Rattle.ll_held.specs.declared.owner.Owner.{Owner}
 use Rattle.ll_held.specs.declared.owner.Owner.TheVariants.{Get, Connection}
 use Rattle.ll_room.specs.declared.fault.ClockFault.{ClockFault}
 use Rattle.ll_room.specs.declared.fault.ClockFault.TheVariants as fault
 use Rattle.ll_publish.specs.Refusals.{no_line, ok_line, refusal_of}
 use Rattle.ll_script.specs.Answers.{clock_line, fault_line, reply_lines, unasked_line}
-use Rattle.ll_script.specs.Lines.{acts}
+use Rattle.ll_script.specs.Lines.{acts, starved}
 use Rattle.ll_script.specs.declared.act.Act.{Act}
 use Rattle.ll_script.specs.declared.act.Act.TheVariants.{Declare, Offer, Refuse, Ask, Answer, Close, Clock, RefuseClock, Bytes, Drop}
 use Rattle.ll_script.specs.declared.ask.AskRefusal.TheVariants as unasked
@@ -24,6 +25,27 @@ use Rattle.ll_replay.specs.declared.outcome.Summary.{Summary}
 pub data Ending : Type 0 where
   BadLine : ℕ → Ending
   LineTooLong : ℕ → Ending
+
+-- what memory is found for while an act is done and what it makes happen; where a list is too short, for all that follows
+pub record Lot : Type 0 where
+  -- none is found for the item or the request of a line
+  pub refused : Bool
+  -- for the requests that its bytes bring, one after another
+  pub requests : List Luck
+  -- for each reply that it makes due: for the reply, and for the requests of its connection after it
+  pub replies : List (List Luck)
+
+abbrev pub plain : Lot
+plain = record { refused = false; requests = []; replies = [] }
+
+-- a line, with what memory is found for, act by act
+pub record Marked : Type 0 where
+  pub text : List ℕ
+  pub lots : List Lot
+
+-- a line for which all memory is found
+abbrev pub unmarked : List ℕ → Marked
+unmarked text = record { text = text; lots = [] }
 
 -- what the lines so far came to
 pub record Script : Type 0 where
@@ -102,40 +124,46 @@ turned w t = record w { rooms = silent t.rooms; connections = t.connections; rep
 
 -- ---- acts
 
-abbrev pub act : Script → Act → Script
-act w (Declare settings) = heard w (rooms.declare settings w.rooms)
-act w (Offer place item) = heard w (rooms.offer place item w.rooms)
-act w (Refuse reason) = says w (no_line reason)
-act w (Ask id place want) = asked_under (heard w (rooms.ask (Get id) place want w.rooms)) id
-act w (Answer id reason) = replied w id (fault_line id reason)
-act w (Close id) = heard w (rooms.close (Get id) w.rooms)
-act w (Clock place ms) = heard w (rooms.clock place ms w.rooms)
-act w RefuseClock = says w (clock_line refused.ClockRange)
-act w (Bytes n piece) = turned w (connection.bytes n piece w.connections w.rooms)
-act w (Drop n) = turned w (connection.end n w.connections w.rooms)
+abbrev pub act : List Luck → Script → Act → Script
+act lucks w (Declare settings) = heard w (rooms.declare settings w.rooms)
+act lucks w (Offer place item) = heard w (rooms.offer place item w.rooms)
+act lucks w (Refuse reason) = says w (no_line reason)
+act lucks w (Ask id place want) = asked_under (heard w (rooms.ask (Get id) place want w.rooms)) id
+act lucks w (Answer id reason) = replied w id (fault_line id reason)
+act lucks w (Close id) = heard w (rooms.close (Get id) w.rooms)
+act lucks w (Clock place ms) = heard w (rooms.clock place ms w.rooms)
+act lucks w RefuseClock = says w (clock_line refused.ClockRange)
+act lucks w (Bytes n piece) = turned w (connection.bytes lucks n piece w.connections w.rooms)
+act lucks w (Drop n) = turned w (connection.end n w.connections w.rooms)
 
 -- a reply is passed on to the connection that asked for it, which then makes its next requests
-abbrev pub passed_to : Owner → Reply → Script → Script
-passed_to (Get id) reply w = w
-passed_to (Connection n) reply w = turned w (connection.reply n reply w.connections w.rooms)
+abbrev pub passed_to : List Luck → Owner → Reply → Script → Script
+passed_to lucks (Get id) reply w = w
+passed_to lucks (Connection n) reply w = turned w (connection.reply lucks n reply w.connections w.rooms)
 
-abbrev pub passed_on : Script → answer.Answer → Script
-passed_on w (said.Accepted count) = w
-passed_on w (said.Refused reason) = w
-passed_on w (said.ClockRefused reason) = w
-passed_on w (said.Replied owner reply) = passed_to owner reply w
-passed_on w (said.Unavailable owner) = w
+abbrev pub passed_on : List Luck → Script → answer.Answer → Script
+passed_on lucks w (said.Accepted count) = w
+passed_on lucks w (said.Refused reason) = w
+passed_on lucks w (said.ClockRefused reason) = w
+passed_on lucks w (said.Replied owner reply) = passed_to lucks owner reply w
+passed_on lucks w (said.Unavailable owner) = w
 
-abbrev pub ticked : Script → rooms.World → Script
-ticked w v = fold passed_on (heard w v) v.answers
+abbrev pub ticked : Script → List Luck → rooms.World → Script
+ticked w lucks v = fold (passed_on lucks) (heard w v) v.answers
 
 -- of the replies of the channel at this place that are due, the one asked for first is written
-abbrev pub tick : ℕ → Script → Script
-tick place w = ticked w (rooms.tick place w.rooms)
+abbrev pub tick : ℕ → Script → List Luck → Script
+tick place w lucks = ticked w lucks (rooms.tick place w.rooms)
+
+-- so many of these; where they are too few, all memory is found for the others
+abbrev pub so_many : ℕ → List (List Luck) → List (List Luck)
+so_many zero replies = []
+so_many (suc n) [] = [] ∷ so_many n []
+so_many (suc n) (lucks ∷ replies) = lucks ∷ so_many n replies
 
 -- all replies of the channel at this place that are due are written: no more than requests wait
-abbrev pub rest_at : ℕ → Script → Script
-rest_at place w = rooms.repeat (tick place) (length w.rooms.waits) w
+abbrev pub rest_at : List (List Luck) → ℕ → Script → Script
+rest_at replies place w = fold (tick place) w (so_many (length w.rooms.waits) replies)
 
 -- the channel in which an act may make replies due: only an item and a reading of the clock make any due
 abbrev pub makes_due : Act → Option ℕ
@@ -151,18 +179,28 @@ makes_due (Bytes n piece) = None
 makes_due (Drop n) = None
 
 -- what happens by itself after an act: the replies that it made due are written
-abbrev pub rest : Option ℕ → Script → Script
-rest None w = w
-rest (Some place) w = rest_at place w
+abbrev pub rest : List (List Luck) → Option ℕ → Script → Script
+rest replies None w = w
+rest replies (Some place) w = rest_at replies place w
 
-abbrev pub done : Script → Act → Script
-done w a = rest (makes_due a) (act w a)
+abbrev pub done_as : Lot → Script → Act → Script
+done_as lot w a = rest lot.replies (makes_due a) (act lot.requests w a)
+
+-- an act, with what memory is found for
+abbrev pub done : Script → Lot × Act → Script
+done w a = done_as a.0 w (if a.0.refused then starved a.1 else a.1)
+
+-- each act with its lot
+abbrev pub with_lots : List Lot → List Act → List (Lot × Act)
+with_lots lots [] = []
+with_lots [] (a ∷ list) = (plain, a) ∷ with_lots [] list
+with_lots (lot ∷ lots) (a ∷ list) = (lot, a) ∷ with_lots lots list
 
 -- ---- lines
 
-abbrev pub acted : Script → Option (List Act) → Script
-acted w None = record w { ending = Some (BadLine w.lines) }
-acted w (Some list) = fold done w list
+abbrev pub acted : List Lot → Script → Option (List Act) → Script
+acted lots w None = record w { ending = Some (BadLine w.lines) }
+acted lots w (Some list) = fold done w (with_lots lots list)
 
 abbrev pub counted : Script → Script
 counted w = record w { lines = w.lines + 1 }
@@ -171,17 +209,17 @@ counted w = record w { lines = w.lines + 1 }
 abbrev pub longest_line : ℕ
 longest_line = 65536
 
-abbrev pub read_by : Bool → Script → List ℕ → Script
-read_by true w text = record (counted w) { ending = Some (LineTooLong (w.lines + 1)) }
-read_by false w text = acted (counted w) (acts (all_settings w.rooms) w.last_id text)
+abbrev pub read_by : Bool → Script → Marked → Script
+read_by true w l = record (counted w) { ending = Some (LineTooLong (w.lines + 1)) }
+read_by false w l = acted l.lots (counted w) (acts (all_settings w.rooms) w.last_id l.text)
 
-abbrev pub line_by : Option Ending → Script → List ℕ → Script
-line_by (Some ending) w text = w
-line_by None w text = read_by (nat_lt longest_line (length text)) w text
+abbrev pub line_by : Option Ending → Script → Marked → Script
+line_by (Some ending) w l = w
+line_by None w l = read_by (nat_lt longest_line (length l.text)) w l
 
 -- one more line; none is read after one that ends the script
-unfoldable pub line : Script → List ℕ → Script
-line w text = line_by w.ending w text
+unfoldable pub line : Script → Marked → Script
+line w l = line_by w.ending w l
 
 -- ---- the summary
 

@@ -1,7 +1,7 @@
 -- The definitions at worked examples: small scripts, and all that is written for each, byte for byte.
-use Rattle.std.specs.Prelude.{◌≡◌, ℕ, List, ◌∷◌, ◌++◌, Some, codes}
-use Rattle.ll_replay.specs.Stream.{script, world_of}
-use Rattle.ll_replay.specs.Script.{BadLine}
+use Rattle.std.specs.Prelude.{◌≡◌, ℕ, List, [], ◌∷◌, ◌++◌, true, Some, codes}
+use Rattle.ll_replay.specs.Stream.{come_to, script, world_of}
+use Rattle.ll_replay.specs.Script.{BadLine, Marked, plain, unmarked}
 
 abbrev pub channel_line : List ℕ
 channel_line = codes "channel cam target=4 part=1000000 skip=24 window=36 renditions=hi first=0 start=0\n"
@@ -130,7 +130,25 @@ waiting_text =
 abbrev pub same_number : List ℕ
 same_number = asked_at_once ++ codes "get 1 /cam/hi/live.m3u8\n" ++ codes "pub cam part hi 1000000 if\n"
 
+-- a line for whose item or request no memory is found
+abbrev pub refused_line : List ℕ → Marked
+refused_line text = record { text = text; lots = (record plain { refused = true }) ∷ [] }
+
+abbrev pub declared : Marked
+declared = unmarked (codes "channel cam target=4 part=1000000 skip=24 window=36 renditions=hi first=0 start=0")
+
+-- the same item twice, of which the first finds no memory, and so does the first of two requests
+abbrev pub lines_without_memory : List Marked
+lines_without_memory =
+    declared
+    ∷ refused_line (codes "pub cam part hi 1000000 if")
+    ∷ unmarked (codes "pub cam part hi 1000000 if")
+    ∷ refused_line (codes "get 1 /cam/hi/live.m3u8")
+    ∷ unmarked (codes "get 2 /cam/hi/live.m3u8")
+    ∷ []
+
 pub record WorkedScript : Type 0 where
+  pub no_memory : (come_to lines_without_memory).text ≡ codes "no 12 Memory\n" ++ codes "ok 1\n" ++ codes "reply 1 503 Memory\n" ++ codes "reply 2 200 442\n" ++ segment_playlist
   pub at_once : script asked_at_once ≡ codes "reply 1 200 279\n" ++ empty_playlist
   pub later : script asked_later ≡ codes "ok 1\n" ++ codes "reply 1 200 442\n" ++ segment_playlist
   pub refusals : script refused_lines ≡ refusals_text

@@ -1,31 +1,27 @@
 //! Takes the lines of a script, one after another.
-ghost use Rattle.std.specs.Prelude.{◌≡◌, ◌<◌, ◌+◌, ◌-◌, ◌^◌, ℕ, List, Option, None, Some, IfOk, OnOk, OnErr, IfErr, IsErrOf, IsSome, flat_map, fold, min, string_bytes};
-ghost use Rattle.std.specs.Io.KnownBytes.{Appends};
-ghost use Rattle.ll_script.specs.Lines.{clocks_from, meant_acts};
+ghost use Rattle.std.specs.Prelude.{◌≡◌, ◌<◌, ◌+◌, ◌-◌, ◌^◌, [], ℕ, List, Bool, Option, None, Some, IfOk, OnOk, IfErr, IsErrOf, IsSome, if◌then◌else◌, min};
+ghost use Rattle.ll_script.specs.Lines.{clocks_from, meant_acts, starved};
 ghost use Rattle.ll_connection.specs.Turn as connection;
+ghost use Rattle.ll_connection.specs.Visit.{Luck};
 ghost use Rattle.ll_world.specs.Kept.{answers_of};
 ghost use Rattle.ll_world.specs.World as rooms;
-ghost use Rattle.ll_replay.specs.Script.{Script, start, line, summary_of};
+ghost use Rattle.ll_replay.specs.Script.{Lot, Script, start, line, summary_of};
 ghost use Rattle.ll_replay.specs.Script as script;
-ghost use Rattle.ll_replay.specs.Kept.{Keeps, Says, Stands, told};
+ghost use Rattle.ll_replay.specs.Kept.{IsDone, Keeps, Says, Stands, met};
 ghost use Rattle.ll_replay.specs.Cuts.{IsCutBetween};
-ghost use Rattle.ll_device.specs.Written.{AppendsPrefix};
 
+use crate::answers::{refuse, replies_in, say, spell, to_connection};
 use crate::outcome::{RunFault, Summary};
 use ll_channels::Declared;
 use ll_connection::{Connections, Sent};
-use ll_device::{Failed, Writer, write_all};
+use ll_device::Writer;
 use ll_directive::{TargetFault, Want};
 use ll_held::Owner;
 use ll_item::{Item, Settings};
-use ll_publish::{Refusal, no_line, ok_line};
-use ll_room::ClockFault;
-use ll_script::{
-    Act, Acts, AskRefusal, ClockRefusal, LineFault, clock_line, fault_line, read_line, reply_lines,
-    unasked_line,
-};
+use ll_publish::Refusal;
+use ll_script::{Act, Acts, ClockRefusal, LineFault, clock_line, fault_line, read_line};
 use ll_verdict::Reply;
-use ll_world::{Answer, Rooms};
+use ll_world::{Answer, AskStop, Rooms};
 use std::alloc::{AllocError, Global};
 use std::marker::Model;
 
@@ -43,12 +39,29 @@ pub(crate) struct Driver {
     replies: u64,
 }
 
+/// What an act was answered, where it was answered, and the place of the channel in which it may have made replies due. An item for which
+/// no memory was found makes none due.
+struct Done {
+    answer: Option<Vec<u8>>,
+    due: Option<usize>,
+}
+
 impl Model for Driver {
     ghost use Rattle.ll_replay.specs.Kept.{Kept};
 
     ghost Value = { Kept };
 
     ghost view = { λ d. record { rooms = d.rooms; connections = d.connections; declared = d.declared; lines = d.lines; last_id = d.last_id; replies = d.replies } };
+}
+
+impl Done {
+    /// An act that makes no replies due, with this answer.
+    fn quiet(answer: Option<Vec<u8>>) -> Done
+        ensures answer { result.answer ≡ answer }
+        ensures due { result.due ≡ None }
+    {
+        Done { answer, due: None }
+    }
 }
 
 impl Driver {
@@ -85,7 +98,7 @@ impl Driver {
         }
     }
 
-    /// Takes a whole line, without its end.
+    /// Takes a whole line, without its end. Where no memory is found for its item or its request, that is answered.
     pub(crate) fn take_line<W: Writer>(
         &mut self,
         text: &[u8],
@@ -93,10 +106,10 @@ impl Driver {
     ) -> Result<(), RunFault>
         requires { self.old.lines < 2 ^ 64 - 1 }
         ensures ok { OnOk result ((w : Script) (base : Option (List ℕ)) → Stands self.old base (W.written writer.old) w
-            → Stands self.new base (W.written writer.new) (line w text.now)) }
+            → (lots : List Lot) × Stands self.new base (W.written writer.new) (line w (record { text = text.now; lots = lots }))) }
         ensures lines { OnOk result (self.new.lines ≡ self.old.lines + 1) }
         ensures cut { IfErr result (λ f. (w : Script) (base : Option (List ℕ)) → Stands self.old base (W.written writer.old) w
-            → IsCutBetween base (W.written writer.new) w (line w text.now) f) }
+            → (lots : List Lot) × IsCutBetween base (W.written writer.new) w (line w (record { text = text.now; lots = lots })) f) }
         ensures steady { OnOk result (W.failures writer.new ≡ W.failures writer.old) }
         ensures write_failed { IsErrOf result RunFault.Write → W.failures writer.old < W.failures writer.new }
     {
@@ -115,10 +128,10 @@ impl Driver {
     /// Does what a line makes happen, one act after another.
     fn acts<W: Writer>(&mut self, acts: Acts, writer: &mut W) -> Result<(), RunFault>
         ensures ok { OnOk result ((w : Script) (base : Option (List ℕ)) → Stands self.old base (W.written writer.old) w
-            → Stands self.new base (W.written writer.new) (script.acted w (Some (meant_acts self.old.declared acts)))) }
+            → (lots : List Lot) × Stands self.new base (W.written writer.new) (script.acted lots w (Some (meant_acts self.old.declared acts)))) }
         ensures lines { OnOk result (self.new.lines ≡ self.old.lines) }
         ensures cut { IfErr result (λ f. (w : Script) (base : Option (List ℕ)) → Stands self.old base (W.written writer.old) w
-            → IsCutBetween base (W.written writer.new) w (script.acted w (Some (meant_acts self.old.declared acts))) f) }
+            → (lots : List Lot) × IsCutBetween base (W.written writer.new) w (script.acted lots w (Some (meant_acts self.old.declared acts))) f) }
         ensures steady { OnOk result (W.failures writer.new ≡ W.failures writer.old) }
         ensures write_failed { IsErrOf result RunFault.Write → W.failures writer.old < W.failures writer.new }
     {
@@ -132,10 +145,10 @@ impl Driver {
     /// A reading of the clock for each channel, in order of declaration; each is told of all that it made due before the next.
     fn clocks<W: Writer>(&mut self, ms: u64, writer: &mut W) -> Result<(), RunFault>
         ensures ok { OnOk result ((w : Script) (base : Option (List ℕ)) → Stands self.old base (W.written writer.old) w
-            → Stands self.new base (W.written writer.new) (script.acted w (Some (clocks_from 0 self.old.declared ms)))) }
+            → (lots : List Lot) × Stands self.new base (W.written writer.new) (script.acted lots w (Some (clocks_from 0 self.old.declared ms)))) }
         ensures lines { OnOk result (self.new.lines ≡ self.old.lines) }
         ensures cut { IfErr result (λ f. (w : Script) (base : Option (List ℕ)) → Stands self.old base (W.written writer.old) w
-            → IsCutBetween base (W.written writer.new) w (script.acted w (Some (clocks_from 0 self.old.declared ms))) f) }
+            → (lots : List Lot) × IsCutBetween base (W.written writer.new) w (script.acted lots w (Some (clocks_from 0 self.old.declared ms))) f) }
         ensures steady { OnOk result (W.failures writer.new ≡ W.failures writer.old) }
         ensures write_failed { IsErrOf result RunFault.Write → W.failures writer.old < W.failures writer.new }
     {
@@ -148,15 +161,14 @@ impl Driver {
     /// Does an act, writes its answer, and then the replies that it made due.
     fn done<W: Writer>(&mut self, act: Act, writer: &mut W) -> Result<(), RunFault>
         ensures ok { OnOk result ((w : Script) (base : Option (List ℕ)) → Stands self.old base (W.written writer.old) w
-            → Stands self.new base (W.written writer.new) (script.done w act)) }
+            → (lot : Lot) × Stands self.new base (W.written writer.new) (script.done w (lot, act))) }
         ensures lines { OnOk result (self.new.lines ≡ self.old.lines) }
         ensures cut { IfErr result (λ f. (w : Script) (base : Option (List ℕ)) → Stands self.old base (W.written writer.old) w
-            → IsCutBetween base (W.written writer.new) w (script.done w act) f) }
+            → (lot : Lot) × IsCutBetween base (W.written writer.new) w (script.done w (lot, act)) f) }
         ensures steady { OnOk result (W.failures writer.new ≡ W.failures writer.old) }
         ensures write_failed { IsErrOf result RunFault.Write → W.failures writer.old < W.failures writer.new }
     {
-        let due = makes_due(&act);
-        self.act(act, writer)?;
+        let due = self.act(act, writer)?;
         match due {
             Some(place) => self.rest(place, writer),
             None => Ok(()),
@@ -166,10 +178,10 @@ impl Driver {
     /// Writes the replies of the channel at this place that are due, in order of asking.
     fn rest<W: Writer>(&mut self, place: usize, writer: &mut W) -> Result<(), RunFault>
         ensures ok { OnOk result ((w : Script) (base : Option (List ℕ)) → Stands self.old base (W.written writer.old) w
-            → Stands self.new base (W.written writer.new) (script.rest_at place w)) }
+            → (replies : List (List Luck)) × Stands self.new base (W.written writer.new) (script.rest_at replies place w)) }
         ensures lines { OnOk result (self.new.lines ≡ self.old.lines) }
         ensures cut { IfErr result (λ f. (w : Script) (base : Option (List ℕ)) → Stands self.old base (W.written writer.old) w
-            → IsCutBetween base (W.written writer.new) w (script.rest_at place w) f) }
+            → (replies : List (List Luck)) × IsCutBetween base (W.written writer.new) w (script.rest_at replies place w) f) }
         ensures steady { OnOk result (W.failures writer.new ≡ W.failures writer.old) }
         ensures write_failed { IsErrOf result RunFault.Write → W.failures writer.old < W.failures writer.new }
     {
@@ -185,8 +197,8 @@ impl Driver {
 
     /// The first reply of the channel at this place that is due, where one is.
     fn tick(&mut self, place: usize) -> Result<Option<Vec<u8>>, AllocError>
-        ensures says { (w : Script) → Keeps self.old w → IfOk result (λ a. Says self.new a w (script.tick place w)) }
-        ensures still { (w : Script) → Keeps self.old w → IfOk result (λ a. a ≡ None → script.tick place w ≡ w) }
+        ensures says { (w : Script) → Keeps self.old w → IfOk result (λ a. (lucks : List Luck) × Says self.new a w (script.tick place w lucks)) }
+        ensures still { (w : Script) → Keeps self.old w → IfOk result (λ a. a ≡ None → (lucks : List Luck) → script.tick place w lucks ≡ w) }
         ensures lines { OnOk result (self.new.lines ≡ self.old.lines) }
     {
         match to_connection(self.rooms.next_due(place)) {
@@ -201,7 +213,7 @@ impl Driver {
     /// A connection's request gets its reply, and its next requests are made. What is sent on it.
     fn reply(&mut self, number: u64, reply: Reply) -> Result<Option<Vec<u8>>, AllocError>
         ensures says { (w : Script) → Keeps self.old w
-            → IfOk result (λ a. Says self.new a w (script.turned w (connection.reply number reply w.connections w.rooms))) }
+            → IfOk result (λ a. (lucks : List Luck) × Says self.new a w (script.turned w (connection.reply lucks number reply w.connections w.rooms))) }
         ensures something { IfOk result (λ a. IsSome a) }
         ensures lines { OnOk result (self.new.lines ≡ self.old.lines) }
     {
@@ -211,47 +223,66 @@ impl Driver {
         Ok(Some(self.sent(sent)))
     }
 
-    /// Does what a line makes happen, and writes its answer.
-    fn act<W: Writer>(&mut self, act: Act, writer: &mut W) -> Result<(), RunFault>
-        ensures ok { OnOk result ((w : Script) (base : Option (List ℕ)) → Stands self.old base (W.written writer.old) w
-            → Stands self.new base (W.written writer.new) (script.act w act)) }
+    /// Does what a line makes happen, and writes its answer. The place of the channel in which replies may be due now.
+    fn act<W: Writer>(&mut self, act: Act, writer: &mut W) -> Result<Option<usize>, RunFault>
+        ensures ok { IfOk result (λ due. (w : Script) (base : Option (List ℕ)) → Stands self.old base (W.written writer.old) w
+            → (lot : Lot) × (due ≡ script.makes_due (met lot act))
+            × Stands self.new base (W.written writer.new) (script.act lot.requests w (met lot act))) }
         ensures lines { OnOk result (self.new.lines ≡ self.old.lines) }
         ensures cut { IfErr result (λ f. (w : Script) (base : Option (List ℕ)) → Stands self.old base (W.written writer.old) w
-            → IsCutBetween base (W.written writer.new) w (script.act w act) f) }
+            → (lot : Lot) × IsCutBetween base (W.written writer.new) w (script.act lot.requests w (met lot act)) f) }
         ensures steady { OnOk result (W.failures writer.new ≡ W.failures writer.old) }
         ensures write_failed { IsErrOf result RunFault.Write → W.failures writer.old < W.failures writer.new }
     {
         match self.step(act) {
-            Ok(answer) => say(answer, writer),
+            Ok(Done { answer, due }) => {
+                say(answer, writer)?;
+                Ok(due)
+            }
             Err(AllocError) => Err(RunFault::Memory),
         }
     }
 
-    /// What an act is answered, where it is answered.
-    fn step(&mut self, act: Act) -> Result<Option<Vec<u8>>, AllocError>
-        ensures says { (w : Script) → Keeps self.old w → IfOk result (λ a. Says self.new a w (script.act w act)) }
+    /// Does what a line makes happen. Where no memory is found for an item or a request, it is answered so.
+    fn step(&mut self, act: Act) -> Result<Done, AllocError>
+        ensures done { (w : Script) → Keeps self.old w → IfOk result (λ d. IsDone self.new d act w) }
         ensures lines { OnOk result (self.new.lines ≡ self.old.lines) }
     {
         match act {
-            Act::Declare(settings) => self.declare(settings),
+            Act::Declare(settings) => {
+                let declared = self.declare(settings)?;
+                Ok(Done::quiet(declared))
+            }
             Act::Offer { place, item } => self.offer(place, item),
-            Act::Refuse(reason) => Ok(Some(no_line(self.alloc, reason)?.into_bytes())),
-            Act::Ask { id, place, want } => self.ask(id, place, want),
-            Act::Answer { id, fault } => self.answer(id, fault),
-            Act::Close(id) => Ok(self.close(id)),
+            Act::Refuse(reason) => {
+                let refused = refuse(self.alloc, reason)?;
+                Ok(Done::quiet(refused))
+            }
+            Act::Ask { id, place, want } => {
+                let asked = self.ask(id, place, want)?;
+                Ok(Done::quiet(asked))
+            }
+            Act::Answer { id, fault } => {
+                let answered = self.answer(id, fault)?;
+                Ok(Done::quiet(answered))
+            }
+            Act::Close(id) => Ok(Done::quiet(self.close(id))),
             Act::Clock { place, ms } => self.clock(place, ms),
             Act::RefuseClock => {
-                let line = clock_line(self.alloc, ClockRefusal::ClockRange)?;
-                Ok(Some(line.into_bytes()))
+                let late = clock_line(self.alloc, ClockRefusal::ClockRange)?;
+                Ok(Done::quiet(Some(late.into_bytes())))
             }
-            Act::Bytes { number, piece } => self.bytes(number, piece.as_slice()),
-            Act::Drop(number) => Ok(self.end(number)),
+            Act::Bytes { number, piece } => {
+                let came = self.bytes(number, piece.as_slice())?;
+                Ok(Done::quiet(came))
+            }
+            Act::Drop(number) => Ok(Done::quiet(self.end(number))),
         }
     }
 
     /// Adds a channel, which has no answer.
     fn declare(&mut self, settings: Settings) -> Result<Option<Vec<u8>>, AllocError>
-        ensures says { (w : Script) → Keeps self.old w → IfOk result (λ a. Says self.new a w (script.act w (Act.Declare settings))) }
+        ensures says { (w : Script) → Keeps self.old w → IfOk result (λ a. Says self.new a w (script.act [] w (Act.Declare settings))) }
         ensures lines { OnOk result (self.new.lines ≡ self.old.lines) }
     {
         let copy = settings.copy(self.alloc)?;
@@ -260,30 +291,48 @@ impl Driver {
         Ok(None)
     }
 
-    /// What an item for the channel at this place is answered.
-    fn offer(&mut self, place: usize, item: Item) -> Result<Option<Vec<u8>>, AllocError>
-        ensures says { (w : Script) → Keeps self.old w → IfOk result (λ a. Says self.new a w (script.act w (Act.Offer place item))) }
+    /// What an item for the channel at this place is answered; where no memory is found for it, it is refused so, and nothing changes.
+    fn offer(&mut self, place: usize, item: Item) -> Result<Done, AllocError>
+        ensures done { (w : Script) → Keeps self.old w → IfOk result (λ d. IsDone self.new d (Act.Offer place item) w) }
         ensures lines { OnOk result (self.new.lines ≡ self.old.lines) }
     {
-        let answer = self.rooms.offer(place, item)?;
-        self.count(&answer);
-        spell(self.alloc, answer)
+        match self.rooms.offer(place, item) {
+            Ok(said) => {
+                self.count(&said);
+                let answer = spell(self.alloc, said)?;
+                Ok(Done {
+                    answer,
+                    due: Some(place),
+                })
+            }
+            Err(AllocError) => {
+                let answer = refuse(self.alloc, Refusal::Memory)?;
+                Ok(Done::quiet(answer))
+            }
+        }
     }
 
-    /// What a request to the channel at this place is answered at once, where it need not wait.
+    /// What a request to the channel at this place is answered at once, where it need not wait; where no memory is found for it, it is
+    /// answered so. It fails where it should wait and no memory is found to keep whose request it is.
     fn ask(&mut self, id: u64, place: usize, want: Want) -> Result<Option<Vec<u8>>, AllocError>
-        ensures says { (w : Script) → Keeps self.old w → IfOk result (λ a. Says self.new a w (script.act w (Act.Ask id place want))) }
+        ensures says { (w : Script) → Keeps self.old w
+            → IfOk result (λ a. (refused : Bool) × Says self.new a w (script.act [] w (if refused then starved (Act.Ask id place want) else Act.Ask id place want))) }
         ensures lines { OnOk result (self.new.lines ≡ self.old.lines) }
     {
-        let answer = self.rooms.ask(Owner::Get(id), place, want)?;
-        self.last_id = Some(id);
-        self.count(&answer);
-        spell(self.alloc, answer)
+        match self.rooms.ask(Owner::Get(id), place, want) {
+            Ok(said) => {
+                self.last_id = Some(id);
+                self.count(&said);
+                spell(self.alloc, said)
+            }
+            Err(AskStop::Request) => self.answer(id, TargetFault::Memory),
+            Err(AskStop::Place) => Err(AllocError),
+        }
     }
 
     /// The reply to a request that is no event of any channel.
     fn answer(&mut self, id: u64, fault: TargetFault) -> Result<Option<Vec<u8>>, AllocError>
-        ensures says { (w : Script) → Keeps self.old w → IfOk result (λ a. Says self.new a w (script.act w (Act.Answer id fault))) }
+        ensures says { (w : Script) → Keeps self.old w → IfOk result (λ a. Says self.new a w (script.act [] w (Act.Answer id fault))) }
         ensures lines { OnOk result (self.new.lines ≡ self.old.lines) }
     {
         self.last_id = Some(id);
@@ -293,7 +342,7 @@ impl Driver {
 
     /// Gives a request up, where it waits, which has no answer.
     fn close(&mut self, id: u64) -> Option<Vec<u8>>
-        ensures says { (w : Script) → Keeps self.old w → Says self.new result w (script.act w (Act.Close id)) }
+        ensures says { (w : Script) → Keeps self.old w → Says self.new result w (script.act [] w (Act.Close id)) }
         ensures lines { self.new.lines ≡ self.old.lines }
     {
         self.rooms.close(Owner::Get(id));
@@ -301,18 +350,22 @@ impl Driver {
     }
 
     /// What a reading of the clock of the channel at this place is answered, where it is refused.
-    fn clock(&mut self, place: usize, ms: u64) -> Result<Option<Vec<u8>>, AllocError>
-        ensures says { (w : Script) → Keeps self.old w → IfOk result (λ a. Says self.new a w (script.act w (Act.Clock place ms))) }
+    fn clock(&mut self, place: usize, ms: u64) -> Result<Done, AllocError>
+        ensures done { (w : Script) → Keeps self.old w → IfOk result (λ d. IsDone self.new d (Act.Clock place ms) w) }
         ensures lines { OnOk result (self.new.lines ≡ self.old.lines) }
     {
-        let answer = self.rooms.clock(place, ms);
-        self.count(&answer);
-        spell(self.alloc, answer)
+        let said = self.rooms.clock(place, ms);
+        self.count(&said);
+        let answer = spell(self.alloc, said)?;
+        Ok(Done {
+            answer,
+            due: Some(place),
+        })
     }
 
     /// These bytes came on a connection. What is sent on it.
     fn bytes(&mut self, number: u64, piece: &[u8]) -> Result<Option<Vec<u8>>, AllocError>
-        ensures says { (w : Script) → Keeps self.old w → IfOk result (λ a. Says self.new a w (script.act w (Act.Bytes number piece.now))) }
+        ensures says { (w : Script) → Keeps self.old w → IfOk result (λ a. (lucks : List Luck) × Says self.new a w (script.act lucks w (Act.Bytes number piece.now))) }
         ensures lines { OnOk result (self.new.lines ≡ self.old.lines) }
     {
         let sent = self
@@ -323,7 +376,7 @@ impl Driver {
 
     /// A connection ended, which has no answer.
     fn end(&mut self, number: u64) -> Option<Vec<u8>>
-        ensures says { (w : Script) → Keeps self.old w → Says self.new result w (script.act w (Act.Drop number)) }
+        ensures says { (w : Script) → Keeps self.old w → Says self.new result w (script.act [] w (Act.Drop number)) }
         ensures lines { self.new.lines ≡ self.old.lines }
     {
         self.connections.end(&mut self.rooms, number);
@@ -360,90 +413,5 @@ impl Driver {
         } = self;
         connections.finish();
         rooms.finish();
-    }
-}
-
-/// The place of the channel in which an act may make replies due.
-fn makes_due(act: &Act) -> Option<usize>
-    ensures { result ≡ script.makes_due act.now }
-{
-    match act {
-        Act::Offer { place, .. } | Act::Clock { place, .. } => Some(*place),
-        _ => None,
-    }
-}
-
-/// The reply that goes to a connection, and the connection's number; any other answer is handed back.
-fn to_connection(answer: Option<Answer>) -> Result<(u64, Reply), Option<Answer>>
-    ensures to { IfOk result (λ r. answer ≡ Some (Answer.Replied (Owner.Connection r.0) r.1)) }
-    ensures other { IfErr result (λ a. (a ≡ answer) × ((w : Script) → fold script.passed_on w (answers_of a) ≡ w)) }
-{
-    match answer {
-        Some(Answer::Replied(Owner::Connection(number), reply)) => Ok((number, reply)),
-        other => Err(other),
-    }
-}
-
-/// How many replies an answer is: one or none. An answer to a connection is counted there.
-fn replies_in(answer: &Option<Answer>) -> u64
-    ensures { result ≡ script.reply_count (answers_of answer.now) }
-{
-    match answer {
-        Some(Answer::Replied(Owner::Get(_), _) | Answer::Unavailable(Owner::Get(_))) => 1,
-        _ => 0,
-    }
-}
-
-/// The lines of what was answered, where something was.
-fn spell(alloc: Global, answer: Option<Answer>) -> Result<Option<Vec<u8>>, AllocError>
-    ensures lines { IfOk result (λ t. told t ≡ flat_map script.spelled (answers_of answer)) }
-    ensures nothing { IfOk result (λ t. t ≡ None → answer ≡ None) }
-{
-    match answer {
-        None => Ok(None),
-        Some(answer) => Ok(Some(spell_one(alloc, answer)?.into_bytes())),
-    }
-}
-
-/// The lines of an answer.
-fn spell_one(alloc: Global, answer: Answer) -> Result<String, AllocError>
-    ensures { IfOk result (λ t. string_bytes t ≡ script.spelled answer) }
-{
-    match answer {
-        Answer::Accepted(count) => ok_line(alloc, count),
-        Answer::Refused(reason) => no_line(alloc, Refusal::from(reason)),
-        Answer::ClockRefused(reason) => clock_line(alloc, clock_refusal(reason)),
-        Answer::Replied(Owner::Get(id), reply) => reply_lines(alloc, id, &reply),
-        Answer::Unavailable(Owner::Get(id)) => unasked_line(alloc, id, AskRefusal::RecordFull),
-        Answer::Replied(Owner::Connection(_), _) | Answer::Unavailable(Owner::Connection(_)) => {
-            Ok(String::new(alloc))
-        }
-    }
-}
-
-/// Why a reading is refused, by its name in answers.
-fn clock_refusal(fault: ClockFault) -> ClockRefusal
-    ensures { result ≡ script.clock_refusal fault }
-{
-    match fault {
-        ClockFault::ClockRange => ClockRefusal::ClockRange,
-        ClockFault::RecordFull => ClockRefusal::RecordFull,
-    }
-}
-
-/// Writes an answer, where there is one.
-fn say<W: Writer>(answer: Option<Vec<u8>>, writer: &mut W) -> Result<(), RunFault>
-    ensures ok { OnOk result (Appends (W.written writer.old) (W.written writer.new) (told answer)) }
-    ensures cut { OnErr result (AppendsPrefix (W.written writer.old) (W.written writer.new) (told answer)) }
-    ensures kind { IfErr result (λ f. f ≡ RunFault.Write) }
-    ensures steady { OnOk result (W.failures writer.new ≡ W.failures writer.old) }
-    ensures write_failed { OnErr result (W.failures writer.old < W.failures writer.new) }
-{
-    let Some(text) = answer else {
-        return Ok(());
-    };
-    match write_all(writer, &text) {
-        Ok(()) => Ok(()),
-        Err(Failed) => Err(RunFault::Write),
     }
 }

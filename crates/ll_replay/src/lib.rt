@@ -1,6 +1,8 @@
-//! Scripts of channels, run from a reader to a writer: what is published, what is asked for, and every answer.
+//! Scripts of channels, run from a reader to a writer: what is published, what is asked for, and every answer. An item or a request for which
+//! no memory is found is answered so, and the script goes on.
 #![tactic(auto)]
 
+mod answers;
 mod driver;
 mod laws;
 mod outcome;

@@ -33,7 +33,8 @@ pub enum RunFault {
     /// The reader gave bytes for 2^32 reads.
     #[error("Endless")]
     Endless,
-    /// Out of memory.
+    /// No memory was found for a channel, for bytes of a connection, for keeping whose request waits, or for the text of an answer. An item or
+    /// a request for which none is found is answered so, and the run goes on.
     #[error("Memory")]
     Memory,
 }

@@ -1,8 +1,7 @@
 ghost use Rattle.std.specs.Prelude.{◌≡◌, ◌<◌, ◌≤◌, ◌+◌, ◌-◌, ◌^◌, ◌++◌, [], ◌∷◌, ℕ, List, min, Option, Some, IfOk, IfErr, OnOk, OnErr, IsErrOf, length};
 ghost use Rattle.std.specs.Str.Lines.{strip_carriage_return};
 ghost use Rattle.ll_replay.specs.Cuts.{HasFailed, IsCutAt, IsStopped, StandsFor};
-ghost use Rattle.ll_device.specs.Written.{AppendsPrefix};
-ghost use Rattle.ll_replay.specs.Stream.{EndsBy, IsWhole, StopsAfter, StopsForMemory, script};
+ghost use Rattle.ll_replay.specs.Stream.{EndsBy, IsBegun, IsWhole, StopsAfter, StopsForMemory};
 ghost use Rattle.ll_replay.specs.Script as script;
 
 use crate::driver::{Driver, LONGEST_LINE};
@@ -163,7 +162,8 @@ fn read_all<R: Reader, W: Writer>(
     Err(RunFault::Endless)
 }
 
-/// Runs the script that the reader gives, and writes what it says to the writer.
+/// Runs the script that the reader gives, and writes what it says to the writer. An item or a request for which no memory is found is answered
+/// so, and the run goes on: what is written is what the script says with what memory was found for, line by line.
 pub fn run<R: Reader, W: Writer>(
     alloc: Global,
     reader: &mut R,
@@ -175,9 +175,9 @@ pub fn run<R: Reader, W: Writer>(
     ensures too_long { (input : List ℕ) (n : ℕ) → R.left reader.old ≡ Some input → IsErrOf result (RunFault.LineTooLong n)
         → EndsBy (script.LineTooLong n) (W.written writer.old) (W.written writer.new) input }
     ensures cut_by_write { (input : List ℕ) → R.left reader.old ≡ Some input → IsErrOf result RunFault.Write
-        → AppendsPrefix (W.written writer.old) (W.written writer.new) (script input) }
+        → IsBegun (W.written writer.old) (W.written writer.new) input }
     ensures cut_by_memory { (input : List ℕ) → R.left reader.old ≡ Some input → IsErrOf result RunFault.Memory
-        → AppendsPrefix (W.written writer.old) (W.written writer.new) (script input) }
+        → IsBegun (W.written writer.old) (W.written writer.new) input }
     ensures memory_last { (input : List ℕ) → R.left reader.old ≡ Some input → IsErrOf result RunFault.Memory
         → StopsForMemory (W.written writer.old) (W.written writer.new) input }
     ensures stopped_by_read { IsErrOf result RunFault.Read
@@ -207,9 +207,9 @@ pub fn run_within<R: Reader, W: Writer>(
     ensures too_long { (input : List ℕ) (n : ℕ) → R.left reader.old ≡ Some input → IsErrOf result (RunFault.LineTooLong n)
         → EndsBy (script.LineTooLong n) (W.written writer.old) (W.written writer.new) input }
     ensures cut_by_write { (input : List ℕ) → R.left reader.old ≡ Some input → IsErrOf result RunFault.Write
-        → AppendsPrefix (W.written writer.old) (W.written writer.new) (script input) }
+        → IsBegun (W.written writer.old) (W.written writer.new) input }
     ensures cut_by_memory { (input : List ℕ) → R.left reader.old ≡ Some input → IsErrOf result RunFault.Memory
-        → AppendsPrefix (W.written writer.old) (W.written writer.new) (script input) }
+        → IsBegun (W.written writer.old) (W.written writer.new) input }
     ensures memory_last { (input : List ℕ) → R.left reader.old ≡ Some input → IsErrOf result RunFault.Memory
         → StopsForMemory (W.written writer.old) (W.written writer.new) input }
     ensures stopped_by_read { IsErrOf result RunFault.Read

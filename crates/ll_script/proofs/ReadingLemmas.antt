@@ -1,14 +1,20 @@
 -- What a line means, from where it is cut and what it begins with.
-use Rattle.std.proofs.Common.{◌≡◌, ◌≢◌, ℕ, ◌==◌, List, [], ◌∷◌, Bool, true, false, Option, Some, None, is_some, MatchOption, Bor, refl, ap, ◌∙◌, length, arith}
-use Rattle.std.specs.Prelude.{codes}
+use Rattle.std.proofs.Common.{◌≡◌, ◌≢◌, ℕ, ◌==◌, List, [], ◌∷◌, Bool, true, false, Option, Some, None, Result, Ok, Err, is_some, MatchOption, Bor, refl, ap, subst, sym, ◌∙◌, length, arith}
+use Rattle.std.specs.Prelude.{IsOk, codes, if◌then◌else◌}
 use Rattle.std.proofs.lemmas.List.Splits.{length-slice_split}
 use Rattle.std.proofs.lemmas.Str.{IsUtf8-from_is_utf8, is_utf8-from_IsUtf8}
 use Rattle.std.specs.Str.{IsUtf8, is_utf8}
 use Rattle.ll_attr.specs.Numbers.{number_in}
 use Rattle.ll_attr.specs.Words.{after, pieces_at, words}
+use Rattle.ll_channels.specs.Channels.{channel_of_name}
+use Rattle.ll_directive.specs.Targets.{WantValue}
+use Rattle.ll_directive.specs.declared.fault.TargetFault.{TargetFault}
+use Rattle.ll_directive.specs.declared.fault.TargetFault.TheVariants as target
 use Rattle.ll_item.specs.Settings.{Configuration, settings_in}
 use Rattle.ll_script.specs.Hex.{bytes_in_hex}
-use Rattle.ll_script.specs.Lines.{acts, alone, begun, bytes_by, bytes_of, declaration, get_of, is_passed_over, kinds}
+use Rattle.ll_script.specs.declared.act.Act.TheVariants.{Answer}
+use Rattle.ll_script.specs.declared.act.Acts.TheVariants as list
+use Rattle.ll_script.specs.Lines.{AreRead, acts, alone, ask, ask_in, begun, bytes_by, bytes_of, declaration, get_of, is_passed_over, kinds}
 
 -- a text has at least one part
 some-part : (c : ℕ) (text : List ℕ) → pieces_at c text ≢ []
@@ -80,3 +86,15 @@ pub acts-other : (channels : List Configuration) (last : Option ℕ) (line text 
 acts-other channels last line text other offers same u =
     let utf8 = is_utf8-from_IsUtf8 line u in
     (rw (other, offers, utf8) refl) ∙ ap (λ l. begun (kinds channels last) l (alone (declaration channels (settings_in l)))) same
+
+-- a request for whose target no memory was found is answered so, unless its channel isn't there
+pub unread-ask : (channels : List Configuration) (id : ℕ) (r : Result WantValue TargetFault) (f : TargetFault) → IsOk r
+    → ((want : WantValue) → r ≡ Ok want → f ≡ (if is_some (channel_of_name channels 0 want.channel) then target.Memory else target.NotFound))
+    → AreRead channels (Some (ask channels id r ∷ [])) (list.One (Answer id f))
+unread-ask channels id (Err e) f ok is = absurd (cc)
+unread-ask channels id (Ok want) f ok is =
+    subst (λ g. AreRead channels (Some (ask channels id (Ok want) ∷ [])) (list.One (Answer id g))) (sym (is want refl)) (by_channel (channel_of_name channels 0 want.channel))
+  where
+    by_channel : (o : Option (ℕ × Configuration)) → AreRead channels (Some (ask_in id want o ∷ [])) (list.One (Answer id (if is_some o then target.Memory else target.NotFound)))
+    by_channel None = refl
+    by_channel (Some c) = refl

@@ -1,5 +1,5 @@
 -- What the lines of a script mean.
-use Rattle.std.specs.Prelude.{◌≢◌, ℕ, ◌+◌, ◌^◌, List, [], ◌∷◌, Bool, true, ◌==◌, Option, Some, None, Result, Ok, Err, if◌then◌else◌, is_none, option_map, nat_le, nat_lt, bytes_eq, codes, ⊤}
+use Rattle.std.specs.Prelude.{◌≡◌, ℕ, ◌+◌, ◌^◌, List, [], ◌∷◌, Bool, true, false, ◌==◌, Option, Some, None, Result, Ok, Err, if◌then◌else◌, is_none, map, option_map, nat_le, nat_lt, codes}
 use Rattle.std.specs.Str.{is_utf8}
 use Rattle.ll_attr.specs.Numbers.{number_in}
 use Rattle.ll_attr.specs.Words.{words, after}
@@ -16,6 +16,7 @@ use Rattle.ll_publish.specs.Line.{Line}
 use Rattle.ll_publish.specs.Line as said
 use Rattle.ll_publish.specs.Lines.{line_of}
 use Rattle.ll_publish.specs.Refusals.{item_refusal}
+use Rattle.ll_publish.specs.declared.refusal.Refusal.{Refusal}
 use Rattle.ll_publish.specs.declared.refusal.Refusal.TheVariants as refused
 use Rattle.ll_script.specs.Hex.{bytes_in_hex}
 use Rattle.ll_script.specs.declared.act.Act.{Act}
@@ -152,6 +153,19 @@ acts_by channels last line None =
 abbrev pub acts : List Configuration → Option ℕ → List ℕ → Option (List Act)
 acts channels last line = if is_passed_over line then Some [] else acts_by channels last line (after (codes "pub ") line)
 
+-- ---- memory
+
+-- what an act comes to for which no memory is found: an item is refused so, a request is answered so; no other act is
+abbrev pub starved : Act → Act
+starved (Offer place item) = Refuse refused.Memory
+starved (Ask id place want) = Answer id target.Memory
+starved other = other
+
+-- the acts of a line for whose item or request no memory is found, or memory is
+abbrev pub starved_if : Bool → List Act → List Act
+starved_if true acts = map starved acts
+starved_if false acts = acts
+
 -- ---- what was read
 
 -- the acts that are meant by what was read of a line
@@ -160,8 +174,20 @@ meant_acts channels list.None = []
 meant_acts channels (list.One act) = act ∷ []
 meant_acts channels (list.Clock ms) = clocks_from 0 channels ms
 
--- no act tells that memory was not found
-abbrev pub TellsNoMemory : Acts → Type 0
-TellsNoMemory (list.One (Answer id fault)) = fault ≢ target.Memory
-TellsNoMemory (list.One (Refuse reason)) = reason ≢ refused.Memory
-TellsNoMemory other = ⊤
+abbrev pub is_memory_fault : TargetFault → Bool
+is_memory_fault target.Memory = true
+is_memory_fault other = false
+
+abbrev pub is_memory_refusal : Refusal → Bool
+is_memory_refusal refused.Memory = true
+is_memory_refusal other = false
+
+-- whether what was read of a line tells that no memory was found for its item or request
+abbrev pub tells_memory : Acts → Bool
+tells_memory (list.One (Answer id fault)) = is_memory_fault fault
+tells_memory (list.One (Refuse reason)) = is_memory_refusal reason
+tells_memory other = false
+
+-- what was read of a line that means these acts: they are, or no memory was found for its item or request
+abbrev pub AreRead : List Configuration → Option (List Act) → Acts → Type 0
+AreRead channels meant acts = option_map (starved_if (tells_memory acts)) meant ≡ Some (meant_acts channels acts)

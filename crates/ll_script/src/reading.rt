@@ -1,8 +1,8 @@
 //! What the lines of a script mean.
-ghost use Rattle.std.specs.Prelude.{◌≡◌, ◌∷◌, [], IfOk, IsErrOf, IsSome, MatchOption, Ok, None, Some, codes, is_some, ℕ, List, Option};
+ghost use Rattle.std.specs.Prelude.{◌≡◌, ◌∷◌, [], IfOk, IsErrOf, IsSome, MatchOption, Ok, None, Some, codes, if◌then◌else◌, is_some, ℕ, List, Option};
 ghost use Rattle.ll_attr.specs.Words.{after, words};
 ghost use Rattle.ll_channels.specs.Channels.{channel_of_name};
-ghost use Rattle.ll_directive.specs.Targets.{want_in};
+ghost use Rattle.ll_directive.specs.Targets.{WantValue, want_in};
 ghost use Rattle.ll_item.specs.Items.{item_in};
 ghost use Rattle.ll_item.specs.Settings.{Configuration, settings_in};
 ghost use Rattle.ll_script.specs.Hex.{bytes_in_hex};
@@ -14,8 +14,8 @@ use crate::act::{Act, Acts};
 use crate::hex::{is_hex, read_hex};
 use ll_attr::{after, cut, parse_number};
 use ll_channels::Declared;
-use ll_directive::{TargetFault, read_target};
-use ll_item::{Item, ItemFault, Settings, SettingsFault};
+use ll_directive::{TargetFault, named_channel, read_target};
+use ll_item::{Item, Settings, SettingsFault};
 use ll_publish::{Line, Refusal};
 use std::alloc::Global;
 use std::str;
@@ -37,17 +37,17 @@ pub enum LineFault {
 
 /// What a line without its end makes happen, where these channels are declared and the last request had this number: a new channel, an
 /// item, a request, the end of one, readings of the clock, bytes on a connection, or the end of one; a comment or an empty line,
-/// nothing. Memory is answered only for a line that has its place.
+/// nothing. Where no memory is found for an item or a request, that is what happens: it is refused so. Memory is answered only for another
+/// line that has its place.
 pub fn read_line(
     alloc: Global,
     declared: &Declared,
     last: Option<u64>,
     line: &[u8],
 ) -> Result<Acts, LineFault>
-    ensures acts { IfOk result (λ a. spec.acts declared.now last line.now ≡ Some (spec.meant_acts declared.now a)) }
+    ensures acts { IfOk result (λ a. spec.AreRead declared.now (spec.acts declared.now last line.now) a) }
     ensures bad { IsErrOf result LineFault.BadLine → spec.acts declared.now last line.now ≡ None }
     ensures memory { IsErrOf result LineFault.Memory → IsSome (spec.acts declared.now last line.now) }
-    ensures tells_no_memory { IfOk result (λ a. spec.TellsNoMemory a) }
 {
     read_any(alloc, declared, last, line)
 }
@@ -148,7 +148,6 @@ fn read_item(
 {
     match Item::read(alloc, settings, line) {
         Ok(item) => Ok(Acts::One(Act::Offer { place, item })),
-        Err(ItemFault::Memory) => Err(LineFault::Memory),
         Err(fault) => Ok(Acts::One(Act::Refuse(Refusal::from(fault)))),
     }
 }
@@ -199,8 +198,22 @@ fn read_ask(alloc: Global, declared: &Declared, id: u64, target: &str) -> Result
                 fault: TargetFault::NotFound,
             })),
         },
-        Err(TargetFault::Memory) => Err(LineFault::Memory),
+        Err(TargetFault::Memory) => Ok(Acts::One(Act::Answer {
+            id,
+            fault: unread_fault(declared, target),
+        })),
         Err(fault) => Ok(Acts::One(Act::Answer { id, fault })),
+    }
+}
+
+/// What a request is answered for whose target no memory was found: a channel that isn't there is told so all the same.
+fn unread_fault(declared: &Declared, target: &str) -> TargetFault
+    ensures { (want : WantValue) → want_in target.now ≡ Ok want
+        → result ≡ if is_some (channel_of_name declared.now 0 want.channel) then TargetFault.Memory else TargetFault.NotFound }
+{
+    match named_channel(target.as_bytes()) {
+        Some(name) if declared.find(name).is_some() => TargetFault::Memory,
+        _ => TargetFault::NotFound,
     }
 }
 

@@ -19,7 +19,7 @@ use Rattle.ll_item.proofs.WithinLimits.{within}
 use Rattle.ll_publish.specs.Line as said
 use Rattle.ll_script.specs.Hex.{bytes_in_hex}
 use Rattle.ll_channels.specs.Channels.{channel_of_name}
-use Rattle.ll_script.specs.Lines.{Kind, acts, acts_by, alone, ask, ask_in, begun, begun_by, bytes_by, bytes_of, clocks_from, close_of, declaration, drop_of, get_by, get_of, is_passed_over, item_act, kinds, offer, offer_by, offer_to, reading, rises}
+use Rattle.ll_script.specs.Lines.{Kind, acts, acts_by, alone, ask, ask_in, begun, begun_by, bytes_by, bytes_of, clocks_from, close_of, declaration, drop_of, get_by, get_of, is_passed_over, item_act, kinds, offer, offer_by, offer_to, reading, rises, starved}
 use Rattle.ll_script.specs.declared.act.Act.{Act}
 use Rattle.ll_script.specs.declared.act.Act.TheVariants.{Declare, Offer, Refuse, Ask, Answer, Close, Clock, RefuseClock, Bytes, Drop}
 use Rattle.ll_verdict.proofs.ListLemmas.{Each}
@@ -37,6 +37,19 @@ IsSound (Clock place ms) = Unit
 IsSound RefuseClock = Unit
 IsSound (Bytes n piece) = Unit
 IsSound (Drop n) = Unit
+
+-- an item or a request for which no memory is found brings nothing
+pub starved-sound : (a : Act) → IsSound a → IsSound (starved a)
+starved-sound (Declare settings) s = s
+starved-sound (Offer place item) s = tt
+starved-sound (Refuse reason) s = tt
+starved-sound (Ask id place want) s = tt
+starved-sound (Answer id reason) s = tt
+starved-sound (Close id) s = tt
+starved-sound (Clock place ms) s = tt
+starved-sound RefuseClock s = tt
+starved-sound (Bytes n piece) s = tt
+starved-sound (Drop n) s = tt
 
 abbrev pub AreSound : Option (List Act) → Type 0
 AreSound None = Unit

@@ -5,6 +5,7 @@ use Rattle.std.proofs.lemmas.Option.{slice_get-map}
 use Rattle.ll_channels.specs.Channels.{channel_of_name}
 use Rattle.ll_channels.proofs.NameLemmas.{named-within}
 use Rattle.ll_connection.specs.Met.{waiting_of}
+use Rattle.ll_connection.specs.Visit as visit
 use Rattle.ll_connection.specs.Visit.{ask_in, asked, first_spoken}
 use Rattle.ll_directive.specs.Targets.{WantValue}
 use Rattle.ll_held.specs.Waits.{is_of, is_same, is_under, under, wait_of, without}
@@ -20,13 +21,14 @@ use Rattle.ll_verdict.specs.declared.reply.Settled.{Settled}
 use Rattle.ll_verdict.proofs.ListLemmas.{Each, each-append, each-map}
 use Rattle.ll_wire.specs.declared.answer.Answer.{Answer}
 use Rattle.ll_wire.specs.declared.answer.Answer.TheVariants as player
+use Rattle.ll_wire.specs.declared.answer.Unavailable.TheVariants as out
 use Rattle.ll_world.specs.World.{Channel, World, all_settings, ask_at, asked_if, close, close_at, close_of, first_due, silent, with_event}
 use Rattle.ll_world.specs.World as rooms
 use Rattle.ll_world.proofs.SettingsLaws.{set_keeps}
 use Rattle.ll_world.proofs.TieLemmas.{equal, get_set, none_some, some_is, turn}
 use Rattle.ll_script_laws.proofs.GrowLemmas.{Grows, event-grows, since}
 use Rattle.ll_script_laws.proofs.ReplyLemmas.{IsAsked, held_asked}
-use Rattle.ll_script_laws.specs.Verdicts.{Full, IsAnswer, IsNamed, Replied, Unknown, later_by, verdict}
+use Rattle.ll_script_laws.specs.Verdicts.{Full, IsAnswer, IsNamed, Memory, Replied, Unknown, later_by, verdict}
 
 -- ---- requests that wait
 
@@ -181,22 +183,36 @@ module _ (n : ℕ) (want : WantValue) (w : World) where
     right_if true e = (refl, Full i c c.events [] named (sym (append-nil c.events)) e refl)
     right_if false e = right_by (at_once c.settings (held c.settings c.events) c.events want) refl
 
+  named_at : (f : ℕ × Configuration) (c : Channel) → channel_of_name (all_settings w) 0 want.channel ≡ Some f → slice_get w.channels f.0 ≡ Some c
+      → Some c.settings ≡ Some f.1 → IsNamed w.channels want f.0 c
+  named_at f c e at same = record { there = at; named = e ∙ ap (λ (d : Configuration). Some (f.0, d)) (sym (some_is c.settings f.1 same)) }
+
   right_at : (f : ℕ × Configuration) (o : Option Channel) → channel_of_name (all_settings w) 0 want.channel ≡ Some f → slice_get w.channels f.0 ≡ o
       → option_map (λ (c : Channel). c.settings) o ≡ Some f.1 → Heard (ask_at (silent w) (Connection n) f.0 want o)
   right_at f None e at same = absurd (none_some f.1 same)
-  right_at f (Some c) e at same =
-      right_if f.0 c (record { there = at; named = e ∙ ap (λ (d : Configuration). Some (f.0, d)) (sym (some_is c.settings f.1 same)) }) (is_full (length c.events)) refl
+  right_at f (Some c) e at same = right_if f.0 c (named_at f c e at same) (is_full (length c.events)) refl
 
-  right_in : (o : Option (ℕ × Configuration)) → channel_of_name (all_settings w) 0 want.channel ≡ o → IsRight (ask_in n want w o).rooms (ask_in n want w o).answer
-  right_in None e = (refl, Unknown (all_settings w) [] (sym (append-nil (all_settings w))) e refl)
-  right_in (Some f) e =
+  -- no memory is found for it
+  lost_at : (f : ℕ × Configuration) (o : Option Channel) → channel_of_name (all_settings w) 0 want.channel ≡ Some f → slice_get w.channels f.0 ≡ o
+      → option_map (λ (c : Channel). c.settings) o ≡ Some f.1 → IsAnswer w.channels want (player.Unavailable out.Memory)
+  lost_at f None e at same = absurd (none_some f.1 same)
+  lost_at f (Some c) e at same = Memory f.0 c (named_at f c e at same) refl
+
+  right_found : (found : Bool) (f : ℕ × Configuration) → channel_of_name (all_settings w) 0 want.channel ≡ Some f
+      → option_map (λ (c : Channel). c.settings) (slice_get w.channels f.0) ≡ Some f.1 → IsRight (visit.ask_at found n f.0 want w).rooms (visit.ask_at found n f.0 want w).answer
+  right_found true f e same = right_at f (slice_get w.channels f.0) e refl same
+  right_found false f e same = (refl, lost_at f (slice_get w.channels f.0) e refl same)
+
+  right_in : (found : Bool) (o : Option (ℕ × Configuration)) → channel_of_name (all_settings w) 0 want.channel ≡ o
+      → IsRight (ask_in found n want w o).rooms (ask_in found n want w o).answer
+  right_in found None e = (refl, Unknown (all_settings w) [] (sym (append-nil (all_settings w))) e refl)
+  right_in found (Some f) e =
       let at = named-within (all_settings w) 0 f.0 want.channel f.1 e in
       let same : at.0 ≡ f.0 = omega (arith, at.1) in
-      right_at f (slice_get w.channels f.0) e refl
-      (sym (slice_get-map (λ (c : Channel). c.settings) w.channels f.0) ∙ ap (slice_get (all_settings w)) (sym same) ∙ at.2)
+      right_found found f e (sym (slice_get-map (λ (c : Channel). c.settings) w.channels f.0) ∙ ap (slice_get (all_settings w)) (sym same) ∙ at.2)
 
-  pub asked-right : IsRight (asked n want w).rooms (asked n want w).answer
-  asked-right = right_in (channel_of_name (all_settings w) 0 want.channel) refl
+  pub asked-right : (found : Bool) → IsRight (asked found n want w).rooms (asked found n want w).answer
+  asked-right found = right_in found (channel_of_name (all_settings w) 0 want.channel) refl
 
 -- ---- a reply is due
 

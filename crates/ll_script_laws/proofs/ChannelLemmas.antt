@@ -1,24 +1,24 @@
 -- Each channel of a script has settings within their limits, and all that was published in it was read from a line.
-use Rattle.std.proofs.Common.{◌≡◌, ℕ, zero, suc, List, [], ◌∷◌, Bool, true, false, Option, Some, None, length, nat_lt, fold, subst, slice_get, slice_set}
-use Rattle.std.specs.Str.Lines.{lines}
+use Rattle.std.proofs.Common.{◌≡◌, ℕ, zero, suc, List, [], ◌∷◌, Bool, true, false, Option, Some, None, length, nat_lt, fold, subst, slice_get, slice_set, if◌then◌else◌}
 use Rattle.ll_directive.specs.Targets.{WantValue}
 use Rattle.ll_held.specs.declared.owner.Owner.{Owner}
 use Rattle.ll_held.specs.declared.owner.Owner.TheVariants.{Get, Connection}
 use Rattle.ll_item.specs.Settings.{Configuration, IsWithin}
-use Rattle.ll_script.specs.Lines.{acts}
+use Rattle.ll_script.specs.Lines.{acts, starved}
 use Rattle.ll_script.specs.declared.act.Act.{Act}
 use Rattle.ll_script.specs.declared.act.Act.TheVariants.{Declare, Offer, Refuse, Ask, Answer, Close, Clock, RefuseClock, Bytes, Drop}
 use Rattle.ll_verdict.specs.Events as event
 use Rattle.ll_verdict.proofs.ListLemmas.{Each, each-append, each-at}
 use Rattle.ll_connection.proofs.RoomsLaws.{bytes-keeps, end-keeps, reply-keeps}
+use Rattle.ll_connection.specs.Visit.{Luck}
 use Rattle.ll_world.specs.World as rooms
 use Rattle.ll_world.proofs.EventLaws as events
 use Rattle.ll_world.proofs.TieLemmas.{some_is}
 use Rattle.ll_world.specs.declared.answer.Answer as answer
 use Rattle.ll_world.specs.declared.answer.Answer.TheVariants as said
-use Rattle.ll_replay.specs.Stream.{world_of}
-use Rattle.ll_replay.specs.Script.{Script, Ending, act, acted, counted, done, heard, line, line_by, makes_due, passed_on, read_by, rest, start, tick}
-use Rattle.ll_script_laws.proofs.ActLemmas.{AreSound, IsSound, acts-sound}
+use Rattle.ll_replay.specs.Stream.{come_to}
+use Rattle.ll_replay.specs.Script.{Ending, Lot, Marked, Script, act, acted, counted, done, done_as, heard, line, line_by, makes_due, passed_on, plain, read_by, rest, so_many, start, tick, with_lots}
+use Rattle.ll_script_laws.proofs.ActLemmas.{AreSound, IsSound, acts-sound, starved-sound}
 use Rattle.ll_script_laws.proofs.ItemTexts.{IsRead}
 
 abbrev pub IsHeard : event.Event → Type 0
@@ -60,66 +60,74 @@ closes-kept w owner k = events.close-keeps (Each IsKept) IsHeard one-kept w owne
 
 -- ---- acts and lines
 
-act-kept : (w : Script) (a : Act) → AreKept w.rooms → IsSound a → AreKept (act w a).rooms
-act-kept w (Declare settings) k s = declare-kept w.rooms settings k s
-act-kept w (Offer place item) k s = events.offer-keeps (Each IsKept) IsHeard one-kept w.rooms place item s k
-act-kept w (Refuse reason) k s = k
-act-kept w (Ask id place want) k s = events.ask-keeps (Each IsKept) IsHeard one-kept w.rooms (Get id) place want tt k
-act-kept w (Answer id reason) k s = k
-act-kept w (Close id) k s = closes-kept w.rooms (Get id) k
-act-kept w (Clock place ms) k s = events.clock-keeps (Each IsKept) IsHeard one-kept w.rooms place ms tt k
-act-kept w RefuseClock k s = k
-act-kept w (Bytes n piece) k s = bytes-keeps AreKept asks-kept closes-kept n piece w.connections w.rooms k
-act-kept w (Drop n) k s = end-keeps AreKept asks-kept closes-kept n w.connections w.rooms k
+act-kept : (lucks : List Luck) (w : Script) (a : Act) → AreKept w.rooms → IsSound a → AreKept (act lucks w a).rooms
+act-kept lucks w (Declare settings) k s = declare-kept w.rooms settings k s
+act-kept lucks w (Offer place item) k s = events.offer-keeps (Each IsKept) IsHeard one-kept w.rooms place item s k
+act-kept lucks w (Refuse reason) k s = k
+act-kept lucks w (Ask id place want) k s = events.ask-keeps (Each IsKept) IsHeard one-kept w.rooms (Get id) place want tt k
+act-kept lucks w (Answer id reason) k s = k
+act-kept lucks w (Close id) k s = closes-kept w.rooms (Get id) k
+act-kept lucks w (Clock place ms) k s = events.clock-keeps (Each IsKept) IsHeard one-kept w.rooms place ms tt k
+act-kept lucks w RefuseClock k s = k
+act-kept lucks w (Bytes n piece) k s = bytes-keeps AreKept asks-kept closes-kept lucks n piece w.connections w.rooms k
+act-kept lucks w (Drop n) k s = end-keeps AreKept asks-kept closes-kept n w.connections w.rooms k
 
-passed_on-kept : (w : Script) (a : answer.Answer) → AreKept w.rooms → AreKept (passed_on w a).rooms
-passed_on-kept w (said.Accepted count) k = k
-passed_on-kept w (said.Refused reason) k = k
-passed_on-kept w (said.ClockRefused reason) k = k
-passed_on-kept w (said.Replied (Get id) r) k = k
-passed_on-kept w (said.Replied (Connection n) r) k = reply-keeps AreKept asks-kept closes-kept n r w.connections w.rooms k
-passed_on-kept w (said.Unavailable owner) k = k
+passed_on-kept : (lucks : List Luck) (w : Script) (a : answer.Answer) → AreKept w.rooms → AreKept (passed_on lucks w a).rooms
+passed_on-kept lucks w (said.Accepted count) k = k
+passed_on-kept lucks w (said.Refused reason) k = k
+passed_on-kept lucks w (said.ClockRefused reason) k = k
+passed_on-kept lucks w (said.Replied (Get id) r) k = k
+passed_on-kept lucks w (said.Replied (Connection n) r) k = reply-keeps AreKept asks-kept closes-kept lucks n r w.connections w.rooms k
+passed_on-kept lucks w (said.Unavailable owner) k = k
 
-all_passed_on-kept : (w : Script) (answers : List answer.Answer) → AreKept w.rooms → AreKept (fold passed_on w answers).rooms
-all_passed_on-kept w [] k = k
-all_passed_on-kept w (a ∷ answers) k = all_passed_on-kept (passed_on w a) answers (passed_on-kept w a k)
+all_passed_on-kept : (lucks : List Luck) (w : Script) (answers : List answer.Answer) → AreKept w.rooms → AreKept (fold (passed_on lucks) w answers).rooms
+all_passed_on-kept lucks w [] k = k
+all_passed_on-kept lucks w (a ∷ answers) k = all_passed_on-kept lucks (passed_on lucks w a) answers (passed_on-kept lucks w a k)
 
-ticks-kept : (place n : ℕ) (w : Script) → AreKept w.rooms → AreKept (rooms.repeat (tick place) n w).rooms
-ticks-kept place zero w k = k
-ticks-kept place (suc n) w k =
-    let v = rooms.repeat (tick place) n w in
-    let u = rooms.tick place v.rooms in
-    all_passed_on-kept (heard v u) u.answers (events.tick-keeps (Each IsKept) IsHeard one-kept v.rooms place (λ t. tt) (ticks-kept place n w k))
+ticks-kept : (place : ℕ) (replies : List (List Luck)) (w : Script) → AreKept w.rooms → AreKept (fold (tick place) w replies).rooms
+ticks-kept place [] w k = k
+ticks-kept place (lucks ∷ replies) w k =
+    let u = rooms.tick place w.rooms in
+    ticks-kept place replies (tick place w lucks)
+    (all_passed_on-kept lucks (heard w u) u.answers (events.tick-keeps (Each IsKept) IsHeard one-kept w.rooms place (λ t. tt) k))
 
-rest-kept : (place : Option ℕ) (w : Script) → AreKept w.rooms → AreKept (rest place w).rooms
-rest-kept None w k = k
-rest-kept (Some place) w k = ticks-kept place (length w.rooms.waits) w k
+rest-kept : (replies : List (List Luck)) (place : Option ℕ) (w : Script) → AreKept w.rooms → AreKept (rest replies place w).rooms
+rest-kept replies None w k = k
+rest-kept replies (Some place) w k = ticks-kept place (so_many (length w.rooms.waits) replies) w k
 
-acted-kept : (list : List Act) (w : Script) → AreKept w.rooms → Each IsSound list → AreKept (fold done w list).rooms
-acted-kept [] w k s = k
-acted-kept (a ∷ list) w k s = acted-kept list (done w a) (rest-kept (makes_due a) (act w a) (act-kept w a k s.0)) s.1
+as-kept : (lot : Lot) (w : Script) (a : Act) → AreKept w.rooms → IsSound a → AreKept (done_as lot w a).rooms
+as-kept lot w a k s = rest-kept lot.replies (makes_due a) (act lot.requests w a) (act-kept lot.requests w a k s)
 
-acted_by-kept : (o : Option (List Act)) (w : Script) → AreKept w.rooms → AreSound o → AreKept (acted w o).rooms
-acted_by-kept None w k s = k
-acted_by-kept (Some list) w k s = acted-kept list w k s
+done-kept : (refused : Bool) (lot : Lot) (w : Script) (a : Act) → AreKept w.rooms → IsSound a → AreKept (done_as lot w (if refused then starved a else a)).rooms
+done-kept true lot w a k s = as-kept lot w (starved a) k (starved-sound a s)
+done-kept false lot w a k s = as-kept lot w a k s
 
-read_by-kept : (long : Bool) (w : Script) (text : List ℕ) → AreKept w.rooms → AreKept (read_by long w text).rooms
-read_by-kept true w text k = k
-read_by-kept false w text k =
-    acted_by-kept (acts (rooms.all_settings w.rooms) w.last_id text) (counted w) k (acts-sound (rooms.all_settings w.rooms) w.last_id text)
+acted-kept : (lots : List Lot) (list : List Act) (w : Script) → AreKept w.rooms → Each IsSound list → AreKept (fold done w (with_lots lots list)).rooms
+acted-kept lots [] w k s = k
+acted-kept [] (a ∷ list) w k s = acted-kept [] list (done w (plain, a)) (done-kept false plain w a k s.0) s.1
+acted-kept (lot ∷ lots) (a ∷ list) w k s = acted-kept lots list (done w (lot, a)) (done-kept lot.refused lot w a k s.0) s.1
 
-line_by-kept : (o : Option Ending) (w : Script) (text : List ℕ) → AreKept w.rooms → AreKept (line_by o w text).rooms
-line_by-kept (Some ending) w text k = k
-line_by-kept None w text k = read_by-kept (nat_lt 65536 (length text)) w text k
+acted_by-kept : (lots : List Lot) (o : Option (List Act)) (w : Script) → AreKept w.rooms → AreSound o → AreKept (acted lots w o).rooms
+acted_by-kept lots None w k s = k
+acted_by-kept lots (Some list) w k s = acted-kept lots list w k s
 
-line-kept : (w : Script) (text : List ℕ) → AreKept w.rooms → AreKept (line w text).rooms
+read_by-kept : (long : Bool) (w : Script) (l : Marked) → AreKept w.rooms → AreKept (read_by long w l).rooms
+read_by-kept true w l k = k
+read_by-kept false w l k =
+    acted_by-kept l.lots (acts (rooms.all_settings w.rooms) w.last_id l.text) (counted w) k (acts-sound (rooms.all_settings w.rooms) w.last_id l.text)
+
+line_by-kept : (o : Option Ending) (w : Script) (l : Marked) → AreKept w.rooms → AreKept (line_by o w l).rooms
+line_by-kept (Some ending) w l k = k
+line_by-kept None w l k = read_by-kept (nat_lt 65536 (length l.text)) w l k
+
+line-kept : (w : Script) (l : Marked) → AreKept w.rooms → AreKept (line w l).rooms
 unfolding line
-line-kept w text k = line_by-kept w.ending w text k
+line-kept w l k = line_by-kept w.ending w l k
 
-lines-kept : (ls : List (List ℕ)) (w : Script) → AreKept w.rooms → AreKept (fold line w ls).rooms
+lines-kept : (ls : List Marked) (w : Script) → AreKept w.rooms → AreKept (fold line w ls).rooms
 lines-kept [] w k = k
 lines-kept (l ∷ ls) w k = lines-kept ls (line w l) (line-kept w l k)
 
 -- each channel of a script
-pub channel-kept : (bytes : List ℕ) (place : ℕ) (c : rooms.Channel) → slice_get (world_of bytes).rooms.channels place ≡ Some c → IsKept c
-channel-kept bytes place c h = each-at IsKept (world_of bytes).rooms.channels place c (lines-kept (lines bytes) start tt) h
+pub channel-kept : (list : List Marked) (place : ℕ) (c : rooms.Channel) → slice_get (come_to list).rooms.channels place ≡ Some c → IsKept c
+channel-kept list place c h = each-at IsKept (come_to list).rooms.channels place c (lines-kept list start tt) h

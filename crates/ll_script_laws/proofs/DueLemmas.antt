@@ -3,6 +3,7 @@ use Rattle.std.proofs.Common.{◌≡◌, ℕ, ◌+◌, List, [], ◌∷◌, ◌+
 use Rattle.ll_connection.specs.Met.{waiting_of, wants_out}
 use Rattle.ll_connection.specs.Turn as connection
 use Rattle.ll_connection.specs.Turn.{Connections, Turn, bytes, end, session_of}
+use Rattle.ll_connection.specs.Visit.{Luck}
 use Rattle.ll_connection.proofs.MetLemmas.{AreMet, HasOut, bytes-met, count-less, count-more, end-met, few_out, has_out, is_its_own, own_ticket, reply-met}
 use Rattle.ll_session.specs.Talk.{SessionValue}
 use Rattle.ll_held.specs.Waits.{is_of, is_same, under, wait_of, without}
@@ -16,18 +17,19 @@ use Rattle.ll_verdict.specs.Verdict.{Request, reply, reply_of, at_once, held}
 use Rattle.ll_verdict.specs.declared.reply.Reply.{Reply}
 use Rattle.ll_verdict.specs.declared.reply.Settled.{Settled}
 use Rattle.ll_world.specs.World as rooms
-use Rattle.ll_world.specs.World.{Channel, World, all_settings, first_due, happens, tick_at, tick_of, told, told_to, waits_less}
+use Rattle.ll_world.specs.World.{Channel, World, first_due, happens, tick_at, tick_of, told, told_to, waits_less}
 use Rattle.ll_world.specs.declared.answer.Answer as answer
 use Rattle.ll_world.specs.declared.answer.Answer.TheVariants as said
 use Rattle.ll_world.proofs.TieLemmas.{none_some, same_test, some_is}
 use Rattle.ll_world.proofs.WaitLemmas.{IsOpen, ask-open, clock-open, close-open, declare-open, due_waits, offer-open, opens, tick-open, due_told, once_each}
-use Rattle.ll_replay.specs.Script.{Script, Ending, act, done, heard, line, passed_on, start, tick, turned}
+use Rattle.ll_replay.specs.Script.{Ending, Lot, Marked, Script, act, done, heard, passed_on, start, tick, turned}
+use Rattle.ll_replay.specs.Stream.{come_to}
 use Rattle.ll_directive.specs.Targets.{WantValue}
 use Rattle.ll_item.specs.declared.item.Item.{Item}
 use Rattle.ll_verdict.specs.Full.{is_full, refusal_after}
 use Rattle.ll_room.specs.declared.fault.ClockFault.{ClockFault}
 use Rattle.ll_verdict.specs.declared.fault.PublishFault.{PublishFault}
-use Rattle.ll_script_laws.proofs.ScriptLemmas.{acts-keep, done-keeps, lines-keep, ticks-keep}
+use Rattle.ll_script_laws.proofs.ScriptLemmas.{done-keeps, lines-keep}
 use Rattle.ll_script_laws.specs.Laws.{DueLaw, FindsAsker, IsThere, WaitsLaw, moment, open_tickets}
 
 -- ---- what changes no request of a connection
@@ -112,21 +114,21 @@ rooms-hold w v u is same h tied counts = record {
 turn-holds : (w : Script) (t : Turn) → AreMet t.rooms t.connections → Holds (turned w t)
 turn-holds w t m = record { met = record { rooms = m.rooms; matched = m.matched; going = m.going }; quiet = refl }
 
-pub act-holds : (w : Script) (a : Act) → Holds w → Holds (act w a)
-act-holds w (Declare c) h = rooms-hold w (act w (Declare c)) (rooms.declare c w.rooms) refl refl h (declare-open w.rooms c h.met.rooms) (λ m. refl)
-act-holds w (Offer i item) h =
-    rooms-hold w (act w (Offer i item)) (rooms.offer i item w.rooms) refl refl h (offer-open w.rooms i item h.met.rooms) (λ m. ap (waiting_of m) (offer-same w.rooms i item))
-act-holds w (Refuse reason) h = record { met = h.met; quiet = h.quiet }
-act-holds w (Ask id i want) h =
-    rooms-hold w (act w (Ask id i want)) (rooms.ask (Get id) i want w.rooms) refl refl h (ask-open w.rooms (Get id) i want h.met.rooms) (ask-same w.rooms id i want)
-act-holds w (Answer id reason) h = record { met = h.met; quiet = h.quiet }
-act-holds w (Close id) h =
-    rooms-hold w (act w (Close id)) (rooms.close (Get id) w.rooms) refl refl h (close-open w.rooms (Get id) h.met.rooms) (λ m. close-same w.rooms id m h.met.rooms)
-act-holds w (Clock i ms) h =
-    rooms-hold w (act w (Clock i ms)) (rooms.clock i ms w.rooms) refl refl h (clock-open w.rooms i ms h.met.rooms) (λ m. ap (waiting_of m) (clock-same w.rooms i ms))
-act-holds w RefuseClock h = record { met = h.met; quiet = h.quiet }
-act-holds w (Bytes n piece) h = turn-holds w (bytes n piece w.connections w.rooms) (bytes-met n piece w.connections w.rooms h.met)
-act-holds w (Drop n) h = turn-holds w (end n w.connections w.rooms) (end-met n w.connections w.rooms h.met)
+pub act-holds : (lucks : List Luck) (w : Script) (a : Act) → Holds w → Holds (act lucks w a)
+act-holds lucks w (Declare c) h = rooms-hold w (act lucks w (Declare c)) (rooms.declare c w.rooms) refl refl h (declare-open w.rooms c h.met.rooms) (λ m. refl)
+act-holds lucks w (Offer i item) h =
+    rooms-hold w (act lucks w (Offer i item)) (rooms.offer i item w.rooms) refl refl h (offer-open w.rooms i item h.met.rooms) (λ m. ap (waiting_of m) (offer-same w.rooms i item))
+act-holds lucks w (Refuse reason) h = record { met = h.met; quiet = h.quiet }
+act-holds lucks w (Ask id i want) h =
+    rooms-hold w (act lucks w (Ask id i want)) (rooms.ask (Get id) i want w.rooms) refl refl h (ask-open w.rooms (Get id) i want h.met.rooms) (ask-same w.rooms id i want)
+act-holds lucks w (Answer id reason) h = record { met = h.met; quiet = h.quiet }
+act-holds lucks w (Close id) h =
+    rooms-hold w (act lucks w (Close id)) (rooms.close (Get id) w.rooms) refl refl h (close-open w.rooms (Get id) h.met.rooms) (λ m. close-same w.rooms id m h.met.rooms)
+act-holds lucks w (Clock i ms) h =
+    rooms-hold w (act lucks w (Clock i ms)) (rooms.clock i ms w.rooms) refl refl h (clock-open w.rooms i ms h.met.rooms) (λ m. ap (waiting_of m) (clock-same w.rooms i ms))
+act-holds lucks w RefuseClock h = record { met = h.met; quiet = h.quiet }
+act-holds lucks w (Bytes n piece) h = turn-holds w (bytes lucks n piece w.connections w.rooms) (bytes-met lucks n piece w.connections w.rooms h.met)
+act-holds lucks w (Drop n) h = turn-holds w (end n w.connections w.rooms) (end-met n w.connections w.rooms h.met)
 
 -- ---- a reply that is due
 
@@ -185,28 +187,28 @@ ticks w place tied = at (slice_get w.channels place) refl
     at None e = Nothing (λ d there. absurd (none_some d (sym e ∙ there))) refl
     at (Some c) e = by c (first_due c.settings c.events) e refl
 
-pub tick-holds : (place : ℕ) (w : Script) → Holds w → Holds (tick place w)
-tick-holds place w h = by (rooms.tick place w.rooms) (ticks w.rooms place h.met.rooms) (tick-open w.rooms place h.met.rooms)
+pub tick-holds : (place : ℕ) (w : Script) (lucks : List Luck) → Holds w → Holds (tick place w lucks)
+tick-holds place w lucks h = by (rooms.tick place w.rooms) (ticks w.rooms place h.met.rooms) (tick-open w.rooms place h.met.rooms)
   where
     passed : (t : ℕ) (x : Wait) (o : Owner) (a : Reply) (v : World) → under place t w.rooms.waits ≡ Some x → x.owner ≡ o → v.waits ≡ without place t w.rooms.waits → IsOpen v
-        → Holds (fold passed_on (heard w v) (said.Replied o a ∷ []))
+        → Holds (fold (passed_on lucks) (heard w v) (said.Replied o a ∷ []))
     passed t x (Get id) a v e is waits tied =
         rooms-hold w (heard w v) v refl refl h tied (λ m. ap (waiting_of m) waits ∙ of_other m w.rooms place t x e (ap (λ o. is_same o (Connection m)) is))
     passed t x (Connection n) a v e is waits tied =
-        turn-holds (heard w v) (connection.reply n a w.connections (rooms.silent v))
-        (reply-met n a w.connections w.rooms (rooms.silent v) h.met tied (ap (waiting_of n) waits ∙ own_gone n w.connections w.rooms place t x h.met e is)
+        turn-holds (heard w v) (connection.reply lucks n a w.connections (rooms.silent v))
+        (reply-met lucks n a w.connections w.rooms (rooms.silent v) h.met tied (ap (waiting_of n) waits ∙ own_gone n w.connections w.rooms place t x h.met e is)
         (λ m f. ap (waiting_of m) waits ∙ of_other m w.rooms place t x e (ap (λ o. is_same o (Connection m)) is ∙ f))
         (asker n w.connections w.rooms place t x h.met e is))
 
-    by : (v : World) → Ticks w.rooms place v → IsOpen v → Holds (fold passed_on (heard w v) v.answers)
+    by : (v : World) → Ticks w.rooms place v → IsOpen v → Holds (fold (passed_on lucks) (heard w v) v.answers)
     by v (Nothing none e) tied =
-        subst (λ (v : World). Holds (fold passed_on (heard w v) v.answers)) (sym e)
-        (subst (λ answers. Holds (fold passed_on (heard w w.rooms) answers)) (sym h.quiet)
+        subst (λ (v : World). Holds (fold (passed_on lucks) (heard w v) v.answers)) (sym e)
+        (subst (λ answers. Holds (fold (passed_on lucks) (heard w w.rooms) answers)) (sym h.quiet)
         (rooms-hold w (heard w w.rooms) w.rooms refl refl h h.met.rooms (λ m. refl)))
     by v (Tells c r x s at is found told e) tied =
         let u = told_in w.rooms place c r x s in
-        subst (λ (v : World). Holds (fold passed_on (heard w v) v.answers)) (sym e)
-        (subst (λ (answers : List answer.Answer). Holds (fold passed_on (heard w u) (answers ++ said.Replied x.owner (reply_of s) ∷ []))) (sym h.quiet)
+        subst (λ (v : World). Holds (fold (passed_on lucks) (heard w v) v.answers)) (sym e)
+        (subst (λ (answers : List answer.Answer). Holds (fold (passed_on lucks) (heard w u) (answers ++ said.Replied x.owner (reply_of s) ∷ []))) (sym h.quiet)
         (passed r.ticket x x.owner (reply_of s) u found refl refl (subst IsOpen e tied)))
 
 -- ---- lines
@@ -234,23 +236,36 @@ same-holds w lines ending h = record { met = h.met; quiet = h.quiet }
 abbrev Always : List Act → Script → Type 0
 Always list w = Holds w
 
-moment-holds : (before : List (List ℕ)) (list : List Act) (last : Act) (place n : ℕ) → Holds (moment before list last place n)
-moment-holds before list last place n =
-    let acts = λ (all : List Act) (w : Script) (a : Act) (h : Holds w). act-holds w a h in
-    let ticks = λ (all : List Act) (w : Script) (place : ℕ) (h : Holds w). tick-holds place w h in
-    let same = λ (all : List Act) (w : Script) (lines : ℕ) (ending : Option Ending) (h : Holds w). same-holds w lines ending h in
-    let w = fold line start before in
-    let v = fold done w list in
-    ticks-keep Always acts ticks [] (act v last) place n
-    (act-holds v last (acts-keep Always (done-keeps Always acts ticks) same [] list w (lines-keep Always (done-keeps Always acts ticks) same [] start before start-holds)))
+pub done-holds : (w : Script) (a : Lot × Act) → Holds w → Holds (done w a)
+done-holds w a h =
+    done-keeps Always (λ list lucks w a h. act-holds lucks w a h) (λ list place w lucks h. tick-holds place w lucks h) (λ list w a h. h) [] w a h
+
+all-hold : (list : List (Lot × Act)) (w : Script) → Holds w → Holds (fold done w list)
+all-hold [] w h = h
+all-hold (a ∷ list) w h = all-hold list (done w a) (done-holds w a h)
+
+ticks-hold : (place : ℕ) (replies : List (List Luck)) (w : Script) → Holds w → Holds (fold (tick place) w replies)
+ticks-hold place [] w h = h
+ticks-hold place (lucks ∷ replies) w h = ticks-hold place replies (tick place w lucks) (tick-holds place w lucks h)
+
+lines-hold : (ls : List Marked) → Holds (come_to ls)
+lines-hold ls = lines-keep Always (λ list w a h. done-holds w a h) (λ list w lines ending h. same-holds w lines ending h) [] start ls start-holds
+
+moment-holds : (before : List Marked) (list : List (Lot × Act)) (lucks : List Luck) (last : Act) (place : ℕ) (replies : List (List Luck))
+    → Holds (moment before list lucks last place replies)
+moment-holds before list lucks last place replies =
+    let w = fold done (come_to before) list in
+    ticks-hold place replies (act lucks w last) (act-holds lucks w last (all-hold list (come_to before) (lines-hold before)))
 
 pub due : DueLaw
-due before list last place n = let h = moment-holds before list last place n in (finds (moment before list last place n) h, h.met.matched)
+due before list lucks last place replies =
+    let h = moment-holds before list lucks last place replies in
+    (finds (moment before list lucks last place replies) h, h.met.matched)
 
 pub waits : WaitsLaw
-waits before list last place n i =
-    let h = moment-holds before list last place n in
-    let w = (moment before list last place n).rooms in
+waits before list lucks last place replies i =
+    let h = moment-holds before list lucks last place replies in
+    let w = (moment before list lucks last place replies).rooms in
     (h.met.rooms i ∙ open-is (slice_get w.channels i), once_each w.channels w.waits h.met.rooms i)
   where
     open-is : (o : Option Channel) → opens o ≡ open_tickets o

@@ -14,7 +14,7 @@ use Rattle.ll_wire.specs.declared.answer.Answer.{Answer}
 use Rattle.ll_world.specs.World.{Channel, with_event}
 use Rattle.ll_world.proofs.SettingsLaws.{set_keeps}
 use Rattle.ll_world.proofs.TieLemmas.{equal, get_other, get_set, none_some, some_is}
-use Rattle.ll_script_laws.specs.Verdicts.{AreAnswered, Full, IsAnswer, IsNamed, Replied, Unknown, later_by, settings_of, verdict}
+use Rattle.ll_script_laws.specs.Verdicts.{AreAnswered, Full, IsAnswer, IsNamed, Memory, Replied, Unknown, later_by, settings_of, verdict}
 
 abbrev pub grown : Channel → List Event → Channel
 grown c more = record { settings = c.settings; events = c.events ++ more }
@@ -134,6 +134,9 @@ module _ (cs ds : List Channel) (g : Grows cs ds) where
   answer-stays want a (Full place c before later w e full is) =
       let m = since want place c w in
       Full place (grown c m.0) before (later ++ m.0) m.1 (ap (λ l. l ++ m.0) e ∙ append_assoc before later m.0) full is
+  answer-stays want a (Memory place c w is) =
+      let m = since want place c w in
+      Memory place (grown c m.0) m.1 is
   answer-stays want a (Unknown declared later e none is) =
       Unknown declared (later ++ g.settings.0) (g.settings.1 ∙ ap (λ l. l ++ g.settings.0) e ∙ append_assoc declared later g.settings.0) none is
 

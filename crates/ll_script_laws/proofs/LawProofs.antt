@@ -105,8 +105,8 @@ each-front front later all e h = front_of front (subst (Each IsHeard) e h)
     front_of (e ∷ front) h = (h.0, front_of front h.1)
 
 pub published : PublishedLaw
-published bytes place channel front later h e =
-    let k = channel-kept bytes place channel h in
+published list place channel front later h e =
+    let k = channel-kept list place channel h in
     (k.settings, folded-published channel.settings front [] tt (each-front front later channel.events e k.events))
 
 -- ---- the law on texts
@@ -132,9 +132,9 @@ folded-longer c (e ∷ es) list =
     (p.0 ++ q.0, q.1 ∙ ap (λ xs. xs ++ q.0) p.1 ∙ append_assoc list p.0 q.0)
 
 pub players : PlayersLaw
-players bytes place channel first second later r kind h e is_one recent =
+players list place channel first second later r kind h e is_one recent =
     let c = channel.settings in
-    let p = published bytes place channel (first ++ second) later h (e ∙ sym (append_assoc first second later)) in
+    let p = published list place channel (first ++ second) later h (e ∙ sym (append_assoc first second later)) in
     let q = folded-longer c second (items c first) in
     let is : items c (first ++ second) ≡ items c first ++ q.0 = fold-append (taken c) [] first second ∙ q.1 in
     subst (λ all. ArePublished c [] all → end_time (own r all) ≤ end_time (own r (items c first)) + skip_limit c

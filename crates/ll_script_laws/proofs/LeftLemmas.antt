@@ -2,6 +2,7 @@
 use Rattle.std.proofs.Common.{◌≡◌, ℕ, zero, suc, ◌+◌, ◌≤◌, ◌==◌, ◌||◌, List, [], ◌∷◌, ◌++◌, Bool, true, false, cond, Option, Some, None, is_some, refl, ap, sym, ◌∙◌, subst, filter, fold, length, map, nat_lt, slice_get, slice_set, arith, if◌then◌else◌}
 use Rattle.ll_verdict.specs.Waiting.{is_ready, ticket_in}
 use Rattle.ll_connection.proofs.RoomsLaws.{bytes-keeps, end-keeps, reply-keeps}
+use Rattle.ll_connection.specs.Visit.{Luck}
 use Rattle.ll_directive.specs.Targets.{WantValue}
 use Rattle.ll_held.specs.declared.owner.Owner.{Owner}
 use Rattle.ll_held.specs.declared.owner.Owner.TheVariants.{Get, Connection}
@@ -11,7 +12,7 @@ use Rattle.ll_item.specs.declared.item.Item.{Item}
 use Rattle.ll_verdict.specs.Full.{refusal_after}
 use Rattle.ll_room.specs.declared.fault.ClockFault.{ClockFault}
 use Rattle.ll_room.proofs.KeptLemmas.{short-filter}
-use Rattle.ll_script.specs.Lines.{acts}
+use Rattle.ll_script.specs.Lines.{acts, starved}
 use Rattle.ll_script.specs.declared.act.Act.{Act}
 use Rattle.ll_script.specs.declared.act.Act.TheVariants.{Declare, Offer, Refuse, Ask, Answer, Close, Clock, RefuseClock, Bytes, Drop}
 use Rattle.ll_verdict.specs.Events as event
@@ -23,17 +24,17 @@ use Rattle.ll_verdict.specs.declared.reply.Reply.{Reply}
 use Rattle.ll_verdict.proofs.ListLemmas.{Each, each-append}
 use Rattle.ll_world.specs.Kept.{is_in, ticket_of, tickets_at}
 use Rattle.ll_world.specs.World as rooms
-use Rattle.ll_world.specs.World.{Channel, World, all_settings, first_due, repeat, silent, with_event}
+use Rattle.ll_world.specs.World.{Channel, World, all_settings, silent, with_event}
 use Rattle.ll_world.specs.declared.answer.Answer as answer
 use Rattle.ll_world.specs.declared.answer.Answer.TheVariants as said
 use Rattle.ll_world.proofs.EventLaws as events
 use Rattle.ll_world.proofs.TieLemmas.{equal, get_other, get_set, none_some, same_test, some_is}
 use Rattle.ll_world.proofs.WaitLemmas.{IsOpen, opens}
-use Rattle.ll_replay.specs.Script.{Script, act, done, heard, line, passed_on, passed_to, rest_at, start, tick}
-use Rattle.ll_script_laws.proofs.ActLemmas.{AreSound, IsSound, acts-sound}
+use Rattle.ll_replay.specs.Script.{Lot, Marked, Script, act, done, done_as, heard, line, passed_on, passed_to, rest_at, so_many, start, tick}
+use Rattle.ll_script_laws.proofs.ActLemmas.{AreSound, IsSound, acts-sound, starved-sound}
 use Rattle.ll_script_laws.proofs.CalmLemmas.{IsCalm, IsSilent, calm-none, none-calm, silent-calm, told-calm}
 use Rattle.ll_script_laws.proofs.DueLemmas as due
-use Rattle.ll_script_laws.proofs.ScriptLemmas.{done-keeps, lines-keep}
+use Rattle.ll_script_laws.proofs.ScriptLemmas.{lines-keep}
 use Rattle.ll_script_laws.specs.Laws.{NoneLeftLaw}
 use Rattle.ll_script_laws.specs.Talks.{acts_in, acts_of, listed}
 
@@ -72,25 +73,26 @@ module _ (most : ℕ → ℕ) where
   closes : (w : World) (o : Owner) → AreCalm most w.channels → AreCalm most (rooms.close o w).channels
   closes w o h = events.close-keeps (AreCalm most) IsSilent silent-event w o (λ t. tt) h
 
-  passed : (w : Script) (o : Owner) (a : Reply) → AreCalm most w.rooms.channels → AreCalm most (passed_to o a w).rooms.channels
-  passed w (Get id) a h = h
-  passed w (Connection n) a h = reply-keeps (λ v. AreCalm most v.channels) asks closes n a w.connections w.rooms h
+  passed : (lucks : List Luck) (w : Script) (o : Owner) (a : Reply) → AreCalm most w.rooms.channels → AreCalm most (passed_to lucks o a w).rooms.channels
+  passed lucks w (Get id) a h = h
+  passed lucks w (Connection n) a h = reply-keeps (λ v. AreCalm most v.channels) asks closes lucks n a w.connections w.rooms h
 
 -- ---- replies that are due are told
 
 swap : (place j k l : ℕ) → (j == place) ≡ false → at_most place k j ≡ at_most place l j
 swap place j k l f = ap (λ b. if b then k else 0) f ∙ sym (ap (λ b. if b then l else 0) f)
 
-tick-calm : (place k : ℕ) (w : Script) → due.Holds w → AreCalm (at_most place (k + 1)) w.rooms.channels → AreCalm (at_most place k) (tick place w).rooms.channels
-tick-calm place k w met h = by (rooms.tick place w.rooms) (due.ticks w.rooms place met.met.rooms)
+tick-calm : (place k : ℕ) (w : Script) (lucks : List Luck) → due.Holds w → AreCalm (at_most place (k + 1)) w.rooms.channels
+    → AreCalm (at_most place k) (tick place w lucks).rooms.channels
+tick-calm place k w lucks met h = by (rooms.tick place w.rooms) (due.ticks w.rooms place met.met.rooms)
   where
     at_place : (n : ℕ) → at_most place n place ≡ n
     at_place n = ap (λ b. if b then n else 0) (same_test place)
 
-    by : (v : World) → due.Ticks w.rooms place v → AreCalm (at_most place k) (fold passed_on (heard w v) v.answers).rooms.channels
+    by : (v : World) → due.Ticks w.rooms place v → AreCalm (at_most place k) (fold (passed_on lucks) (heard w v) v.answers).rooms.channels
     by v (due.Nothing none e) =
-        subst (λ (v : World). AreCalm (at_most place k) (fold passed_on (heard w v) v.answers).rooms.channels) (sym e)
-        (subst (λ answers. AreCalm (at_most place k) (fold passed_on (heard w w.rooms) answers).rooms.channels) (sym met.quiet) (λ j c there. here j c there (j == place) refl))
+        subst (λ (v : World). AreCalm (at_most place k) (fold (passed_on lucks) (heard w v) v.answers).rooms.channels) (sym e)
+        (subst (λ answers. AreCalm (at_most place k) (fold (passed_on lucks) (heard w w.rooms) answers).rooms.channels) (sym met.quiet) (λ j c there. here j c there (j == place) refl))
       where
         here : (j : ℕ) (c : Channel) → slice_get w.rooms.channels j ≡ Some c → (b : Bool) → (j == place) ≡ b → IsCalm (at_most place k j) c
         here j c there true f =
@@ -101,19 +103,24 @@ tick-calm place k w met h = by (rooms.tick place w.rooms) (due.ticks w.rooms pla
         let u = due.told_in w.rooms place c r x s in
         let calm : IsCalm (at_most place k place) (with_event (event.Collect r.ticket) c) =
         subst (λ n. IsCalm n (with_event (event.Collect r.ticket) c)) (sym (at_place k)) (told-calm k c r is (subst (λ n. IsCalm n c) (at_place (k + 1)) (h place c at))) in
-        subst (λ (v : World). AreCalm (at_most place k) (fold passed_on (heard w v) v.answers).rooms.channels) (sym e)
-        (subst (λ (answers : List answer.Answer). AreCalm (at_most place k) (fold passed_on (heard w u) (answers ++ said.Replied x.owner (reply_of s) ∷ [])).rooms.channels)
+        subst (λ (v : World). AreCalm (at_most place k) (fold (passed_on lucks) (heard w v) v.answers).rooms.channels) (sym e)
+        (subst (λ (answers : List answer.Answer). AreCalm (at_most place k) (fold (passed_on lucks) (heard w u) (answers ++ said.Replied x.owner (reply_of s) ∷ [])).rooms.channels)
         (sym met.quiet)
-        (passed (at_most place k) (heard w u) x.owner (reply_of s)
+        (passed (at_most place k) lucks (heard w u) x.owner (reply_of s)
         (one-event (at_most place (k + 1)) (at_most place k) w.rooms.channels place c (event.Collect r.ticket) (λ j f. swap place j (k + 1) k f) calm at h)))
 
-ticks-calm : (place n k : ℕ) (w : Script) → due.Holds w → AreCalm (at_most place (k + n)) w.rooms.channels
-    → due.Holds (repeat (tick place) n w) × AreCalm (at_most place k) (repeat (tick place) n w).rooms.channels
-ticks-calm place zero k w met h = let same : k + 0 ≡ k = omega arith in (met, subst (λ m. AreCalm (at_most place m) w.rooms.channels) same h)
-ticks-calm place (suc n) k w met h =
-    let same : k + suc n ≡ (k + 1) + n = omega arith in
-    let t = ticks-calm place n (k + 1) w met (subst (λ m. AreCalm (at_most place m) w.rooms.channels) same h) in
-    (due.tick-holds place (repeat (tick place) n w) t.0, tick-calm place k (repeat (tick place) n w) t.0 t.1)
+ticks-calm : (place : ℕ) (replies : List (List Luck)) (w : Script) → due.Holds w → AreCalm (at_most place (length replies)) w.rooms.channels
+    → AreCalm (at_most place 0) (fold (tick place) w replies).rooms.channels
+ticks-calm place [] w met h = h
+ticks-calm place (lucks ∷ replies) w met h =
+    let same : length (lucks ∷ replies) ≡ length replies + 1 = omega arith in
+    ticks-calm place replies (tick place w lucks) (due.tick-holds place w lucks met)
+    (tick-calm place (length replies) w lucks met (subst (λ m. AreCalm (at_most place m) w.rooms.channels) same h))
+
+so_many-length : (n : ℕ) (replies : List (List Luck)) → length (so_many n replies) ≡ n
+so_many-length zero replies = refl
+so_many-length (suc n) [] = ap suc (so_many-length n [])
+so_many-length (suc n) (lucks ∷ replies) = ap suc (so_many-length n replies)
 
 -- as many replies as requests wait may be due at a place
 few-there : (w : World) (place : ℕ) (c : Channel) → IsOpen w → slice_get w.channels place ≡ Some c → length (filter is_ready (state_of c.settings c.events).slots) ≤ length w.waits
@@ -189,35 +196,40 @@ declare-calm (x ∷ cs) c low h (suc j) d e = declare-calm cs c low (λ k d ther
 
 -- ---- acts and lines
 
-all-told : (place : ℕ) (v : Script) → due.Holds v → AreCalm (at_most place (length v.rooms.waits)) v.rooms.channels → AreCalm none_there (rest_at place v).rooms.channels
-all-told place v met h j c there =
+all-told : (replies : List (List Luck)) (place : ℕ) (v : Script) → due.Holds v → AreCalm (at_most place (length v.rooms.waits)) v.rooms.channels
+    → AreCalm none_there (rest_at replies place v).rooms.channels
+all-told replies place v met h j c there =
+    let n = length v.rooms.waits in
     subst (λ n. IsCalm n c) (none (j == place))
-    ((ticks-calm place (length v.rooms.waits) 0 v met (subst (λ n. AreCalm (at_most place n) v.rooms.channels) same h)).1 j c there)
+    (ticks-calm place (so_many n replies) v met (subst (λ m. AreCalm (at_most place m) v.rooms.channels) (sym (so_many-length n replies)) h) j c there)
   where
     none : (b : Bool) → ◌≡◌ {A = ℕ} (if b then 0 else 0) 0
     none true = refl
     none false = refl
 
-    same : length v.rooms.waits ≡ 0 + length v.rooms.waits
-    same = omega arith
+as-calm : (lot : Lot) (w : Script) (a : Act) → due.Holds w → IsSound a → AreCalm none_there w.rooms.channels → AreCalm none_there (done_as lot w a).rooms.channels
+as-calm lot w (Declare c) met s h = declare-calm w.rooms.channels c s.target_low h
+as-calm lot w (Offer place item) met s h =
+    let v = act lot.requests w (Offer place item) in
+    let m = due.act-holds lot.requests w (Offer place item) met in
+    all-told lot.replies place v m (offer-calm w.rooms place item m.met.rooms h)
+as-calm lot w (Refuse reason) met s h = h
+as-calm lot w (Ask id place want) met s h = events.ask-keeps (AreCalm none_there) IsSilent (silent-event none_there) w.rooms (Get id) place want tt h
+as-calm lot w (Answer id reason) met s h = h
+as-calm lot w (Close id) met s h = closes none_there w.rooms (Get id) h
+as-calm lot w (Clock place ms) met s h =
+    let v = act lot.requests w (Clock place ms) in
+    let m = due.act-holds lot.requests w (Clock place ms) met in
+    all-told lot.replies place v m (clock-calm w.rooms place ms m.met.rooms h)
+as-calm lot w RefuseClock met s h = h
+as-calm lot w (Bytes n piece) met s h =
+    bytes-keeps (λ v. AreCalm none_there v.channels) (asks none_there) (closes none_there) lot.requests n piece w.connections w.rooms h
+as-calm lot w (Drop n) met s h = end-keeps (λ v. AreCalm none_there v.channels) (asks none_there) (closes none_there) n w.connections w.rooms h
 
-done-calm : (w : Script) (a : Act) → due.Holds w → IsSound a → AreCalm none_there w.rooms.channels → AreCalm none_there (done w a).rooms.channels
-done-calm w (Declare c) met s h = declare-calm w.rooms.channels c s.target_low h
-done-calm w (Offer place item) met s h =
-    let v = act w (Offer place item) in
-    let m = due.act-holds w (Offer place item) met in
-    all-told place v m (offer-calm w.rooms place item m.met.rooms h)
-done-calm w (Refuse reason) met s h = h
-done-calm w (Ask id place want) met s h = events.ask-keeps (AreCalm none_there) IsSilent (silent-event none_there) w.rooms (Get id) place want tt h
-done-calm w (Answer id reason) met s h = h
-done-calm w (Close id) met s h = closes none_there w.rooms (Get id) h
-done-calm w (Clock place ms) met s h =
-    let v = act w (Clock place ms) in
-    let m = due.act-holds w (Clock place ms) met in
-    all-told place v m (clock-calm w.rooms place ms m.met.rooms h)
-done-calm w RefuseClock met s h = h
-done-calm w (Bytes n piece) met s h = bytes-keeps (λ v. AreCalm none_there v.channels) (asks none_there) (closes none_there) n piece w.connections w.rooms h
-done-calm w (Drop n) met s h = end-keeps (λ v. AreCalm none_there v.channels) (asks none_there) (closes none_there) n w.connections w.rooms h
+done-calm : (refused : Bool) (lot : Lot) (w : Script) (a : Act) → due.Holds w → IsSound a → AreCalm none_there w.rooms.channels
+    → AreCalm none_there (done_as lot w (if refused then starved a else a)).rooms.channels
+done-calm true lot w a met s h = as-calm lot w (starved a) met (starved-sound a s) h
+done-calm false lot w a met s h = as-calm lot w a met s h
 
 each-parts : {X : Type 0} (P : X → Type 0) (xs : List X) (x : X) → Each P (xs ++ x ∷ []) → Each P xs × P x
 each-parts P [] x h = (tt, h.0)
@@ -228,19 +240,19 @@ sound_by true o h = tt
 sound_by false None h = tt
 sound_by false (Some list) h = h
 
-all-sound : (w : Script) (ls : List (List ℕ)) → Each IsSound (acts_of w ls)
+all-sound : (w : Script) (ls : List Marked) → Each IsSound (acts_of w ls)
 all-sound w [] = tt
 all-sound w (l ∷ ls) =
     each-append IsSound (acts_in w l) (acts_of (line w l) ls)
-    (sound_by (is_some w.ending || nat_lt 65536 (length l)) (acts (all_settings w.rooms) w.last_id l) (acts-sound (all_settings w.rooms) w.last_id l)) (all-sound (line w l) ls)
+    (sound_by (is_some w.ending || nat_lt 65536 (length l.text)) (acts (all_settings w.rooms) w.last_id l.text) (acts-sound (all_settings w.rooms) w.last_id l.text)) (all-sound (line w l) ls)
 
 abbrev Calm : List Act → Script → Type 0
 Calm list w = due.Holds w × (Each IsSound list → AreCalm none_there w.rooms.channels)
 
-calm-done : (list : List Act) (w : Script) (a : Act) → Calm list w → Calm (list ++ a ∷ []) (done w a)
+calm-done : (list : List Act) (w : Script) (a : Lot × Act) → Calm list w → Calm (list ++ a.1 ∷ []) (done w a)
 calm-done list w a h = (
-  done-keeps (λ all w. due.Holds w) (λ all w a h. due.act-holds w a h) (λ all w place h. due.tick-holds place w h) list w a h.0,
-  λ sound. let s = each-parts IsSound list a sound in done-calm w a h.0 s.1 (h.1 s.0),
+  due.done-holds w a h.0,
+  λ sound. let s = each-parts IsSound list a.1 sound in done-calm a.0.refused a.0 w a.1 h.0 s.1 (h.1 s.0),
 )
 
 pub none-left : NoneLeftLaw

@@ -14,4 +14,5 @@ pub mod PieceLemmas
 pub mod ReplyLemmas
 pub mod ScriptLemmas
 pub mod ServeLemmas
+pub mod TalkLaws
 pub mod TalkLemmas

@@ -1,10 +1,10 @@
 -- Whatever comes to a connection, each of its requests is answered right, or it is the one that waits.
-use Rattle.std.proofs.Common.{◌≡◌, ℕ, ◌≤◌, ◌==◌, List, [], ◌∷◌, ◌++◌, Bool, true, false, Option, Some, None, refl, ap, sym, ◌∙◌, subst, length, slice_get, slice_set, append-nil, arith, if◌then◌else◌}
+use Rattle.std.proofs.Common.{◌≡◌, ℕ, ◌≤◌, ◌==◌, List, [], ◌∷◌, ◌++◌, Bool, true, false, Option, Some, None, refl, ap, sym, ◌∙◌, subst, true≢false, length, slice_get, slice_set, append-nil, arith, if◌then◌else◌}
 use Rattle.std.proofs.lemmas.Bool.Decides.{nat_tests}
 use Rattle.std.proofs.lemmas.Grind.{flat_map-append}
 use Rattle.ll_connection.specs.Met.{outs, waiting_of}
-use Rattle.ll_connection.specs.Visit.{Visit, answered_by, asked, came, close_if, step_by}
-use Rattle.ll_connection.proofs.MetLemmas.{IsMet, given_none, given_out, pulled_none, replied_out, step-met}
+use Rattle.ll_connection.specs.Visit.{Luck, Visit, answered_by, asked, came, close_if, enough, step_by}
+use Rattle.ll_connection.proofs.MetLemmas.{IsMet, given_none, given_out, pulled_none, step-met}
 use Rattle.ll_connection.proofs.RoomsLaws.{asked-keeps}
 use Rattle.ll_connection.proofs.TalkLemmas.{ends}
 use Rattle.ll_directive.specs.Targets.{WantValue}
@@ -12,9 +12,9 @@ use Rattle.ll_held.specs.declared.owner.Owner.{Owner}
 use Rattle.ll_held.specs.declared.owner.Owner.TheVariants.{Get, Connection}
 use Rattle.ll_held.specs.declared.wait.Wait.{Wait}
 use Rattle.ll_item.specs.declared.item.Item.{Item}
-use Rattle.ll_session.specs.Past.{Feed, Next, Past, Reply, called, next_by, next_entries, overflows, reply_by}
+use Rattle.ll_session.specs.Past.{Feed, Mute, Next, Past, Reply, called, next_by, next_entries, overflows, reply_by}
 use Rattle.ll_session.specs.Requests.{Entry, Faulty, Refused, Wanted}
-use Rattle.ll_session.specs.Talk.{SessionValue, fed, first_of, given, next_want, pulled, replied, taking, want_by}
+use Rattle.ll_session.specs.Talk.{SessionValue, fed, first_of, given, muted, next_want, pulled, replied, taking, want_by}
 use Rattle.ll_session.proofs.SplitLemmas.{taking-right, wants}
 use Rattle.ll_verdict.specs.Events.{Event}
 use Rattle.ll_verdict.proofs.ListLemmas.{each-append, each-map}
@@ -86,6 +86,9 @@ pulled_on s e = grind (arith, e)
 
 given_on : (s : SessionValue) (want : WantValue) → next_want s ≡ Some want → s.shut ≡ false
 given_on s want e = grind (arith, e)
+
+replied_none : (s : SessionValue) (a : Answer) → (replied s a).out ≡ None
+replied_none s a = grind arith
 
 taken : (q : Past) (a : Answer) (o : Option Bool) → outs o ≡ 1
     → ((reply_by o q a).session ≡ replied q.session a) × ((reply_by o q a).entries ≡ q.entries) × ((reply_by o q a).replies ≡ q.replies ++ a ∷ [])
@@ -174,8 +177,13 @@ module _ (n : ℕ) (others : ℕ → List WantValue) (old : List Channel) where
             (subst (λ rs. AreAnswered w.channels (wants_of q.entries) rs []) (sym t.2) (answers-more w.channels (wants_of q.entries) q.replies want a answered right));
         asked = anew own [] w none asked;
         few = omega arith;
-        count = λ on. ap outs (sym (replied_out q.session a)) ∙ ap (λ (s : SessionValue). outs s.out) (sym t.0);
+        count = λ on. ap outs (sym (replied_none q.session a)) ∙ ap (λ (s : SessionValue). outs s.out) (sym t.0);
       }
+
+  -- it ends where no memory is found, and nothing more of it is answered
+  pub mute-serves : (w : World) (q : Past) → Serving w q → Serving w (called q Mute)
+  mute-serves w q s =
+      record { unanswered = s.unanswered; grows = s.grows; answered = s.answered; asked = s.asked; few = s.few; count = λ on. absurd (true≢false on) }
 
   module _ (v : Visit) (q : Past) (same : q.session ≡ v.session) (s : Serving v.rooms q) where
     pub none-serves : next_want v.session ≡ None → Serving v.rooms (called q Next)
@@ -192,19 +200,19 @@ module _ (n : ℕ) (others : ℕ → List WantValue) (old : List Channel) where
           count = λ on. s.count (pulled_on q.session on) ∙ ap outs (sym (pulled_none q.session gives));
         }
 
-    pub ask-serves : (want : WantValue) (a : Option Answer) → next_want v.session ≡ Some want → (asked n want v.rooms).answer ≡ a → waiting_of n v.rooms.waits ≡ 0
-        → Serving (answered_by n (pulled v.session) (asked n want v.rooms).rooms a).rooms (ends (called q Next) a)
-    ask-serves want a e is none = by a (subst (IsRight n want v.rooms rooms) is (asked-right n want v.rooms))
+    pub ask-serves : (asks found : Bool) (want : WantValue) (a : Option Answer) → next_want v.session ≡ Some want → (asked asks n want v.rooms).answer ≡ a
+        → waiting_of n v.rooms.waits ≡ 0 → Serving (answered_by found n (pulled v.session) (asked asks n want v.rooms).rooms a).rooms (ends found (called q Next) a)
+    ask-serves asks found want a e is none = by found a (subst (IsRight n want v.rooms rooms) is (asked-right n want v.rooms asks))
       where
         rooms : World
-        rooms = (asked n want v.rooms).rooms
+        rooms = (asked asks n want v.rooms).rooms
 
         gives : next_want q.session ≡ Some want
         gives = ap next_want same ∙ e
 
         grow : (cs : List Channel) → Grows cs v.rooms.channels → Grows cs rooms.channels
         grow cs g =
-            asked-keeps (λ w. Grows cs w.channels) (λ w o place want g. ask-grows cs (silent w) o place want g) (λ w o g. close-grows cs w o g) n want v.rooms g
+            asked-keeps (λ w. Grows cs w.channels) (λ w o place want g. ask-grows cs (silent w) o place want g) (λ w o g. close-grows cs w o g) asks n want v.rooms g
 
         now : Grows v.rooms.channels rooms.channels
         now = grow v.rooms.channels (grows-same v.rooms.channels)
@@ -221,42 +229,58 @@ module _ (n : ℕ) (others : ℕ → List WantValue) (old : List Channel) where
         asked_on : (own : List WantValue) → AreAsked (unanswered_at n own others) rooms.channels v.rooms.waits
         asked_on own = asked-stays (unanswered_at n own others) v.rooms.channels rooms.channels v.rooms.waits now (anew s.unanswered own v.rooms none s.asked)
 
-        by : (a : Option Answer) → IsRight n want v.rooms rooms a → Serving (answered_by n (pulled v.session) rooms a).rooms (ends (called q Next) a)
-        by (Some a) r =
+        -- it has no answer yet
+        made : AreAsked (unanswered_at n (want ∷ []) others) rooms.channels rooms.waits → Serving rooms (called q Next)
+        made asked = record {
+          unanswered = want ∷ [];
+          grows = grow old s.grows;
+          answered = more;
+          asked = asked;
+          few = omega arith;
+          count = λ on. sym (given_out q.session want gives);
+        }
+
+        by : (found : Bool) (a : Option Answer) → IsRight n want v.rooms rooms a
+            → Serving (answered_by found n (pulled v.session) rooms a).rooms (ends found (called q Next) a)
+        by true (Some a) r =
             reply-serves rooms (called q Next) want a (grow old s.grows) more r.1 [] (subst (AreAsked (unanswered_at n [] others) rooms.channels) (sym r.0) (asked_on []))
             (ap (waiting_of n) r.0 ∙ none) (given_out q.session want gives)
-        by None r =
+        by false (Some a) r =
+            mute-serves rooms (called q Next) (made (subst (AreAsked (unanswered_at n (want ∷ []) others) rooms.channels) (sym r.0) (asked_on (want ∷ []))))
+        by found None r =
             let x : Wait = record { owner = Connection n; place = r.0; ticket = r.1 } in
             let mine : unanswered_at n (want ∷ []) others n ≡ want ∷ [] = ap (λ b. if b then want ∷ [] else others n) (same_test n) in
-            came-serves [] (record { session = pulled v.session; rooms = rooms }) (called q Next) (record {
-              unanswered = want ∷ [];
-              grows = grow old s.grows;
-              answered = more;
-              asked =
-                  subst (AreAsked (unanswered_at n (want ∷ []) others) rooms.channels) (sym r.2)
-                  (each-append (λ (x : Wait). AskedBy (unanswered_at n (want ∷ []) others) rooms.channels x.place x.ticket x.owner) v.rooms.waits (x ∷ []) (asked_on (want ∷ []))
-                  ((want, r.3, mine), tt));
-              few = omega arith;
-              count = λ on. sym (given_out q.session want gives);
-            })
+            came-serves [] (record { session = pulled v.session; rooms = rooms }) (called q Next)
+            (made (subst (AreAsked (unanswered_at n (want ∷ []) others) rooms.channels) (sym r.2)
+            (each-append (λ (x : Wait). AskedBy (unanswered_at n (want ∷ []) others) rooms.channels x.place x.ticket x.owner) v.rooms.waits (x ∷ []) (asked_on (want ∷ []))
+            ((want, r.3, mine), tt))))
 
 -- ---- each call keeps it
 
 abbrev pub Keeps : ℕ → (ℕ → List WantValue) → List Channel → (ℕ → ℕ) → Visit → Past → Type 0
 Keeps n others old counts v q = Serves n others old v.rooms q × IsMet n counts v
 
-module _ (n : ℕ) (others : ℕ → List WantValue) (old : List Channel) (counts : ℕ → ℕ) (v : Visit) (q : Past) where
-  pub none-keeps : q.session ≡ v.session → next_want v.session ≡ None → Keeps n others old counts v q
+module _ (n : ℕ) (others : ℕ → List WantValue) (old : List Channel) (counts : ℕ → ℕ) where
+  pub none-keeps : (v : Visit) (q : Past) → q.session ≡ v.session → next_want v.session ≡ None → Keeps n others old counts v q
       → Keeps n others old counts (record v { session = pulled v.session }) (called q Next)
-  none-keeps same none k = (
+  none-keeps v q same none k = (
     none-serves n others old v q same k.0 none,
-    subst (λ o. IsMet n counts (step_by n (record v { session = pulled v.session }) o)) none (step-met n counts v k.1),
+    subst (λ o. IsMet n counts (step_by enough n (record v { session = pulled v.session }) o)) none (step-met n counts enough v k.1),
   )
 
-  pub asks-keep : (want : WantValue) (a : Option Answer) → q.session ≡ v.session → next_want v.session ≡ Some want → (asked n want v.rooms).answer ≡ a
-      → Keeps n others old counts v q → Keeps n others old counts (answered_by n (pulled v.session) (asked n want v.rooms).rooms a) (ends (called q Next) a)
-  asks-keep want a same e is k = (
-    ask-serves n others old v q same k.0 want a e is (k.1.own ∙ ap outs (given_none v.session want e)),
-    subst (λ a. IsMet n counts (answered_by n (pulled v.session) (asked n want v.rooms).rooms a)) is
-        (subst (λ o. IsMet n counts (step_by n (record v { session = pulled v.session }) o)) e (step-met n counts v k.1)),
+  pub asks-keep : (asks found : Bool) (v : Visit) (q : Past) (want : WantValue) (a : Option Answer) → q.session ≡ v.session → next_want v.session ≡ Some want
+      → (asked asks n want v.rooms).answer ≡ a → Keeps n others old counts v q
+      → Keeps n others old counts (answered_by found n (pulled v.session) (asked asks n want v.rooms).rooms a) (ends found (called q Next) a)
+  asks-keep asks found v q want a same e is k =
+      let luck : Luck = record { takes = true; asks = asks; answers = found } in (
+        ask-serves n others old v q same k.0 asks found want a e is (k.1.own ∙ ap outs (given_none v.session want e)),
+        subst (λ a. IsMet n counts (answered_by found n (pulled v.session) (asked asks n want v.rooms).rooms a)) is
+            (subst (λ o. IsMet n counts (step_by luck n (record v { session = pulled v.session }) o)) e (step-met n counts luck v k.1)),
+      )
+
+  pub mutes-keep : (v : Visit) (q : Past) → q.session ≡ v.session → v.session.out ≡ None → Keeps n others old counts v q
+      → Keeps n others old counts (record v { session = muted v.session }) (called q Mute)
+  mutes-keep v q same none k = (
+    mute-serves n others old v.rooms q k.0,
+    record { rooms = k.1.rooms; own = k.1.own ∙ ap outs none; other = k.1.other; sound = λ shut. refl },
   )

@@ -1,55 +1,52 @@
--- What comes and what is sent on each connection of a script, and that its requests are answered right.
-use Rattle.std.proofs.Common.{◌≡◌, ℕ, ◌==◌, List, [], ◌∷◌, ◌++◌, Bool, true, false, Option, Some, None, refl, ap, ap₂, sym, ◌∙◌, subst, true≢false, fold, length, map, slice_get, append-nil, append_assoc, arith}
+-- What comes and what is sent on each connection of a script, and that its requests are answered right: what bytes, an end and a reply keep.
+use Rattle.std.proofs.Common.{◌≡◌, ℕ, ◌==◌, List, [], ◌∷◌, ◌++◌, Bool, true, false, Option, Some, None, is_some, refl, ap, ap₂, sym, ◌∙◌, subst, true≢false, fold, length, map, slice_get, append-nil, append_assoc}
 use Rattle.std.specs.Prelude.{flat_map, if◌then◌else◌}
 use Rattle.std.specs.List.{concat}
 use Rattle.std.proofs.lemmas.Grind.{flat_map-append}
 use Rattle.std.proofs.lemmas.List.Sums.{fold-append}
 use Rattle.ll_connection.specs.Met.{outs, waiting_of, wants_out}
 use Rattle.ll_connection.specs.Turn as connection
-use Rattle.ll_connection.specs.Turn.{Connections, left, session_of, shut_text, turn, with_session}
-use Rattle.ll_connection.specs.Visit.{Visit, arrived, came, released}
+use Rattle.ll_connection.specs.Turn.{Connections, left, session_of, turn, with_session}
+use Rattle.ll_connection.specs.Visit.{Luck, Visit, arrived, came, put_out, released}
 use Rattle.ll_connection.proofs.MetLemmas.{HasOut, IsMet, came-met, replied_out}
-use Rattle.ll_connection.proofs.TalkLemmas.{Talked, bytes-talked, reply-talked}
+use Rattle.ll_connection.proofs.TalkLemmas.{Talked, answer_call, bytes-talked, put, reply-talked}
 use Rattle.ll_connection.proofs.TurnLemmas.{found, kept_other}
 use Rattle.ll_directive.specs.Targets.{WantValue}
 use Rattle.ll_held.specs.Waits.{is_same, under}
 use Rattle.ll_held.specs.declared.owner.Owner.{Owner}
 use Rattle.ll_held.specs.declared.owner.Owner.TheVariants.{Get, Connection}
 use Rattle.ll_held.specs.declared.wait.Wait.{Wait}
-use Rattle.ll_script.specs.declared.act.Act.{Act}
-use Rattle.ll_script.specs.declared.act.Act.TheVariants.{Declare, Offer, Refuse, Ask, Answer, Close, Clock, RefuseClock, Bytes, Drop}
-use Rattle.ll_session.proofs.PastLemmas.{is_talk}
-use Rattle.ll_session.specs.Past.{Past, Send, before_any, called, conversation, past}
-use Rattle.ll_session.specs.Talk.{SessionValue, fresh, replied}
+use Rattle.ll_session.specs.Past.{Past, Send, before_any, called, past}
+use Rattle.ll_session.specs.Talk.{SessionValue, fresh}
 use Rattle.ll_verdict.specs.Events.{Collect}
 use Rattle.ll_verdict.specs.Verdict.{Request, reply, reply_of}
 use Rattle.ll_verdict.specs.declared.reply.Reply as verdict
 use Rattle.ll_verdict.specs.declared.reply.Settled.{Settled}
+use Rattle.ll_wire.specs.declared.answer.Answer.{Answer}
 use Rattle.ll_wire.specs.declared.answer.Answer.TheVariants as player
 use Rattle.ll_world.specs.World as rooms
-use Rattle.ll_world.specs.World.{Channel, World, first_due, with_event}
+use Rattle.ll_world.specs.World.{Channel, World, first_due}
 use Rattle.ll_world.specs.declared.answer.Answer as answer
 use Rattle.ll_world.specs.declared.answer.Answer.TheVariants as said
 use Rattle.ll_world.proofs.TieLemmas.{equal, same_test}
 use Rattle.ll_world.proofs.WaitLemmas.{IsOpen, tick-open}
-use Rattle.ll_replay.specs.Script.{Script, Ending, act, heard, passed_on, passed_to, start, tick, turned}
-use Rattle.ll_script_laws.proofs.AskLemmas.{AreAsked, AskedBy, ask-asked, asked-at, asked-closes, asked-less, asked-stays, due-right}
+use Rattle.ll_replay.specs.Script.{Script, heard, passed_on, passed_to, tick, turned}
+use Rattle.ll_script_laws.proofs.AskLemmas.{AreAsked, AskedBy, asked-at, asked-closes, asked-less, asked-stays, due-right}
 use Rattle.ll_script_laws.proofs.DueLemmas as due
-use Rattle.ll_script_laws.proofs.GrowLemmas.{Grows, answer-stays, answers-stay, declare-grows, event-grows, grows-same}
+use Rattle.ll_script_laws.proofs.GrowLemmas.{Grows, answer-stays, answers-stay, event-grows, grows-same}
 use Rattle.ll_script_laws.proofs.PartLemmas.{said-sent, said-text, turn-sent, turn-text, turn_parts}
-use Rattle.ll_script_laws.proofs.ScriptLemmas.{done-keeps, lines-keep}
-use Rattle.ll_script_laws.proofs.ServeLemmas.{Serves, Keeps, ask-grows, asks-keep, came-serves, close-grows, clock-grows, none-keeps, offer-grows, reply-serves, same-asked, unanswered-same, unanswered_at}
-use Rattle.ll_script_laws.specs.Talks.{AnswersLaw, IsServed, Late, Faulty, Part, Refused, Said, StandsAt, TalksLaw, brought_by, part_text, sent_by}
+use Rattle.ll_script_laws.proofs.ServeLemmas.{Serves, Keeps, asks-keep, came-serves, close-grows, mute-serves, mutes-keep, none-keeps, reply-serves, same-asked, unanswered-same, unanswered_at}
+use Rattle.ll_script_laws.specs.Talks.{IsServed, Part, Said, StandsAt, part_text, sent_by}
 use Rattle.ll_script_laws.specs.Verdicts.{AreAnswered, IsAnswer, wants_of}
 
 -- ---- what holds after each act
 
 -- so much came on each connection, and these requests of it have no answer
-record Holds (came : ℕ → List ℕ) (un : ℕ → List WantValue) (w : Script) : Type 0 where
-  parts : List Part
-  text : w.text ≡ flat_map part_text parts
-  served : (n : ℕ) → IsServed w (came n) (flat_map (sent_by n) parts) n (un n)
-  asked : AreAsked un w.rooms.channels w.rooms.waits
+pub record Holds (came : ℕ → List ℕ) (un : ℕ → List WantValue) (w : Script) : Type 0 where
+  pub parts : List Part
+  pub text : w.text ≡ flat_map part_text parts
+  pub served : (n : ℕ) → IsServed w (came n) (flat_map (sent_by n) parts) n (un n)
+  pub asked : AreAsked un w.rooms.channels w.rooms.waits
 
 -- what changes nothing of a connection
 stays : (w v : Script) (came more sent text : List ℕ) (n : ℕ) (un : List WantValue) → more ≡ came → text ≡ sent → session_of n v.connections ≡ session_of n w.connections
@@ -68,7 +65,7 @@ stays w v came more sent text n un is out at g t = record {
 
 module _ (came : ℕ → List ℕ) (un : ℕ → List WantValue) (w v : Script) where
   -- nothing comes to a connection, and this is written besides
-  adds : (more : List Part) → Holds came un w → v.connections ≡ w.connections → v.text ≡ w.text ++ flat_map part_text more
+  pub adds : (more : List Part) → Holds came un w → v.connections ≡ w.connections → v.text ≡ w.text ++ flat_map part_text more
       → ((m : ℕ) → flat_map (sent_by m) more ≡ []) → Grows w.rooms.channels v.rooms.channels → AreAsked un v.rooms.channels v.rooms.waits → Holds came un v
   adds more h same text none g asked = record {
     parts = h.parts ++ more;
@@ -80,12 +77,12 @@ module _ (came : ℕ → List ℕ) (un : ℕ → List WantValue) (w v : Script) 
     asked = asked;
   }
 
-heard-holds : (came : ℕ → List ℕ) (un : ℕ → List WantValue) (w : Script) (v : World) → Holds came un w → Grows w.rooms.channels v.channels
+pub heard-holds : (came : ℕ → List ℕ) (un : ℕ → List WantValue) (w : Script) (v : World) → Holds came un w → Grows w.rooms.channels v.channels
     → AreAsked un v.channels v.waits → Holds came un (heard w v)
 heard-holds came un w v h g asked =
     adds came un w (heard w v) (map (λ a. Said a) v.answers) h refl (ap (λ t. w.text ++ t) (sym (said-text v.answers))) (λ m. said-sent m v.answers) g asked
 
-says-holds : (came : ℕ → List ℕ) (un : ℕ → List WantValue) (w v : Script) (p : Part) → Holds came un w → v.connections ≡ w.connections → v.rooms ≡ w.rooms
+pub says-holds : (came : ℕ → List ℕ) (un : ℕ → List WantValue) (w v : Script) (p : Part) → Holds came un w → v.connections ≡ w.connections → v.rooms ≡ w.rooms
     → v.text ≡ w.text ++ part_text p → ((m : ℕ) → sent_by m p ≡ []) → Holds came un v
 says-holds came un w v p h same rooms text none =
     adds came un w v (p ∷ []) h same (text ∙ ap (λ t. w.text ++ t) (sym (append-nil (part_text p)))) (λ m. append-nil (sent_by m p) ∙ none m)
@@ -93,7 +90,7 @@ says-holds came un w v p h same rooms text none =
     (subst (λ (r : World). AreAsked un r.channels r.waits) (sym rooms) h.asked)
 
 -- nothing more came
-nothing_more : (came other : ℕ → List ℕ) (un : ℕ → List WantValue) (w : Script) → ((n : ℕ) → other n ≡ came n) → Holds came un w → Holds other un w
+pub nothing_more : (came other : ℕ → List ℕ) (un : ℕ → List WantValue) (w : Script) → ((n : ℕ) → other n ≡ came n) → Holds came un w → Holds other un w
 nothing_more came other un w same h = record {
   parts = h.parts;
   text = h.text;
@@ -114,7 +111,8 @@ left_at false s p e going = (e, going, refl)
 -- what a turn of a connection does, with what it keeps
 abbrev Visited : ℕ → (ℕ → List WantValue) → (ℕ → ℕ) → Script → Past → List ℕ → Visit → Type 0
 Visited n un counts w p piece v =
-    Talked n (Keeps n un w.rooms.channels counts) (none-keeps n un w.rooms.channels counts) (asks-keep n un w.rooms.channels counts) p piece w.connections v
+    Talked n (Keeps n un w.rooms.channels counts) (none-keeps n un w.rooms.channels counts) (asks-keep n un w.rooms.channels counts)
+    (mutes-keep n un w.rooms.channels counts) p piece w.connections v
 
 module _ (n : ℕ) (piece : List ℕ) (came : ℕ → List ℕ) (un : ℕ → List WantValue) (counts : ℕ → ℕ) (w : Script) (h : Holds came un w) (none : (h.served n).untaken ≡ []) (v : Visit)
     (d : Visited n un counts w (past (h.served n).calls) piece v) where
@@ -174,17 +172,17 @@ module _ (n : ℕ) (piece : List ℕ) (came : ℕ → List ℕ) (un : ℕ → Li
     asked = d.kept.0.asked;
   }
 
-abbrev HoldsSome : (ℕ → List ℕ) → Script → Type 0
+abbrev pub HoldsSome : (ℕ → List ℕ) → Script → Type 0
 HoldsSome came w = (un : ℕ → List WantValue) × Holds came un w
 
 -- ---- bytes come
 
-bytes-holds : (n : ℕ) (piece : List ℕ) (came : ℕ → List ℕ) (un : ℕ → List WantValue) (w : Script) → due.Holds w → Holds came un w
-    → HoldsSome (and_on n piece came) (turned w (connection.bytes n piece w.connections w.rooms))
-bytes-holds n piece came un w met h = by (session_of n w.connections) refl (h.served n).stands
+pub bytes-holds : (lucks : List Luck) (n : ℕ) (piece : List ℕ) (came : ℕ → List ℕ) (un : ℕ → List WantValue) (w : Script) → due.Holds w → Holds came un w
+    → HoldsSome (and_on n piece came) (turned w (connection.bytes lucks n piece w.connections w.rooms))
+bytes-holds lucks n piece came un w met h = by (session_of n w.connections) refl (h.served n).stands
   where
     goes : (s : SessionValue) → (past (h.served n).calls).session ≡ s → s.shut ≡ false → (h.served n).untaken ≡ [] → waiting_of n w.rooms.waits ≡ outs s.out
-        → HoldsSome (and_on n piece came) (turned w (turn n w.connections (arrived n piece (record { session = s; rooms = w.rooms }))))
+        → HoldsSome (and_on n piece came) (turned w (turn n w.connections (arrived lucks n piece (record { session = s; rooms = w.rooms }))))
     goes s e going none own =
         let counts = λ (m : ℕ). wants_out (session_of m w.connections) in
         let v : Visit = record { session = s; rooms = w.rooms } in
@@ -199,17 +197,17 @@ bytes-holds n piece came un w met h = by (session_of n w.connections) refl (h.se
           few = (h.served n).few;
           count = (h.served n).is_out;
         } in
-        let K = Keeps n un w.rooms.channels counts in
+        let cs = w.rooms.channels in
         let d =
-        bytes-talked n K (none-keeps n un w.rooms.channels counts) (asks-keep n un w.rooms.channels counts)
-        q s piece w.connections w.rooms e going
+        bytes-talked n (Keeps n un cs counts) (none-keeps n un cs counts) (asks-keep n un cs counts) (mutes-keep n un cs counts)
+        lucks q s piece w.connections w.rooms e going
         (came-serves n un w.rooms.channels piece v q serves, came-met n counts piece v is_met) in (
           unanswered_at n d.kept.0.unanswered un,
-          turned-holds n piece came un counts w h none (arrived n piece v) d,
+          turned-holds n piece came un counts w h none (arrived lucks n piece v) d,
         )
 
     by : (o : Option (Option SessionValue)) → session_of n w.connections ≡ o → StandsAt o (past (h.served n).calls) (h.served n).untaken
-        → HoldsSome (and_on n piece came) (turned w (connection.bytes_to n piece w.connections w.rooms o))
+        → HoldsSome (and_on n piece came) (turned w (connection.bytes_to lucks n piece w.connections w.rooms o))
     by None e s = goes fresh s.0 refl s.1 (met.met.matched n ∙ ap wants_out e)
     by (Some (Some x)) e s = goes x s.0 s.1 s.2 (met.met.matched n ∙ ap wants_out e)
     by (Some None) e s = (
@@ -241,7 +239,7 @@ bytes-holds n piece came un w met h = by (session_of n w.connections) refl (h.se
 
 -- ---- a connection ends
 
-end-holds : (n : ℕ) (came : ℕ → List ℕ) (un : ℕ → List WantValue) (w : Script) → Holds came un w → Holds came un (turned w (connection.end n w.connections w.rooms))
+pub end-holds : (n : ℕ) (came : ℕ → List ℕ) (un : ℕ → List WantValue) (w : Script) → Holds came un w → Holds came un (turned w (connection.end n w.connections w.rooms))
 end-holds n came un w h = by (session_of n w.connections)
   where
     nothing : Holds came un (turned w (connection.nothing w.connections w.rooms))
@@ -295,44 +293,80 @@ none_on : (n m : ℕ) (came : ℕ → List ℕ) (b : Bool) → came m ≡ came m
 none_on n m came true = sym (append-nil (came m))
 none_on n m came false = sym (append-nil (came m))
 
-reply-holds : (n : ℕ) (a : verdict.Reply) (came : ℕ → List ℕ) (un : ℕ → List WantValue) (w : Script) → Holds came un w → Told n un w a
-    → HoldsSome came (turned w (connection.reply n a w.connections w.rooms))
-reply-holds n a came un w h t =
-    let s = t.has.session in
-    let answer = player.Reply a in
-    let q = past (h.served n).calls in
-    let counts = λ (m : ℕ). wants_out (session_of m w.connections) in
-    let stands : StandsAt (Some (Some s)) q (h.served n).untaken = subst (λ o. StandsAt o q (h.served n).untaken) t.has.there (h.served n).stands in
-    let answered : AreAnswered w.rooms.channels (wants_of q.entries) q.replies (t.want ∷ []) =
-    subst (AreAnswered w.rooms.channels (wants_of q.entries) q.replies) t.out (h.served n).answered in
-    let out : outs q.session.out ≡ 1 =
-    sym ((h.served n).is_out (ap (λ (s : SessionValue). s.shut) stands.0 ∙ stands.1)) ∙ ap length t.out in
-    let serves =
-    reply-serves n un w.rooms.channels w.rooms q t.want answer (grows-same w.rooms.channels) answered t.right (un n)
-    (same-asked un (unanswered_at n (un n) un) w.rooms.channels w.rooms.waits (λ m. unanswered-same n m (n == m) refl un) h.asked) t.none out in
-    let is_met : IsMet n counts (record { session = replied s answer; rooms = w.rooms }) = record {
-      rooms = t.rooms;
-      own = t.none ∙ ap outs (sym (replied_out s answer));
-      other = t.others;
-      sound = λ shut. replied_out s answer;
-    } in
-    let d =
-    reply-talked n (Keeps n un w.rooms.channels counts) (none-keeps n un w.rooms.channels counts) (asks-keep n un w.rooms.channels counts) q s a w.connections w.rooms
-    stands.0 (serves, is_met) in
-    let now = unanswered_at n d.kept.0.unanswered un in
-    let v = released n a (record { session = s; rooms = w.rooms }) in
-    subst (λ o. HoldsSome came (turned w (connection.reply_to n a w.connections w.rooms o))) (sym t.has.there) (
-      now,
-      nothing_more (and_on n [] came) came now (turned w (turn n w.connections v)) (λ m. none_on n m came (n == m))
-          (turned-holds n [] came un counts w h stands.2 v d),
+reply-holds : (lucks : List Luck) (n : ℕ) (a : verdict.Reply) (came : ℕ → List ℕ) (un : ℕ → List WantValue) (w : Script) → Holds came un w → Told n un w a
+    → HoldsSome came (turned w (connection.reply lucks n a w.connections w.rooms))
+reply-holds lucks n a came un w h t =
+    subst (λ o. HoldsSome came (turned w (connection.reply_to lucks n a w.connections w.rooms o))) (sym t.has.there) (
+      unanswered_at n talked.kept.0.unanswered un,
+      nothing_more (and_on n [] came) came (unanswered_at n talked.kept.0.unanswered un) (turned w (turn n w.connections v)) (λ m. none_on n m came (n == m))
+          (turned-holds n [] came un counts w h stands.2 v talked),
+    )
+  where
+    s : SessionValue
+    s = t.has.session
+
+    answer : Answer
+    answer = player.Reply a
+
+    q : Past
+    q = past (h.served n).calls
+
+    cs : List Channel
+    cs = w.rooms.channels
+
+    counts : ℕ → ℕ
+    counts = λ m. wants_out (session_of m w.connections)
+
+    v : Visit
+    v = released lucks n a (record { session = s; rooms = w.rooms })
+
+    stands : StandsAt (Some (Some s)) q (h.served n).untaken
+    stands = subst (λ o. StandsAt o q (h.served n).untaken) t.has.there (h.served n).stands
+
+    asked : AreAsked (unanswered_at n (un n) un) cs w.rooms.waits
+    asked = same-asked un (unanswered_at n (un n) un) cs w.rooms.waits (λ m. unanswered-same n m (n == m) refl un) h.asked
+
+    serves : (found : Bool) → Serves n un cs w.rooms (called q (answer_call found answer))
+    serves true =
+        let answered : AreAnswered cs (wants_of q.entries) q.replies (t.want ∷ []) =
+        subst (AreAnswered cs (wants_of q.entries) q.replies) t.out (h.served n).answered in
+        let out : outs q.session.out ≡ 1 =
+        sym ((h.served n).is_out (ap (λ (s : SessionValue). s.shut) stands.0 ∙ stands.1)) ∙ ap length t.out in
+        reply-serves n un cs w.rooms q t.want answer (grows-same cs) answered t.right (un n) asked t.none out
+    serves false = mute-serves n un cs w.rooms q (record {
+      unanswered = un n;
+      grows = grows-same cs;
+      answered = (h.served n).answered;
+      asked = asked;
+      few = (h.served n).few;
+      count = (h.served n).is_out;
+    })
+
+    keeps : (found : Bool) (o : Option Bool) → is_some o ≡ true
+        → Keeps n un cs counts (record { session = put_out found s answer; rooms = w.rooms }) (put o found q answer)
+    keeps found None e = absurd (true≢false (sym e))
+    keeps found (Some keep) e = (
+      serves found,
+      record {
+        rooms = t.rooms;
+        own = t.none ∙ ap outs (sym (replied_out found s answer));
+        other = t.others;
+        sound = λ shut. replied_out found s answer;
+      },
     )
 
-tick-holds : (came : ℕ → List ℕ) (un : ℕ → List WantValue) (w : Script) (place : ℕ) → due.Holds w → Holds came un w → HoldsSome came (tick place w)
-tick-holds came un w place met h = by (rooms.tick place w.rooms) (due.ticks w.rooms place met.met.rooms) (tick-open w.rooms place met.met.rooms)
+    talked : Visited n un counts w q [] v
+    talked =
+        reply-talked n (Keeps n un cs counts) (none-keeps n un cs counts) (asks-keep n un cs counts) (mutes-keep n un cs counts)
+        lucks q s a w.connections w.rooms stands.0 (λ found. keeps found s.out t.has.is_out)
+
+pub tick-holds : (came : ℕ → List ℕ) (un : ℕ → List WantValue) (place : ℕ) (w : Script) (lucks : List Luck) → due.Holds w → Holds came un w
+    → HoldsSome came (tick place w lucks)
+tick-holds came un place w lucks met h = by (rooms.tick place w.rooms) (due.ticks w.rooms place met.met.rooms) (tick-open w.rooms place met.met.rooms)
   where
     told_by : (c : Channel) (r : Request) (x : Wait) (s : Settled) (o : Owner) → slice_get w.rooms.channels place ≡ Some c → first_due c.settings c.events ≡ Some r
         → under place r.ticket w.rooms.waits ≡ Some x → reply c.settings c.events r ≡ Some s → x.owner ≡ o → IsOpen (due.told_in w.rooms place c r x s)
-        → HoldsSome came (passed_to o (reply_of s) (heard w (due.told_in w.rooms place c r x s)))
+        → HoldsSome came (passed_to lucks o (reply_of s) (heard w (due.told_in w.rooms place c r x s)))
     told_by c r x s o at is found told e tied = by o e
       where
         grows : Grows w.rooms.channels (due.told_in w.rooms place c r x s).channels
@@ -344,11 +378,11 @@ tick-holds came un w place met h = by (rooms.tick place w.rooms) (due.ticks w.ro
             (asked-less un (due.told_in w.rooms place c r x s).channels place r.ticket w.rooms.waits
             (asked-stays un w.rooms.channels (due.told_in w.rooms place c r x s).channels w.rooms.waits grows h.asked))
 
-        by : (o : Owner) → x.owner ≡ o → HoldsSome came (passed_to o (reply_of s) (heard w (due.told_in w.rooms place c r x s)))
+        by : (o : Owner) → x.owner ≡ o → HoldsSome came (passed_to lucks o (reply_of s) (heard w (due.told_in w.rooms place c r x s)))
         by (Get id) e = (un, hear)
         by (Connection n) e =
             let a = subst (AskedBy un w.rooms.channels place r.ticket) e (asked-at un w.rooms.channels place r.ticket w.rooms.waits x h.asked found) in
-            reply-holds n (reply_of s) came un (heard w (due.told_in w.rooms place c r x s)) hear (record {
+            reply-holds lucks n (reply_of s) came un (heard w (due.told_in w.rooms place c r x s)) hear (record {
               want = a.0;
               out = a.2;
               right =
@@ -360,127 +394,14 @@ tick-holds came un w place met h = by (rooms.tick place w.rooms) (due.ticks w.ro
               others = λ m f. due.of_other m w.rooms place r.ticket x found (ap (λ o. is_same o (Connection m)) e ∙ f) ∙ met.met.matched m;
             })
 
-    by : (v : World) → due.Ticks w.rooms place v → IsOpen v → HoldsSome came (fold passed_on (heard w v) v.answers)
+    by : (v : World) → due.Ticks w.rooms place v → IsOpen v → HoldsSome came (fold (passed_on lucks) (heard w v) v.answers)
     by v (due.Nothing none e) tied =
-        subst (λ (v : World). HoldsSome came (fold passed_on (heard w v) v.answers)) (sym e)
-        (subst (λ answers. HoldsSome came (fold passed_on (heard w w.rooms) answers)) (sym met.quiet)
+        subst (λ (v : World). HoldsSome came (fold (passed_on lucks) (heard w v) v.answers)) (sym e)
+        (subst (λ answers. HoldsSome came (fold (passed_on lucks) (heard w w.rooms) answers)) (sym met.quiet)
         (un, heard-holds came un w w.rooms h (grows-same w.rooms.channels) h.asked))
     by v (due.Tells c r x s at is found told e) tied =
-        subst (λ (v : World). HoldsSome came (fold passed_on (heard w v) v.answers)) (sym e)
+        subst (λ (v : World). HoldsSome came (fold (passed_on lucks) (heard w v) v.answers)) (sym e)
         (subst
-        (λ (answers : List answer.Answer). HoldsSome came (fold passed_on (heard w (due.told_in w.rooms place c r x s)) (answers ++ said.Replied x.owner (reply_of s) ∷ [])))
+        (λ (answers : List answer.Answer). HoldsSome came (fold (passed_on lucks) (heard w (due.told_in w.rooms place c r x s)) (answers ++ said.Replied x.owner (reply_of s) ∷ [])))
         (sym met.quiet)
         (told_by c r x s x.owner at is found told refl (subst IsOpen e tied)))
-
--- ---- acts
-
-abbrev after_act : Act → (ℕ → List ℕ) → ℕ → List ℕ
-after_act a came m = came m ++ brought_by m a
-
-module _ (came : ℕ → List ℕ) (un : ℕ → List WantValue) (w : Script) (met : due.Holds w) (h : Holds came un w) where
-  quiet : (a : Act) (v : Script) → ((m : ℕ) → brought_by m a ≡ []) → Holds came un v → HoldsSome (after_act a came) v
-  quiet a v none k = (un, nothing_more came (after_act a came) un v (λ m. ap (λ l. came m ++ l) (none m) ∙ append-nil (came m)) k)
-
-  same_waits : (v : World) → v.waits ≡ w.rooms.waits → Grows w.rooms.channels v.channels → AreAsked un v.channels v.waits
-  same_waits v same g = subst (AreAsked un v.channels) (sym same) (asked-stays un w.rooms.channels v.channels w.rooms.waits g h.asked)
-
-  act-holds : (a : Act) → HoldsSome (after_act a came) (act w a)
-  act-holds (Declare c) =
-      let v = rooms.declare c w.rooms in
-      let g = declare-grows w.rooms.channels (record { settings = c; events = [] }) in
-      quiet (Declare c) (heard w v) (λ m. refl) (heard-holds came un w v h g (same_waits v refl g))
-  act-holds (Offer i item) =
-      let v = rooms.offer i item w.rooms in
-      let g = offer-grows w.rooms.channels w.rooms i item (grows-same w.rooms.channels) in
-      quiet (Offer i item) (heard w v) (λ m. refl) (heard-holds came un w v h g (same_waits v (due.offer-same w.rooms i item) g))
-  act-holds (Refuse reason) = quiet (Refuse reason) (act w (Refuse reason)) (λ m. refl) (says-holds came un w (act w (Refuse reason)) (Refused reason) h refl refl refl (λ m. refl))
-  act-holds (Ask id i want) =
-      let v = rooms.ask (Get id) i want w.rooms in
-      quiet (Ask id i want) (act w (Ask id i want)) (λ m. refl)
-      (adds came un w (act w (Ask id i want)) (map (λ a. Said a) v.answers) h refl (ap (λ t. w.text ++ t) (sym (said-text v.answers))) (λ m. said-sent m v.answers)
-      (ask-grows w.rooms.channels w.rooms (Get id) i want (grows-same w.rooms.channels)) (ask-asked un w.rooms id i want h.asked))
-  act-holds (Answer id reason) =
-      quiet (Answer id reason) (act w (Answer id reason)) (λ m. refl) (says-holds came un w (act w (Answer id reason)) (Faulty id reason) h refl refl refl (λ m. refl))
-  act-holds (Close id) =
-      let v = rooms.close (Get id) w.rooms in
-      quiet (Close id) (heard w v) (λ m. refl)
-      (heard-holds came un w v h (close-grows w.rooms.channels w.rooms (Get id) (grows-same w.rooms.channels)) (asked-closes un w.rooms (Get id) h.asked))
-  act-holds (Clock i ms) =
-      let v = rooms.clock i ms w.rooms in
-      let g = clock-grows w.rooms.channels w.rooms i ms (grows-same w.rooms.channels) in
-      quiet (Clock i ms) (heard w v) (λ m. refl) (heard-holds came un w v h g (same_waits v (due.clock-same w.rooms i ms) g))
-  act-holds RefuseClock = quiet RefuseClock (act w RefuseClock) (λ m. refl) (says-holds came un w (act w RefuseClock) Late h refl refl refl (λ m. refl))
-  act-holds (Bytes n piece) = bytes-holds n piece came un w met h
-  act-holds (Drop n) = quiet (Drop n) (act w (Drop n)) (λ m. refl) (end-holds n came un w h)
-
--- ---- all lines
-
-abbrev so_far : List Act → ℕ → List ℕ
-so_far list n = flat_map (brought_by n) list
-
-abbrev Always : List Act → Script → Type 0
-Always list w = due.Holds w × HoldsSome (so_far list) w
-
-one_more : (list : List Act) (w : Script) (a : Act) → Always list w → Always (list ++ a ∷ []) (act w a)
-one_more list w a h =
-    let k = act-holds (so_far list) h.1.0 w h.0 h.1.1 a in (
-      due.act-holds w a h.0,
-      (
-        k.0,
-        nothing_more (after_act a (so_far list)) (so_far (list ++ a ∷ [])) k.0 (act w a)
-            (λ n. flat_map-append (brought_by n) list (a ∷ []) ∙ ap (λ l. so_far list n ++ l) (append-nil (brought_by n a))) k.1,
-      ),
-    )
-
-same : (list : List Act) (w : Script) (lines : ℕ) (ending : Option Ending) → Always list w → Always list (record w { lines = lines; ending = ending })
-same list w lines ending h = (
-  due.same-holds w lines ending h.0,
-  (
-    h.1.0,
-    adds (so_far list) h.1.0 w (record w { lines = lines; ending = ending }) [] h.1.1 refl (sym (append-nil w.text)) (λ m. refl) (grows-same w.rooms.channels) h.1.1.asked,
-  ),
-)
-
-start-holds : Holds (λ n. []) (λ n. []) start
-start-holds = record {
-  parts = [];
-  text = refl;
-  served = λ n.
-      record { calls = []; untaken = []; fed = refl; gone = refl; all_sent = refl; stands = (refl, refl); answered = refl; few = omega arith; is_out = λ going. refl };
-  asked = tt;
-}
-
-one_reply : (list : List Act) (w : Script) (place : ℕ) → Always list w → Always list (tick place w)
-one_reply list w place h = (due.tick-holds place w h.0, tick-holds (so_far list) h.1.0 w place h.0 h.1.1)
-
-pub talks : TalksLaw
-talks ls =
-    let h = lines-keep Always (done-keeps Always one_more one_reply) same [] start ls (due.start-holds, ((λ n. []), start-holds)) in
-    (h.1.1.parts, h.1.1.text, λ n. (h.1.0 n, h.1.1.served n))
-
--- the same without the calls
-pub answers : AnswersLaw
-answers ls =
-    let t = talks ls in (
-      t.0,
-      t.1,
-      λ n.
-          let s = t.2 n in
-          let talk = is_talk s.1.calls in
-          let sent : flat_map (sent_by n) t.0 ++ [] ≡ concat (conversation (past s.1.calls).overflowed (past s.1.calls).entries (past s.1.calls).replies) =
-          ap₂ (λ x y. x ++ y) s.1.gone (ap concat (sym s.1.all_sent)) ∙ talk.answers in
-          record {
-            taken = (past s.1.calls).fed;
-            untaken = s.1.untaken;
-            came_is = s.1.fed;
-            entries = (past s.1.calls).entries;
-            later = talk.first.0;
-            requests_are = talk.first.1;
-            answers = (past s.1.calls).replies;
-            unanswered = s.0;
-            right = s.1.answered;
-            few = s.1.few;
-            overflowed = (past s.1.calls).overflowed;
-            sent_is = sym (append-nil (flat_map (sent_by n) t.0)) ∙ sent;
-          },
-    )

@@ -1,6 +1,5 @@
 -- Laws of what a script comes to: of its channels, and of the texts that their requests get.
 use Rattle.std.specs.Prelude.{◌≡◌, ℕ, ◌+◌, ◌≤◌, ◌<◌, List, [], ◌∷◌, ◌++◌, Option, Some, None, Ok, true, is_some, fold, length, map, slice_get}
-use Rattle.std.specs.Str.Lines.{lines}
 use Rattle.ll_item.specs.Settings.{Configuration, IsWithin, skip_limit}
 use Rattle.ll_verdict.specs.Waiting.{IsRising, first_ready, is_ready, ticket_in}
 use Rattle.ll_directive.specs.Targets.{WantValue}
@@ -22,6 +21,7 @@ use Rattle.ll_held.specs.declared.wait.Wait.{Wait}
 use Rattle.ll_session.specs.Talk.{SessionValue}
 use Rattle.ll_connection.specs.Met.{AreMatched}
 use Rattle.ll_connection.specs.Turn.{Connections, session_of}
+use Rattle.ll_connection.specs.Visit.{Luck}
 use Rattle.ll_verdict.specs.Events.{Event, Ask, items}
 use Rattle.ll_verdict.specs.State.{state_of}
 use Rattle.ll_verdict.specs.Verdict.{Request, at_once, held, reply, wanted_of}
@@ -30,9 +30,9 @@ use Rattle.ll_verdict.specs.declared.reply.Reply.TheVariants as now
 use Rattle.ll_verdict.specs.declared.reply.Settled.TheVariants.{Text}
 use Rattle.ll_verdict.specs.declared.wanted.Wanted.{Wanted}
 use Rattle.ll_world.specs.Kept.{tickets_at}
-use Rattle.ll_world.specs.World.{Channel, World, first_due, repeat}
-use Rattle.ll_replay.specs.Stream.{script, world_of}
-use Rattle.ll_replay.specs.Script.{Script, act, done, line, longest_line, start, tick}
+use Rattle.ll_world.specs.World.{Channel, World, first_due}
+use Rattle.ll_replay.specs.Stream.{come_to}
+use Rattle.ll_replay.specs.Script.{Lot, Marked, Script, act, done, longest_line, tick, unmarked}
 use Rattle.ll_apply.specs.Texts.{applied_text}
 use Rattle.ll_script_laws.specs.Verdicts.{verdict}
 use Rattle.ll_laws.specs.Published.{ArePublished}
@@ -44,15 +44,15 @@ page_after c events rendition form = record { seen = seen c (items c events) ren
 -- For each channel of a script, after each prefix of its events: the settings are within their limits, and of the accepted items each
 -- may follow those before it.
 abbrev pub PublishedLaw : Type 0
-PublishedLaw = (bytes : List ℕ) (place : ℕ) (channel : Channel) (front later : List Event)
-    → slice_get (world_of bytes).rooms.channels place ≡ Some channel → channel.events ≡ front ++ later
+PublishedLaw = (list : List Marked) (place : ℕ) (channel : Channel) (front later : List Event)
+    → slice_get (come_to list).rooms.channels place ≡ Some channel → channel.events ≡ front ++ later
     → IsWithin channel.settings × ArePublished channel.settings [] (items channel.settings front)
 
 -- For each channel of a script: the text of a delta update, applied to that of an earlier full playlist, is the text of the full
 -- playlist of its own moment, where the parts accepted in between last no longer than the skip limit.
 abbrev pub PlayersLaw : Type 0
-PlayersLaw = (bytes : List ℕ) (place : ℕ) (channel : Channel) (first second later : List Event) (rendition : ℕ) (kind : SkipKind)
-    → slice_get (world_of bytes).rooms.channels place ≡ Some channel → channel.events ≡ first ++ (second ++ later)
+PlayersLaw = (list : List Marked) (place : ℕ) (channel : Channel) (first second later : List Event) (rendition : ℕ) (kind : SkipKind)
+    → slice_get (come_to list).rooms.channels place ≡ Some channel → channel.events ≡ first ++ (second ++ later)
     → rendition < length channel.settings.renditions
     → end_time (own rendition (items channel.settings (first ++ second)))
     ≤ end_time (own rendition (items channel.settings first)) + skip_limit channel.settings
@@ -87,18 +87,17 @@ VerdictLaw = (c : Configuration) (before later : List Event) (want : WantValue) 
 abbrev pub Brings : ℕ → List ℕ → List ℕ → Type 0
 Brings n piece text = (channels : List Configuration) (last : Option ℕ) → acts channels last text ≡ Some (Bytes n piece ∷ [])
 
--- Of two scripts, one brings bytes of a connection in one line, the other in two lines next to each other, and else they have the same lines. They give the same
--- text.
+-- Of two scripts, one brings bytes of a connection in one line, the other in two lines next to each other, and memory is found for what these bring; else
+-- they have the same lines, with the same memory. They give the same text.
 abbrev pub PiecesLaw : Type 0
-PiecesLaw = (one two : List ℕ) (before later : List (List ℕ)) (whole first second : List ℕ) (n : ℕ) (a b : List ℕ)
-    → lines one ≡ before ++ whole ∷ later → lines two ≡ before ++ first ∷ second ∷ later
+PiecesLaw = (before later : List Marked) (whole first second : List ℕ) (n : ℕ) (a b : List ℕ)
     → Brings n (a ++ b) whole → Brings n a first → Brings n b second
     → length whole ≤ longest_line → length first ≤ longest_line → length second ≤ longest_line
-    → script one ≡ script two
+    → (come_to (before ++ unmarked whole ∷ later)).text ≡ (come_to (before ++ unmarked first ∷ unmarked second ∷ later)).text
 
 -- a script after some lines, some acts of the next one, and some of the replies that the last of these made due in the channel at a place
-abbrev pub moment : List (List ℕ) → List Act → Act → ℕ → ℕ → Script
-moment before list last place n = repeat (tick place) n (act (fold done (fold line start before) list) last)
+abbrev pub moment : List Marked → List (Lot × Act) → List Luck → Act → ℕ → List (List Luck) → Script
+moment before list lucks last place replies = fold (tick place) (act lucks (fold done (come_to before) list) last) replies
 
 -- Who asked is there: a connection's session is open, and has a want out.
 abbrev pub IsThere : Owner → Connections → Type 0
@@ -123,17 +122,18 @@ AreOpen w = (place : ℕ) → (tickets_at place w.waits ≡ open_tickets (slice_
 -- At each moment of each script: a reply that is due finds who asked, and of each connection as many requests wait as its session has wants
 -- out, one or none.
 abbrev pub DueLaw : Type 0
-DueLaw = (before : List (List ℕ)) (list : List Act) (last : Act) (place n : ℕ)
-    → FindsAsker (moment before list last place n)
-    × AreMatched (moment before list last place n).rooms.waits (moment before list last place n).connections
+DueLaw = (before : List Marked) (list : List (Lot × Act)) (lucks : List Luck) (last : Act) (place : ℕ) (replies : List (List Luck))
+    → FindsAsker (moment before list lucks last place replies)
+    × AreMatched (moment before list lucks last place replies).rooms.waits (moment before list lucks last place replies).connections
 
 -- At each moment of each script: who waits is who has an open request.
 abbrev pub WaitsLaw : Type 0
-WaitsLaw = (before : List (List ℕ)) (list : List Act) (last : Act) (place n : ℕ) → AreOpen (moment before list last place n).rooms
+WaitsLaw = (before : List Marked) (list : List (Lot × Act)) (lucks : List Luck) (last : Act) (place : ℕ) (replies : List (List Luck))
+    → AreOpen (moment before list lucks last place replies).rooms
 
 -- after each line no reply is due in any channel
 abbrev pub NoneLeftLaw : Type 0
-NoneLeftLaw = (lines : List (List ℕ)) (place : ℕ) (channel : Channel) → slice_get (fold line start lines).rooms.channels place ≡ Some channel
+NoneLeftLaw = (list : List Marked) (place : ℕ) (channel : Channel) → slice_get (come_to list).rooms.channels place ≡ Some channel
     → first_due channel.settings channel.events ≡ None
 
 -- the open requests of a channel are kept in the order of their numbers

@@ -1,5 +1,5 @@
 -- What comes and what is sent on each connection of a script.
-use Rattle.std.specs.Prelude.{◌≡◌, ℕ, ◌≤◌, ◌==◌, ◌||◌, List, [], ◌∷◌, ◌++◌, Bool, false, Option, Some, None, is_some, flat_map, fold, length, nat_lt, if◌then◌else◌}
+use Rattle.std.specs.Prelude.{◌≡◌, ℕ, ◌≤◌, ◌==◌, ◌||◌, List, [], ◌∷◌, ◌++◌, Bool, false, Option, Some, None, is_some, flat_map, length, nat_lt, if◌then◌else◌}
 use Rattle.std.specs.List.{concat}
 use Rattle.ll_connection.specs.Met.{outs}
 use Rattle.ll_connection.specs.Turn.{session_of}
@@ -7,7 +7,8 @@ use Rattle.ll_directive.specs.Targets.{WantValue}
 use Rattle.ll_directive.specs.declared.fault.TargetFault.{TargetFault}
 use Rattle.ll_publish.specs.Refusals.{no_line}
 use Rattle.ll_publish.specs.declared.refusal.Refusal.{Refusal}
-use Rattle.ll_replay.specs.Script.{Script, line, longest_line, spelled, start}
+use Rattle.ll_replay.specs.Script.{Marked, Script, line, longest_line, spelled, start}
+use Rattle.ll_replay.specs.Stream.{come_to}
 use Rattle.ll_script.specs.Answers.{clock_line, fault_line, sent_line, shut_line}
 use Rattle.ll_script.specs.Lines.{acts}
 use Rattle.ll_script.specs.declared.act.Act.{Act}
@@ -59,12 +60,12 @@ listed None = []
 listed (Some list) = list
 
 -- the acts that a line makes happen after what the lines before it came to
-abbrev pub acts_in : Script → List ℕ → List Act
-acts_in w text =
-    if is_some w.ending || nat_lt longest_line (length text) then [] else listed (acts (all_settings w.rooms) w.last_id text)
+abbrev pub acts_in : Script → Marked → List Act
+acts_in w l =
+    if is_some w.ending || nat_lt longest_line (length l.text) then [] else listed (acts (all_settings w.rooms) w.last_id l.text)
 
 -- all acts of some lines
-abbrev pub acts_of : Script → List (List ℕ) → List Act
+abbrev pub acts_of : Script → List Marked → List Act
 acts_of w [] = []
 acts_of w (l ∷ lines) = acts_in w l ++ acts_of (line w l) lines
 
@@ -91,10 +92,10 @@ pub record IsServed (w : Script) (came sent : List ℕ) (n : ℕ) (unanswered : 
 -- For each script: its text is made of parts, and what came and what was sent on each connection are those of calls on a session, in which each
 -- request was answered right.
 abbrev pub TalksLaw : Type 0
-TalksLaw = (lines : List (List ℕ))
-    → (parts : List Part) × ((fold line start lines).text ≡ flat_map part_text parts)
+TalksLaw = (lines : List Marked)
+    → (parts : List Part) × ((come_to lines).text ≡ flat_map part_text parts)
     × ((n : ℕ) → (unanswered : List WantValue)
-    × IsServed (fold line start lines) (flat_map (brought_by n) (acts_of start lines)) (flat_map (sent_by n) parts) n unanswered)
+    × IsServed (come_to lines) (flat_map (brought_by n) (acts_of start lines)) (flat_map (sent_by n) parts) n unanswered)
 
 -- What came on a connection holds requests, and what was sent on it is the answers to the first of them, in their order. Those that want something
 -- of a channel are answered right, but for the last one, which may have no answer yet, or none at all where it was given up.
@@ -116,9 +117,9 @@ pub record IsAnswered (w : Script) (came sent : List ℕ) : Type 0 where
 
 -- For each script: each of its connections gets the answers to its requests, in order, each the right one, and nothing else is sent on it.
 abbrev pub AnswersLaw : Type 0
-AnswersLaw = (lines : List (List ℕ))
-    → (parts : List Part) × ((fold line start lines).text ≡ flat_map part_text parts)
-    × ((n : ℕ) → IsAnswered (fold line start lines) (flat_map (brought_by n) (acts_of start lines)) (flat_map (sent_by n) parts))
+AnswersLaw = (lines : List Marked)
+    → (parts : List Part) × ((come_to lines).text ≡ flat_map part_text parts)
+    × ((n : ℕ) → IsAnswered (come_to lines) (flat_map (brought_by n) (acts_of start lines)) (flat_map (sent_by n) parts))
 
 -- where a session goes on and has no want out, its unread bytes hold no request
 abbrev pub IsIdle : SessionValue → Type 0
@@ -126,4 +127,4 @@ IsIdle s = s.shut ≡ false → s.out ≡ None → requests s.unread ≡ []
 
 -- After each line no request of a connection is left lying that could be handed in.
 abbrev pub IdleLaw : Type 0
-IdleLaw = (lines : List (List ℕ)) (n : ℕ) (s : SessionValue) → session_of n (fold line start lines).connections ≡ Some (Some s) → IsIdle s
+IdleLaw = (lines : List Marked) (n : ℕ) (s : SessionValue) → session_of n (come_to lines).connections ≡ Some (Some s) → IsIdle s

@@ -13,7 +13,7 @@ use Rattle.ll_verdict.specs.declared.reply.Reply.{Reply}
 use Rattle.ll_verdict.specs.declared.wanted.Wanted as asked
 use Rattle.ll_wire.specs.declared.answer.Answer.{Answer}
 use Rattle.ll_wire.specs.declared.answer.Answer.TheVariants as player
-use Rattle.ll_wire.specs.declared.answer.Unavailable.TheVariants.{RecordFull}
+use Rattle.ll_wire.specs.declared.answer.Unavailable.TheVariants as out
 use Rattle.ll_world.specs.World.{Channel}
 
 abbrev pub later_by : Configuration → List Event → List Event → Option asked.Wanted → Option Reply
@@ -41,7 +41,9 @@ pub data IsAnswer (channels : List Channel) (want : WantValue) (answer : Answer)
       → answer ≡ player.Reply a → IsAnswer channels want answer
   -- its channel had taken as many events as a channel takes
   Full : (place : ℕ) (channel : Channel) (before later : List Event) → IsNamed channels want place channel → channel.events ≡ before ++ later
-      → is_full (length before) ≡ true → answer ≡ player.Unavailable RecordFull → IsAnswer channels want answer
+      → is_full (length before) ≡ true → answer ≡ player.Unavailable out.RecordFull → IsAnswer channels want answer
+  -- no memory was found for it
+  Memory : (place : ℕ) (channel : Channel) → IsNamed channels want place channel → answer ≡ player.Unavailable out.Memory → IsAnswer channels want answer
   -- of the channels that were declared by then none has the name
   Unknown : (declared later : List Configuration) → settings_of channels ≡ declared ++ later → channel_of_name declared 0 want.channel ≡ None
       → answer ≡ player.Target NotFound → IsAnswer channels want answer

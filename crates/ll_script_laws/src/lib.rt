@@ -1,13 +1,15 @@
 //! Laws of whole scripts: what the channels of a script have accepted, what the playlists that their requests get are good for, that no
-//! reply is lost, and what each connection is sent. Each is proved once, as the contract of an empty function; none of these does
-//! anything. Sections are those of draft-pantos-hls-rfc8216bis.
+//! reply is lost, and what each connection is sent. They hold whatever memory is found: for all lists of lines, each marked with what
+//! memory is found for. Each is proved once, as the contract of an empty function; none of these does anything. Sections are those of
+//! draft-pantos-hls-rfc8216bis.
 #![tactic(auto)]
 
 ghost use Rattle.ll_script_laws.specs.Laws.{AtOnceLaw, DueLaw, LaterLaw, LeastReadyLaw, NoneLeftLaw, OpenOrderLaw, PiecesLaw, PlayersLaw, PublishedLaw, VerdictLaw, WaitsLaw};
 ghost use Rattle.ll_script_laws.specs.Talks.{AnswersLaw, IdleLaw, TalksLaw};
 
-/// For every input of `ll_replay::run`, at each moment of each of its channels: the settings are within their limits, and the items
-/// that the channel has accepted by then are such as the laws of `ll_laws` speak of. A moment is a prefix of the channel's events.
+/// For every input of `ll_replay::run`, whatever memory is found for its lines, at each moment of each of its channels: the settings are
+/// within their limits, and the items that the channel has accepted by then are such as the laws of `ll_laws` speak of. A moment is a
+/// prefix of the channel's events. An item or a request for which no memory is found is no event.
 pub fn published_law()
     ensures { PublishedLaw }
 {}
@@ -31,15 +33,17 @@ pub fn replies_law()
 {}
 
 /// Scripts that differ only in how the bytes of neighbouring `bytes` lines of one connection are cut give the same text: two such
-/// lines may be one, and so any number of them.
+/// lines may be one, and so any number of them. All memory is found for what the bytes of these lines bring; for all other lines it may
+/// be found or not, the same in both scripts.
 pub fn pieces_law()
     ensures { PiecesLaw }
 {}
 
-/// No reply is lost in a script. At each moment, a reply that is due finds the request that waits for it and who asked: for a connection's,
-/// its session is open and has a want out; and of each connection as many requests wait as its session has wants out, one or none
-/// (`finds`). Those who wait at a channel are its open requests, in their order (`waits`). And after each line no reply is due: all are
-/// written, or put out on their connections (`left`).
+/// No reply is lost in a script, whatever memory is found. At each moment, a reply that is due finds the request that waits for it and who
+/// asked: for a connection's, its session is open and has a want out; and of each connection as many requests wait as its session has
+/// wants out, one or none (`finds`). Those who wait at a channel are its open requests, in their order (`waits`). And after each line no
+/// reply is due: all are written, or put out on their connections, or their connections have ended where no memory was found for that
+/// (`left`).
 pub fn due_law()
     ensures finds { DueLaw }
     ensures waits { WaitsLaw }
@@ -48,9 +52,10 @@ pub fn due_law()
 
 /// Each connection of a script is sent the answers to the requests in its bytes, in their order, and nothing else, and each answer is right
 /// for the request at its own place: it is the channel's verdict of that request, or the channel had taken as many events as it takes, or
-/// no channel had the name (`answers`). At most one request has no answer: the one that the session has out, or that was given up. All that
-/// came and was sent are those of calls on one session, of which `session_law` of `ll_session` speaks (`calls`). And after each line no
-/// request is left lying: where a session goes on and has no want out, its unread bytes hold no whole request (`idle`).
+/// no channel had the name, or no memory was found for the request (`answers`). At most one request has no answer: the one that the session
+/// has out, or that was given up, or for whose answer no memory was found; the connection ends then. All that came and was sent are those
+/// of calls on one session, of which `session_law` of `ll_session` speaks (`calls`). And after each line no request is left lying: where a
+/// session goes on and has no want out, its unread bytes hold no whole request (`idle`).
 pub fn talks_law()
     ensures calls { TalksLaw }
     ensures answers { AnswersLaw }

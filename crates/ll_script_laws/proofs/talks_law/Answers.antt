@@ -1,6 +1,6 @@
 -- The laws have files of their own.
 use Rattle.ll_script_laws.proofs.IdleLemmas.{idle}
-use Rattle.ll_script_laws.proofs.TalkLemmas.{answers, talks}
+use Rattle.ll_script_laws.proofs.TalkLaws.{answers, talks}
 use Rattle.ll_script_laws.proofs.talks_law.Goals as goal
 
 pub returns-clause-calls : goal.returns-clause-calls

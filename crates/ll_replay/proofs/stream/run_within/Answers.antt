@@ -1,6 +1,6 @@
 -- Each fault has a clause of its own, of which one clause of the reading loop tells.
 use Rattle.std.proofs.lemmas.Result.{IfErr-at_err, IfOk-weaker}
-use Rattle.ll_replay.proofs.StreamLemmas.{StopsForMemory-prefix}
+use Rattle.ll_replay.proofs.StreamLemmas.{StopsForMemory-begun}
 use Rattle.ll_replay.proofs.stream.run_within.Goals as goal
 
 pub returns-clause-whole : goal.returns-clause-whole
@@ -16,7 +16,7 @@ pub returns-clause-cut_by_write : goal.returns-clause-cut_by_write
 returns-clause-cut_by_write g c input i e = IfErr-at_err _ e c.read_all-outcome.ensures.stopped input i
 
 pub returns-clause-cut_by_memory : goal.returns-clause-cut_by_memory
-returns-clause-cut_by_memory g c input i e = StopsForMemory-prefix _ _ input (IfErr-at_err _ e c.read_all-outcome.ensures.stopped input i)
+returns-clause-cut_by_memory g c input i e = StopsForMemory-begun _ _ input (IfErr-at_err _ e c.read_all-outcome.ensures.stopped input i)
 
 pub returns-clause-memory_last : goal.returns-clause-memory_last
 returns-clause-memory_last g c input i e = IfErr-at_err _ e c.read_all-outcome.ensures.stopped input i

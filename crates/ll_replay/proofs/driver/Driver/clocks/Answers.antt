@@ -1,12 +1,12 @@
 -- Each channel is told, one after another.
-use Rattle.std.proofs.Common.{◌≡◌, ◌<◌, ◌∙◌, Err, ap, arith, length, refl, subst, sym}
-use Rattle.ll_replay.specs.Kept.{Kept, Stands}
+use Rattle.std.proofs.Common.{◌≡◌, ◌<◌, ◌∙◌, Err, [], ap, arith, length, refl}
+use Rattle.ll_replay.specs.Kept.{Kept}
 use Rattle.ll_replay.proofs.RestLemmas.{all-told, clocks-cut, clocks-next}
 use Rattle.ll_replay.proofs.RunLemmas.{IfErr-handed, same_fault}
 use Rattle.ll_replay.proofs.driver.Driver.clocks.Goals as goal
 
 pub loop-place-init : goal.loop-place-init
-loop-place-init g c = record { goes = λ w base s. s; lines = refl; steady = refl }
+loop-place-init g c = record { goes = λ w base s. ([], refl, s); lines = refl; steady = refl }
 
 pub returns-in_err-done-clause-cut : goal.returns-in_err-done-clause-cut
 returns-in_err-done-clause-cut g c =
@@ -24,19 +24,17 @@ pub loop-place-preserved : goal.loop-place-preserved
 loop-place-preserved g c =
     let count = c.len-place-end.ensures ∙ ap (λ (k : Kept). length k.declared) c.self.view_is in
     let within : c.loop-place.place < length c.args.self.now.declared = omega (arith, count) in record {
-      goes = λ w base s.
-          subst (λ v. Stands c.done.new.self base (g.W.Writer.written c.done.new.writer) v) (sym (clocks-next c.args.self.now.declared c.loop-place.place c.args.ms w within))
-          (c.in_ok-done.ensures.ok _ base (c.loop-place.invariant.goes w base s));
+      goes =
+          clocks-next _ c.loop-place.self c.done.new.self _ _ _ c.args.self.now.declared c.loop-place.place c.args.ms within c.loop-place.invariant.goes c.in_ok-done.ensures.ok;
       lines = c.in_ok-done.ensures.lines ∙ c.loop-place.invariant.lines;
       steady = c.in_ok-done.ensures.steady ∙ c.loop-place.invariant.steady;
     }
 
 pub returns-clause-ok : goal.returns-clause-ok
-returns-clause-ok g c w base s =
+returns-clause-ok g c =
     let count = c.len-place-end.ensures ∙ ap (λ (k : Kept). length k.declared) c.self.view_is in
     let last : c.loop-place.place ≡ length c.args.self.now.declared = omega (arith, count) in
-    subst (λ v. Stands c.loop-place.self base (g.W.Writer.written c.loop-place.writer) v) (all-told c.args.self.now.declared c.loop-place.place c.args.ms w last)
-    (c.loop-place.invariant.goes w base s)
+    all-told _ c.loop-place.self _ _ c.args.self.now.declared c.loop-place.place c.args.ms last c.loop-place.invariant.goes
 
 pub returns-clause-lines : goal.returns-clause-lines
 returns-clause-lines g c = c.loop-place.invariant.lines

@@ -1,24 +1,23 @@
 -- Each reply that is due is written, until none is.
-use Rattle.std.proofs.Common.{◌≡◌, ◌∙◌, Err, Ok, Some, ap, arith, length, refl, subst, sym}
-use Rattle.ll_replay.specs.Kept.{Keeps, Kept, Says, Stands}
+use Rattle.std.proofs.Common.{◌≡◌, ◌∙◌, List, Some, [], ap, arith, length, refl, subst}
+use Rattle.ll_connection.specs.Visit.{Luck}
+use Rattle.ll_replay.specs.Kept.{Keeps, Kept, Says}
 use Rattle.ll_replay.specs.Script.{Script, tick}
-use Rattle.ll_replay.proofs.DriverLemmas.{said, said-cut}
-use Rattle.ll_replay.proofs.RestLemmas.{repeat_more, rest-all, rest-cut, rest-none, rest-stops}
+use Rattle.ll_replay.proofs.RestLemmas.{rest-all, rest-cut, rest-next, rest-none, rest-stops}
 use Rattle.ll_replay.proofs.RunLemmas.{IfErr-handed}
-use Rattle.ll_replay.proofs.ScriptLaws.{tick-follows}
 use Rattle.ll_replay.proofs.driver.Driver.rest.Goals as goal
 
 pub loop-init : goal.loop-init
-loop-init g c = record { goes = λ w base s. s; lines = refl; steady = refl }
+loop-init g c = record { goes = λ w base s. ([], refl, s); lines = refl; steady = refl }
 
 pub returns-in_err-say-in-Ok-Some-clause-cut : goal.returns-in_err-say-in-Ok-Some-clause-cut
 returns-in_err-say-in-Ok-Some-clause-cut g c =
     let f = c.in_err-say-in-Ok-Some.field-0.0 in
     IfErr-handed _ c.from_residual.result f c.from_residual.ensures.1
-    (rest-cut f _ c.loop.self _ _ _ c.args.place c.loop.counter c.waiting-end.result c.loop.invariant.goes (c.waiting-end.ensures ∙ ap (λ (k : Kept). length k.rooms.waits) c.self.view_is)
-    c.loop-test.true
-    (said-cut c.tick.new.self c.loop.self (tick c.args.place) (Some c.in-Ok-Some.reply) (Err f) _ _
-    (subst (λ a. (w : Script) → Keeps c.loop.self w → Says c.tick.new.self a w (tick c.args.place w)) c.in-Ok-Some.field-0-is c.in-Ok-Some.ensures.says) c.in_err-say-in-Ok-Some.ensures.kind c.in_err-say-in-Ok-Some.ensures.cut))
+    (rest-cut f _ c.loop.self c.tick.new.self _ _ _ c.args.place c.loop.counter c.waiting-end.result (Some c.in-Ok-Some.reply) c.loop.invariant.goes
+    (c.waiting-end.ensures ∙ ap (λ (k : Kept). length k.rooms.waits) c.self.view_is) c.loop-test.true
+    (subst (λ a. (w : Script) → Keeps c.loop.self w → (lucks : List Luck) × Says c.tick.new.self a w (tick c.args.place w lucks)) c.in-Ok-Some.field-0-is c.in-Ok-Some.ensures.says)
+    c.in_err-say-in-Ok-Some.ensures.kind c.in_err-say-in-Ok-Some.ensures.cut)
 
 pub returns-in_err-say-in-Ok-Some-clause-write_failed : goal.returns-in_err-say-in-Ok-Some-clause-write_failed
 returns-in_err-say-in-Ok-Some-clause-write_failed g c e = omega (arith, c.in_err-say-in-Ok-Some.ensures.write_failed, c.loop.invariant.steady)
@@ -27,7 +26,7 @@ pub returns-in-Ok-None-clause-ok : goal.returns-in-Ok-None-clause-ok
 returns-in-Ok-None-clause-ok g c =
     rest-none _ c.loop.self c.tick.new.self _ _ c.args.place c.loop.counter c.waiting-end.result c.loop.invariant.goes
     (c.waiting-end.ensures ∙ ap (λ (k : Kept). length k.rooms.waits) c.self.view_is) c.loop-test.true
-    (subst (λ a. (w : Script) → Keeps c.loop.self w → Says c.tick.new.self a w (tick c.args.place w)) c.in-Ok-None.field-0-is c.in-Ok-None.ensures.says)
+    (subst (λ a. (w : Script) → Keeps c.loop.self w → (lucks : List Luck) × Says c.tick.new.self a w (tick c.args.place w lucks)) c.in-Ok-None.field-0-is c.in-Ok-None.ensures.says)
     (λ w k. c.in-Ok-None.ensures.still w k c.in-Ok-None.field-0-is)
 
 pub returns-in-Ok-None-clause-lines : goal.returns-in-Ok-None-clause-lines
@@ -43,11 +42,10 @@ returns-in-Err-clause-cut g c =
 
 pub loop-preserved : goal.loop-preserved
 loop-preserved g c = record {
-  goes = λ w base s.
-      subst (λ v. Stands c.tick.new.self base (g.W.Writer.written c.say.new.writer) v) (sym (repeat_more (tick c.args.place) c.loop.counter w))
-      (said c.tick.new.self c.loop.self (tick c.args.place) (λ v. tick-follows c.args.place v) (Some c.in-Ok-Some.reply) (Ok tt) _ _
-      (subst (λ a. (w : Script) → Keeps c.loop.self w → Says c.tick.new.self a w (tick c.args.place w)) c.in-Ok-Some.field-0-is c.in-Ok-Some.ensures.says) c.in_ok-say-in-Ok-Some.ensures.ok _ base
-      (c.loop.invariant.goes w base s));
+  goes =
+      rest-next _ c.loop.self c.tick.new.self _ _ _ c.args.place c.loop.counter (Some c.in-Ok-Some.reply) c.loop.invariant.goes
+      (subst (λ a. (w : Script) → Keeps c.loop.self w → (lucks : List Luck) × Says c.tick.new.self a w (tick c.args.place w lucks)) c.in-Ok-Some.field-0-is c.in-Ok-Some.ensures.says)
+      c.in_ok-say-in-Ok-Some.ensures.ok;
   lines = c.in-Ok-Some.ensures.lines ∙ c.loop.invariant.lines;
   steady = c.in_ok-say-in-Ok-Some.ensures.steady ∙ c.loop.invariant.steady;
 }

@@ -1,7 +1,7 @@
 -- At LF the open line is one line more; any other byte is kept, or finds the line too long.
 use Rattle.std.proofs.Common.{ap, ◌∙◌}
 use Rattle.std.specs.Str.Lines.{strip_carriage_return}
-use Rattle.ll_replay.specs.Stream.{world_so_far}
+use Rattle.ll_replay.specs.Stream.{come_to}
 use Rattle.ll_replay.proofs.RunLemmas.{IfErr-handed}
 use Rattle.ll_replay.proofs.StreamLemmas.{byte-full, byte-kept, lf-cut, lf-taken}
 use Rattle.ll_replay.proofs.stream.Stream.byte.Goals as goal
@@ -20,10 +20,10 @@ returns-in_err-take_line-clause-cut g c =
     IfErr-handed _ c.from_residual.result f c.from_residual.ensures.1 (λ bytes base s more.
     lf-cut f _ _ _ base _ _ bytes c.args.b more c.if-b-ne10.false
     (c.without_carriage_return-text.ensures ∙ ap strip_carriage_return c.as_slice.ensures.value) s
-    (c.in_err-take_line.ensures.cut (world_so_far bytes) base s.stands))
+    (c.in_err-take_line.ensures.cut (come_to s.list) base s.stands))
 
 pub returns-clause-ok : goal.returns-clause-ok
 returns-clause-ok g c bytes base s =
     rw c.clear.ensures (lf-taken _ _ _ _ base _ _ bytes c.args.b c.if-b-ne10.false
     (c.without_carriage_return-text.ensures ∙ ap strip_carriage_return c.as_slice.ensures.value) s
-    (c.in_ok-take_line.ensures.ok (world_so_far bytes) base))
+    (c.in_ok-take_line.ensures.ok (come_to s.list) base s.stands))

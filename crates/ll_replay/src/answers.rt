@@ -1,0 +1,103 @@
+//! What the channels answer: what is passed on, what is counted, what is spelled and written.
+ghost use Rattle.std.specs.Prelude.{◌≡◌, ◌<◌, List, None, Option, Some, IfOk, OnOk, OnErr, IfErr, flat_map, fold, string_bytes};
+ghost use Rattle.std.specs.Io.KnownBytes.{Appends};
+ghost use Rattle.ll_connection.specs.Visit.{Luck};
+ghost use Rattle.ll_device.specs.Written.{AppendsPrefix};
+ghost use Rattle.ll_publish.specs.Refusals as refusals;
+ghost use Rattle.ll_world.specs.Kept.{answers_of};
+ghost use Rattle.ll_replay.specs.Kept.{told};
+ghost use Rattle.ll_replay.specs.Script.{Script};
+ghost use Rattle.ll_replay.specs.Script as script;
+
+use crate::outcome::RunFault;
+use ll_device::{Failed, Writer, write_all};
+use ll_held::Owner;
+use ll_publish::{Refusal, no_line, ok_line};
+use ll_room::ClockFault;
+use ll_script::{AskRefusal, ClockRefusal, clock_line, reply_lines, unasked_line};
+use ll_verdict::Reply;
+use ll_world::Answer;
+use std::alloc::{AllocError, Global};
+
+/// The reply that goes to a connection, and the connection's number; any other answer is handed back.
+pub(crate) fn to_connection(answer: Option<Answer>) -> Result<(u64, Reply), Option<Answer>>
+    ensures to { IfOk result (λ r. answer ≡ Some (Answer.Replied (Owner.Connection r.0) r.1)) }
+    ensures other { IfErr result (λ a. (a ≡ answer) × ((lucks : List Luck) (w : Script) → fold (script.passed_on lucks) w (answers_of a) ≡ w)) }
+{
+    match answer {
+        Some(Answer::Replied(Owner::Connection(number), reply)) => Ok((number, reply)),
+        other => Err(other),
+    }
+}
+
+/// How many replies an answer is: one or none. An answer to a connection is counted there.
+pub(crate) fn replies_in(answer: &Option<Answer>) -> u64
+    ensures { result ≡ script.reply_count (answers_of answer.now) }
+{
+    match answer {
+        Some(Answer::Replied(Owner::Get(_), _) | Answer::Unavailable(Owner::Get(_))) => 1,
+        _ => 0,
+    }
+}
+
+/// The line that refuses an item.
+pub(crate) fn refuse(alloc: Global, reason: Refusal) -> Result<Option<Vec<u8>>, AllocError>
+    ensures { IfOk result (λ t. told t ≡ refusals.no_line reason) }
+{
+    let line = no_line(alloc, reason)?;
+    Ok(Some(line.into_bytes()))
+}
+
+/// The lines of what was answered, where something was.
+pub(crate) fn spell(alloc: Global, answer: Option<Answer>) -> Result<Option<Vec<u8>>, AllocError>
+    ensures lines { IfOk result (λ t. told t ≡ flat_map script.spelled (answers_of answer)) }
+    ensures nothing { IfOk result (λ t. t ≡ None → answer ≡ None) }
+{
+    match answer {
+        None => Ok(None),
+        Some(answer) => Ok(Some(spell_one(alloc, answer)?.into_bytes())),
+    }
+}
+
+/// The lines of an answer.
+pub(crate) fn spell_one(alloc: Global, answer: Answer) -> Result<String, AllocError>
+    ensures { IfOk result (λ t. string_bytes t ≡ script.spelled answer) }
+{
+    match answer {
+        Answer::Accepted(count) => ok_line(alloc, count),
+        Answer::Refused(reason) => no_line(alloc, Refusal::from(reason)),
+        Answer::ClockRefused(reason) => clock_line(alloc, clock_refusal(reason)),
+        Answer::Replied(Owner::Get(id), reply) => reply_lines(alloc, id, &reply),
+        Answer::Unavailable(Owner::Get(id)) => unasked_line(alloc, id, AskRefusal::RecordFull),
+        Answer::Replied(Owner::Connection(_), _) | Answer::Unavailable(Owner::Connection(_)) => {
+            Ok(String::new(alloc))
+        }
+    }
+}
+
+/// Why a reading is refused, by its name in answers.
+pub(crate) fn clock_refusal(fault: ClockFault) -> ClockRefusal
+    ensures { result ≡ script.clock_refusal fault }
+{
+    match fault {
+        ClockFault::ClockRange => ClockRefusal::ClockRange,
+        ClockFault::RecordFull => ClockRefusal::RecordFull,
+    }
+}
+
+/// Writes an answer, where there is one.
+pub(crate) fn say<W: Writer>(answer: Option<Vec<u8>>, writer: &mut W) -> Result<(), RunFault>
+    ensures ok { OnOk result (Appends (W.written writer.old) (W.written writer.new) (told answer)) }
+    ensures cut { OnErr result (AppendsPrefix (W.written writer.old) (W.written writer.new) (told answer)) }
+    ensures kind { IfErr result (λ f. f ≡ RunFault.Write) }
+    ensures steady { OnOk result (W.failures writer.new ≡ W.failures writer.old) }
+    ensures write_failed { OnErr result (W.failures writer.old < W.failures writer.new) }
+{
+    let Some(text) = answer else {
+        return Ok(());
+    };
+    match write_all(writer, &text) {
+        Ok(()) => Ok(()),
+        Err(Failed) => Err(RunFault::Write),
+    }
+}
