@@ -18,11 +18,11 @@ printf '%s\n' 'listen 127.0.0.1:0' 'publish 127.0.0.1:0' 'workers 256' \
 : >"$room/log"
 "$program" serve "$room/settings" 2>>"$room/log" &
 server=$!
-publish_port=
+port= publish_port=
 for ((tries = 0; tries < 200; tries++)); do
     port=$(sed -n 's/^.*: players on .*:\([0-9]*\)$/\1/p' "$room/log")
     publish_port=$(sed -n 's/^.*: publishers on .*:\([0-9]*\)$/\1/p' "$room/log")
-    if [ -n "$publish_port" ]; then
+    if [ -n "$port" ] && [ -n "$publish_port" ]; then
         break
     fi
     sleep 0.05

@@ -1,13 +1,15 @@
 #!/usr/bin/env bash
-# Proves the program and every library that it stands on, on all processors, and prints the program's path. Standard error is told each crate that is proved, in a
-# line. What is proved is kept for `make test`: it is proved as `rt ci` proves a repository, in a copy of these crates without their must-fail edits.
+# build.sh [NAME]: proves the program, llhls or that of this name, and every library that it stands on, on all processors, and prints the program's path. Standard
+# error is told each crate that is proved, in a line. What is proved is kept for `make test`: it is proved as `rt ci` proves a repository, in a copy of these
+# crates without their must-fail edits.
 set -euo pipefail
 cd "$(dirname "${BASH_SOURCE[0]}")/.."
 . tests/copy.sh
+name=${1:-llhls}
 copy=$(mktemp -d)
 trap 'rm -rf "$copy"' EXIT
-copy_crates "$copy" llhls
-made=$PWD/crates/llhls/out
+copy_crates "$copy" "$name"
+made=$PWD/crates/$name/out
 mkdir -p "$made"
 
 # tell WHOLE: a line for each crate that is proved: how many functions it has, how long it took, and how many of how many that are.
@@ -37,5 +39,5 @@ if ! rt ci </dev/null 2>&1 | tee "$made/build.log" | tell "$(wc -l <crates.txt)"
     echo "$made/build.log says why" >&2
     exit 1
 fi
-mv -f crates/llhls/out/llhls "$made/llhls"
-echo "$made/llhls"
+mv -f "crates/$name/out/$name" "$made/$name"
+echo "$made/$name"

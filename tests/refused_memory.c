@@ -1,8 +1,9 @@
-/* Loaded into a program before its own libraries, this refuses one allocation: call number REFUSE of malloc, calloc and
-   realloc since the program's start, counted together. Where that call comes, the file that REFUSED names is made. */
+/* Loaded into a program before its own libraries, this refuses one allocation: call number REFUSE of malloc, calloc and realloc since the program's start, counted
+   together. Where that call comes, the file that REFUSED names is made. At the program's end the file that COUNTED names gets the number of calls. */
 #include <errno.h>
 #include <fcntl.h>
 #include <stddef.h>
+#include <stdio.h>
 #include <stdlib.h>
 #include <unistd.h>
 
@@ -10,20 +11,34 @@ extern void *__libc_malloc(size_t size);
 extern void *__libc_calloc(size_t count, size_t size);
 extern void *__libc_realloc(void *at, size_t size);
 
-/* How many calls are left up to the refused one, and with it; 0 before the start and after it. */
-static unsigned long left;
+/* The number of the refused call, 0 before the start and where none is refused; and how many came. */
+static unsigned long refused;
+static unsigned long count;
 static const char *mark;
 
 __attribute__((constructor)) static void start(void)
 {
     const char *number = getenv("REFUSE");
     mark = getenv("REFUSED");
-    left = number ? strtoul(number, NULL, 10) : 0;
+    count = 0;
+    refused = number ? strtoul(number, NULL, 10) : 0;
+}
+
+__attribute__((destructor)) static void end(void)
+{
+    const char *name = getenv("COUNTED");
+    if (name) {
+        int file = open(name, O_CREAT | O_TRUNC | O_WRONLY, 0600);
+        if (file >= 0) {
+            dprintf(file, "%lu\n", count);
+            close(file);
+        }
+    }
 }
 
 static int is_refused(void)
 {
-    if (left == 0 || --left != 0)
+    if (++count != refused)
         return 0;
     if (mark) {
         int file = open(mark, O_CREAT | O_WRONLY, 0600);

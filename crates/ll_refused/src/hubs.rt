@@ -1,0 +1,103 @@
+//! Calls of a hub that take no memory, tried where every allocation is refused.
+ghost use Rattle.std.specs.Prelude.{◌≡◌};
+
+use crate::calls::{Tried, UNTRIED, judge};
+use crate::rows::{Answer, PART, answer_of, item, want};
+use crate::tools::{CHANNEL, Tools};
+use ll_hub::{Blanks, Claim, Clock, Hub, HubAsked, Ledgers, Pass};
+use ll_item::Settings;
+use std::marker::Brand;
+use std::sync::Wait;
+
+/// A request for the first part.
+const FIRST: &str = "/cam/hi/live.m3u8?_HLS_msn=0&_HLS_part=0";
+
+/// A clock that stands.
+#[derive(Clone, Copy)]
+struct Stopped;
+
+impl Clock for Stopped {
+    ghost shows = { λ c ms. ms ≡ 0 };
+
+    fn now(&self) -> u64 {
+        0
+    }
+}
+
+/// What becomes of a request of a hub.
+#[derive(Clone, Copy, PartialEq, Eq)]
+pub(crate) enum Ending {
+    /// Its reply is there, and is waited for.
+    Wait,
+    /// It is given up.
+    Close,
+}
+
+/// Ends a request of a hub so while every allocation is refused.
+pub(crate) fn try_hub<R: Wait>(tools: &Tools<'_, R>, ending: Ending) -> Tried {
+    in_hub::<Brand, R>(tools, ending, Blanks::new()).unwrap_or(UNTRIED)
+}
+
+/// Ends a request of a hub of one channel so.
+fn in_hub<L: Ledgers, R: Wait>(
+    tools: &Tools<'_, R>,
+    ending: Ending,
+    blanks: Blanks,
+) -> Option<Tried>
+    requires names { blanks ≡ L.names }
+    requires channels { L.channels ≡ 1 }
+{
+    let settings = Settings::read(tools.alloc, CHANNEL).ok()?;
+    let channels = vec![in tools.alloc; settings].ok()?;
+    let hub: Hub<L> = Hub::new(tools.alloc, channels, blanks).ok()?;
+    let tried = match hub.seat(tools.rt) {
+        Ok(mut pass) => held_in(tools, ending, &hub, &mut pass),
+        Err(_) => None,
+    };
+    let _ = hub.finish(Vec::new(tools.alloc));
+    tried
+}
+
+/// Makes a request of this hub, publishes what it waits for, and ends it.
+fn held_in<L: Ledgers, R: Wait>(
+    tools: &Tools<'_, R>,
+    ending: Ending,
+    hub: &Hub<L>,
+    pass: &mut Pass<L>,
+) -> Option<Tried> {
+    let want = want(tools.alloc, FIRST)?;
+    let item = item(tools.alloc, PART)?;
+    let claim = match hub.ask(tools.rt, &Stopped, pass, 0, want) {
+        Ok(HubAsked::Held(claim)) => claim,
+        Ok(HubAsked::Now(_reply)) => return None,
+        Err(_) => return None,
+    };
+    let is_there = hub.publish(tools.rt, pass, 0, item).is_ok();
+    Some(match ending {
+        Ending::Wait if is_there => wait(tools, hub, pass, claim),
+        Ending::Wait | Ending::Close => close(tools, hub, claim),
+    })
+}
+
+fn wait<L: Ledgers, R: Wait>(
+    tools: &Tools<'_, R>,
+    hub: &Hub<L>,
+    pass: &mut Pass<L>,
+    claim: Claim,
+) -> Tried {
+    tools.refuse_all();
+    let waited = hub.wait(tools.rt, pass, claim);
+    let met = tools.end();
+    let is_right = match waited {
+        Ok(reply) => answer_of(reply.get()) == Answer::Text(1),
+        Err(_) => false,
+    };
+    judge(met, false, is_right)
+}
+
+fn close<L: Ledgers, R: Wait>(tools: &Tools<'_, R>, hub: &Hub<L>, claim: Claim) -> Tried {
+    tools.refuse_all();
+    let is_right = hub.close(tools.rt, claim);
+    let met = tools.end();
+    judge(met, false, is_right)
+}

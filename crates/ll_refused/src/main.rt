@@ -1,0 +1,148 @@
+//! Tries calls for whose memory nothing is found, in one process. It has no way to refuse memory: it asks for more than there is, which
+//! a C library that is loaded before it (`tests/refused_calls.c`) takes for orders. Where none is loaded, nothing is refused.
+//!
+//! A line tells of each call how many refusals it met, how often it answered Memory, and `ok`, or what was wrong. Of the first calls one
+//! allocation after another is refused, until none is met: each answers Memory, leaves all as it was, and answers when it is called
+//! again as if nothing had been refused; or what was refused isn't needed for its answer. Of the others every allocation is refused;
+//! they take none, but for one that shows that any was.
+#![tactic(auto)]
+
+mod calls;
+mod hubs;
+mod rows;
+mod shelves;
+mod steady;
+mod texts;
+mod tools;
+mod views;
+
+use crate::calls::{Call, Tried, UNTRIED, try_call};
+use crate::hubs::{Ending, try_hub};
+use crate::shelves::try_put;
+use crate::steady::{Steady, try_steady, try_time_out};
+use crate::texts::Texts;
+use crate::tools::{Tools, idle_room};
+use std::sync::Wait;
+
+/// A call of which one allocation after another is refused.
+#[derive(Clone, Copy)]
+enum Swept {
+    Channel(Call),
+    Put,
+    Read,
+    Apply,
+}
+
+/// These calls.
+const SWEPT: [(&str, Swept); 8] = [
+    ("Recorder::publish", Swept::Channel(Call::Publish)),
+    ("Recorder::ask, held", Swept::Channel(Call::AskHeld)),
+    ("Recorder::ask, at once", Swept::Channel(Call::AskNow)),
+    ("Recorder::clock", Swept::Channel(Call::Clock)),
+    ("Recorder::rotate", Swept::Channel(Call::Rotate)),
+    ("Shelf::put", Swept::Put),
+    ("read", Swept::Read),
+    ("apply", Swept::Apply),
+];
+
+/// A call of which every allocation is refused.
+#[derive(Clone, Copy)]
+enum Refused {
+    Held(Steady),
+    TimeOut,
+    Hub(Ending),
+}
+
+/// These calls.
+const REFUSED: [(&str, Refused); 9] = [
+    ("Recorder::collect", Refused::Held(Steady::Collect)),
+    ("Recorder::close", Refused::Held(Steady::Close)),
+    ("Room::next_ready", Refused::Held(Steady::NextReady)),
+    ("Parked::return_to", Refused::Held(Steady::ReturnTo)),
+    ("Shelf::take, Shelf::finish", Refused::Held(Steady::Take)),
+    (
+        "Recorder::rotate, all refused",
+        Refused::Held(Steady::Rotate),
+    ),
+    ("Room::clock, Room::collect", Refused::TimeOut),
+    ("Hub::wait", Refused::Hub(Ending::Wait)),
+    ("Hub::close", Refused::Hub(Ending::Close)),
+];
+
+/// More allocations than a call makes.
+const MOST: usize = 10_000;
+
+fn main(rt: HostRuntime) {
+    let alloc = rt.alloc();
+    let Some(idle) = idle_room(alloc) else {
+        let _ = println!(rt; "no memory");
+        return;
+    };
+    let tools = Tools {
+        rt: &rt,
+        alloc,
+        idle: &idle,
+    };
+    let texts = Texts::new(&tools);
+    for (name, call) in SWEPT {
+        let told = sweep(&tools, texts.as_ref(), call);
+        let _ = println!(rt; "{name}: {} {} {}", told.met, told.memory, told.fault);
+    }
+    for (name, call) in REFUSED {
+        let tried = try_refused(&tools, call);
+        let (met, memory) = (u64::from(tried.met), u64::from(tried.memory));
+        let fault = tried.fault.unwrap_or("ok");
+        let _ = println!(rt; "{name}: {met} {memory} {fault}");
+    }
+}
+
+/// What is told of a call.
+#[derive(Drop)]
+struct Told {
+    met: u64,
+    memory: u64,
+    fault: &'static str,
+}
+
+/// Tries the call with each of its allocations refused, up to the first that does what it shouldn't.
+fn sweep<R: Wait>(tools: &Tools<'_, R>, texts: Option<&Texts>, call: Swept) -> Told {
+    let mut told = Told {
+        met: 0,
+        memory: 0,
+        fault: "it takes too many allocations",
+    };
+    for n in 1..MOST {
+        let tried = try_swept(tools, texts, call, n);
+        told.met = told.met.saturating_add(u64::from(tried.met));
+        told.memory = told.memory.saturating_add(u64::from(tried.memory));
+        if let Some(fault) = tried.fault {
+            told.fault = fault;
+            break;
+        }
+        if !tried.met {
+            told.fault = "ok";
+            break;
+        }
+    }
+    told
+}
+
+/// Tries the call with its Nth allocation refused.
+fn try_swept<R: Wait>(tools: &Tools<'_, R>, texts: Option<&Texts>, call: Swept, n: usize) -> Tried {
+    match (call, texts) {
+        (Swept::Channel(call), _) => try_call(tools, call, n),
+        (Swept::Put, _) => try_put(tools, n),
+        (Swept::Read, Some(texts)) => texts.try_read(tools, n),
+        (Swept::Apply, Some(texts)) => texts.try_apply(tools, n),
+        (Swept::Read | Swept::Apply, None) => UNTRIED,
+    }
+}
+
+/// Tries the call with every allocation refused.
+fn try_refused<R: Wait>(tools: &Tools<'_, R>, call: Refused) -> Tried {
+    match call {
+        Refused::Held(call) => try_steady(tools, call),
+        Refused::TimeOut => try_time_out(tools),
+        Refused::Hub(ending) => try_hub(tools, ending),
+    }
+}

@@ -1,0 +1,192 @@
+//! Calls where every allocation is refused. All take no memory, but for one.
+use crate::calls::{Tried, UNTRIED, judge};
+use crate::rows::{Answer, Made, PART, Row, SECOND, answer_of, item, want};
+use crate::shelves::empty;
+use crate::tools::{Tools, idle_room};
+use ll_held::Shelf;
+use ll_room::{Asked, Closed, Collected, Parked, Room};
+use std::sync::Wait;
+
+/// A call with a channel that has had two parts, and three requests for the second, whose replies are there. The memory of its record is
+/// used up, but for what was found for their last lines.
+#[derive(Clone, Copy)]
+pub(crate) enum Steady {
+    /// The replies to all are collected.
+    Collect,
+    /// All are given up.
+    Close,
+    /// Whose reply is handed out next is asked.
+    NextReady,
+    /// The value of one is given back to a room where it isn't open.
+    ReturnTo,
+    /// One is taken off a shelf, and the shelf is let go.
+    Take,
+    /// The record is handed out, which takes memory: this tells whether any was refused.
+    Rotate,
+}
+
+/// Makes the call while every allocation is refused.
+pub(crate) fn try_steady<R: Wait>(tools: &Tools<'_, R>, call: Steady) -> Tried {
+    let Some(mut row) = Row::prepared(tools) else {
+        return UNTRIED;
+    };
+    let tried = match item(tools.alloc, PART) {
+        Some(item) => {
+            row.make(Made::Publish(item));
+            row.fill(tools);
+            refuse_all(tools, &mut row, call)
+        }
+        None => UNTRIED,
+    };
+    row.end(tools);
+    tried
+}
+
+/// Makes the call with the value that was kept last.
+fn refuse_all<R: Wait>(tools: &Tools<'_, R>, row: &mut Row, call: Steady) -> Tried {
+    let Some(parked) = row.take() else {
+        return UNTRIED;
+    };
+    match call {
+        Steady::Collect => collect(tools, row, parked),
+        Steady::Close => close(tools, row, parked),
+        Steady::NextReady => next_ready(tools, row, parked),
+        Steady::ReturnTo => return_to(tools, parked),
+        Steady::Take => take(tools, parked),
+        Steady::Rotate => rotate(tools, row, parked),
+    }
+}
+
+fn collect<R: Wait>(tools: &Tools<'_, R>, row: &mut Row, parked: Parked) -> Tried {
+    tools.refuse_all();
+    let mut is_right = collect_one(tools, row, Some(parked));
+    for _ in 0..2 {
+        let parked = row.take();
+        is_right &= collect_one(tools, row, parked);
+    }
+    judge(tools.end(), false, is_right)
+}
+
+/// Whether the reply to this request is collected.
+fn collect_one<R: Wait>(tools: &Tools<'_, R>, row: &mut Row, parked: Option<Parked>) -> bool {
+    match parked {
+        Some(parked) => given(tools, row.recorder.collect(parked)) == Answer::Text(2),
+        None => false,
+    }
+}
+
+/// What a request gets whose reply is asked for. One that gets none is let go.
+fn given<R: Wait>(tools: &Tools<'_, R>, collected: Collected) -> Answer {
+    match collected {
+        Collected::Got(reply) => answer_of(reply.get()),
+        Collected::Still(parked) | Collected::Stranger(parked) => {
+            tools.spend(parked);
+            Answer::Other
+        }
+    }
+}
+
+fn close<R: Wait>(tools: &Tools<'_, R>, row: &mut Row, parked: Parked) -> Tried {
+    tools.refuse_all();
+    close_one(tools, row, Some(parked));
+    for _ in 0..2 {
+        let parked = row.take();
+        close_one(tools, row, parked);
+    }
+    let met = tools.end();
+    judge(met, false, row.recorder.room().open_requests() == 0)
+}
+
+/// Gives this request up.
+fn close_one<R: Wait>(tools: &Tools<'_, R>, row: &mut Row, parked: Option<Parked>) {
+    if let Some(parked) = parked {
+        match row.recorder.close(parked) {
+            Closed::Done => {}
+            Closed::Stranger(parked) => tools.spend(parked),
+        }
+    }
+}
+
+fn next_ready<R: Wait>(tools: &Tools<'_, R>, row: &Row, parked: Parked) -> Tried {
+    tools.refuse_all();
+    let next = row.recorder.room().next_ready();
+    let met = tools.end();
+    tools.spend(parked);
+    judge(met, false, next == Some(1))
+}
+
+fn return_to<R: Wait>(tools: &Tools<'_, R>, parked: Parked) -> Tried {
+    tools.refuse_all();
+    let returned = parked.return_to(tools.idle);
+    let met = tools.end();
+    let is_right = match returned {
+        Ok(()) => true,
+        Err(parked) => {
+            tools.spend(parked);
+            false
+        }
+    };
+    judge(met, false, is_right)
+}
+
+fn take<R: Wait>(tools: &Tools<'_, R>, parked: Parked) -> Tried {
+    let mut shelf = Shelf::new(tools.alloc);
+    let number = match shelf.put(parked) {
+        Ok(number) => number,
+        Err(parked) => {
+            tools.spend(parked);
+            u64::MAX
+        }
+    };
+    tools.refuse_all();
+    let taken = shelf.take(number);
+    let finished = shelf.finish();
+    let met = tools.end();
+    let is_taken = match taken {
+        Some(parked) => {
+            tools.spend(parked);
+            true
+        }
+        None => false,
+    };
+    let is_empty = match finished {
+        Ok(()) => true,
+        Err(shelf) => {
+            empty(tools, shelf);
+            false
+        }
+    };
+    judge(met, false, is_taken && is_empty)
+}
+
+fn rotate<R: Wait>(tools: &Tools<'_, R>, row: &mut Row, parked: Parked) -> Tried {
+    let entries = row.numbers().events;
+    tools.refuse_all();
+    let answer = row.make(Made::Rotate);
+    let met = tools.end();
+    tools.spend(parked);
+    let memory = answer == Answer::Memory;
+    judge(met, memory, memory || answer == Answer::Entries(entries))
+}
+
+/// A reading of a room's clock at which the time of a request is over, and what the request then gets.
+pub(crate) fn try_time_out<R: Wait>(tools: &Tools<'_, R>) -> Tried {
+    let (Some(mut room), Some(want)) = (idle_room(tools.alloc), want(tools.alloc, SECOND)) else {
+        return UNTRIED;
+    };
+    match room.ask(want) {
+        Ok(Asked::Held(parked)) => time_out(tools, &mut room, parked),
+        Ok(Asked::Now(_reply)) => UNTRIED,
+        Err(_) => UNTRIED,
+    }
+}
+
+/// The time of this request is over.
+fn time_out<R: Wait>(tools: &Tools<'_, R>, room: &mut Room, parked: Parked) -> Tried {
+    tools.refuse_all();
+    let passed = room.clock(12_000).is_ok();
+    let collected = room.collect(parked);
+    let met = tools.end();
+    let is_right = given(tools, collected) == Answer::Timeout;
+    judge(met, false, passed && is_right)
+}

@@ -1,0 +1,98 @@
+//! Playlists that are read and applied, for which no memory is found.
+use crate::calls::{Tried, judge};
+use crate::rows::{Made, Row, item, want};
+use crate::tools::Tools;
+use ll_apply::{ApplyFault, apply};
+use ll_read::{ReadFault, read};
+use ll_verdict::Reply;
+use std::alloc::Global;
+use std::sync::Wait;
+
+/// A part that is a whole segment.
+const SEGMENT: &str = "part hi 1000000 if";
+
+/// A request for the full playlist.
+const FULL: &str = "/cam/hi/live.m3u8";
+
+/// A request for a delta update.
+const DELTA: &str = "/cam/hi/live.m3u8?_HLS_skip=YES";
+
+/// The playlists of a channel at two moments, and the delta update of the second.
+#[derive(Drop)]
+pub(crate) struct Texts {
+    base: String,
+    delta: String,
+    full: String,
+}
+
+impl Texts {
+    /// Those of a channel that has had 30 segments, and then 40.
+    pub(crate) fn new<R: Wait>(tools: &Tools<'_, R>) -> Option<Texts> {
+        let mut row = Row::new(tools.alloc)?;
+        let texts = Texts::of(tools.alloc, &mut row);
+        row.end(tools);
+        texts
+    }
+
+    /// Those of this channel.
+    fn of(alloc: Global, row: &mut Row) -> Option<Texts> {
+        publish(alloc, row, 30)?;
+        let base = page(alloc, row, FULL)?;
+        publish(alloc, row, 10)?;
+        let delta = page(alloc, row, DELTA)?;
+        let full = page(alloc, row, FULL)?;
+        (delta.len() < full.len()).then_some(Texts { base, delta, full })
+    }
+
+    /// Reads the first playlist with the Nth allocation refused; and where that answers Memory, once more.
+    pub(crate) fn try_read<R: Wait>(&self, tools: &Tools<'_, R>, n: usize) -> Tried {
+        let bytes = self.base.as_bytes();
+        tools.refuse(n);
+        let mut playlist = read(tools.alloc, bytes);
+        let met = tools.end();
+        let memory = matches!(&playlist, Err(ReadFault::Memory));
+        if memory {
+            playlist = read(tools.alloc, bytes);
+        }
+        let spelled = match &playlist {
+            Ok(playlist) => playlist.write(tools.alloc).ok(),
+            Err(_) => None,
+        };
+        let is_same = spelled.is_some_and(|text| text.as_str() == self.base.as_str());
+        judge(met, memory, is_same)
+    }
+
+    /// Applies the delta update with the Nth allocation refused; and where that answers Memory, once more.
+    pub(crate) fn try_apply<R: Wait>(&self, tools: &Tools<'_, R>, n: usize) -> Tried {
+        let (base, delta) = (self.base.as_bytes(), self.delta.as_bytes());
+        tools.refuse(n);
+        let mut text = apply(tools.alloc, base, delta);
+        let met = tools.end();
+        let memory = matches!(&text, Err(ApplyFault::Memory));
+        if memory {
+            text = apply(tools.alloc, base, delta);
+        }
+        let is_same = text.is_ok_and(|text| text.as_str() == self.full.as_str());
+        judge(met, memory, is_same)
+    }
+}
+
+/// Publishes so many segments.
+fn publish(alloc: Global, row: &mut Row, count: u64) -> Option<()> {
+    for _ in 0..count {
+        let item = item(alloc, SEGMENT)?;
+        row.make(Made::Publish(item));
+    }
+    Some(())
+}
+
+/// The playlist that a request gets.
+fn page(alloc: Global, row: &mut Row, target: &str) -> Option<String> {
+    let want = want(alloc, target)?;
+    row.make(Made::Ask(want));
+    let reply = row.reply.as_ref()?;
+    match reply.get() {
+        Reply::Text(page) => String::from_str(alloc, page.text()).ok(),
+        _ => None,
+    }
+}

@@ -1,0 +1,102 @@
+//! What can be read of a channel.
+use crate::rows::{Made, NOW, Row, want};
+use crate::tools::Tools;
+use ll_room::Collected;
+use ll_verdict::Reply;
+use std::alloc::AllocError;
+use std::sync::Wait;
+
+/// What is read without memory.
+#[derive(Clone, Copy, PartialEq, Eq)]
+pub(crate) struct Numbers {
+    items: u64,
+    requests: u64,
+    pub(crate) events: u64,
+    open: usize,
+    ready: usize,
+    next: Option<u64>,
+}
+
+impl Row {
+    /// How many items, requests, events, open requests and replies there are, and whose reply is handed out next.
+    pub(crate) fn numbers(&self) -> Numbers {
+        let room = self.recorder.room();
+        Numbers {
+            items: room.count(),
+            requests: room.asks(),
+            events: room.events(),
+            open: room.open_requests(),
+            ready: room.ready(),
+            next: room.next_ready(),
+        }
+    }
+
+    /// All that a caller can come to know: the reply or the record that was handed out, the replies to the requests that were held, the
+    /// playlist, and the record of it all.
+    pub(crate) fn view<R: Wait>(&mut self, tools: &Tools<'_, R>) -> Option<String> {
+        let mut text = String::new(tools.alloc);
+        self.push_given(&mut text).ok()?;
+        for _ in 0..self.kept.len() {
+            self.push_collected(tools, &mut text).ok()?;
+        }
+        let want = want(tools.alloc, NOW)?;
+        self.make(Made::Ask(want));
+        self.make(Made::Rotate);
+        self.push_given(&mut text).ok()?;
+        Some(text)
+    }
+
+    /// Appends the reply and the record that were handed out last.
+    fn push_given(&self, text: &mut String) -> Result<(), AllocError> {
+        if let Some(reply) = &self.reply {
+            push_reply(text, reply.get())?;
+        }
+        if let Some(chunk) = &self.chunk {
+            let lines = str::from_utf8(chunk.bytes()).unwrap_or("not UTF-8");
+            text.push_str(lines)?;
+        }
+        Ok(())
+    }
+
+    /// Appends the reply to the request that was kept last. One that still waits is let go.
+    fn push_collected<R: Wait>(
+        &mut self,
+        tools: &Tools<'_, R>,
+        text: &mut String,
+    ) -> Result<(), AllocError> {
+        let Some(one) = self.kept.pop() else {
+            return Ok(());
+        };
+        match self.recorder.collect(one.into_parked()) {
+            Collected::Got(reply) => push_reply(text, reply.get()),
+            Collected::Still(parked) => {
+                tools.spend(parked);
+                text.push_str("it waits\n")
+            }
+            Collected::Stranger(parked) => {
+                tools.spend(parked);
+                text.push_str("it isn't open\n")
+            }
+        }
+    }
+
+    /// Lets it go with its requests.
+    pub(crate) fn end<R: Wait>(self, tools: &Tools<'_, R>) {
+        let Row {
+            recorder: _,
+            kept,
+            reply: _,
+            chunk: _,
+        } = self;
+        tools.spend_all(kept);
+    }
+}
+
+/// Appends a reply.
+fn push_reply(text: &mut String, reply: &Reply) -> Result<(), AllocError> {
+    match reply {
+        Reply::Text(page) => text.push_str(page.text()),
+        Reply::Timeout => text.push_str("Timeout\n"),
+        Reply::NotFound | Reply::TooFar | Reply::Busy => text.push_str("another reply\n"),
+    }
+}

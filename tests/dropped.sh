@@ -1,0 +1,56 @@
+#!/usr/bin/env bash
+# dropped.sh PROGRAM: rows of tests/connections whose connection 1 ends too early. First, the bytes of its first `say` line are cut after 1, 2, 3 .. bytes, and the
+# connection ends before the others come: they are taken by nobody, and what it had asked until then is given up. Then the connection ends after each of
+# the script's lines. Each time the program writes what the row has on other connections, to `get` lines and to publishers, and nothing on connection 1 after
+# its end. The last line, `N passed, M failed`, counts runs.
+set -u
+here=$(cd "$(dirname "${BASH_SOURCE[0]}")" && pwd) || exit 2
+program=$(realpath -- "$1")
+room=$(mktemp -d) || exit 2
+trap 'rm -rf "$room"' EXIT
+passed=0
+failed=0
+
+if [ ! -x "$program" ]; then
+    echo "$1 is no program"
+    echo "0 passed, 1 failed"
+    exit 1
+fi
+
+# others: what a script writes but for the lines of connection 1.
+others() {
+    LC_ALL=C awk '
+        left > 0 { left -= length($0) + 1; if (!mine) print; next }
+        $1 == "sent" { left = $3; mine = $2 == 1; if (!mine) print; next }
+        $1 == "shut" && $2 == 1 { next }
+        { print }'
+}
+
+# drops SCRIPT LINE: the connection ends after so many lines of a script. It writes what the lines until then write, and what the others write after it.
+drops() {
+    head -n "$2" "$1" >"$room/front"
+    { cat "$room/front"; echo 'drop 1'; tail -n "+$(($2 + 1))" "$1"; } >"$room/script"
+    "$program" replay <"$room/front" >"$room/written" 2>/dev/null
+    "$program" replay <"$1" | tail -c "+$(($(wc -c <"$room/written") + 1))" | others >>"$room/written"
+    if timeout 60 "$program" replay <"$room/script" >"$room/stdout" 2>"$room/stderr" && cmp -s "$room/stdout" "$room/written" && [ ! -s "$room/stderr" ]; then
+        passed=$((passed + 1))
+    else
+        failed=$((failed + 1))
+        echo "FAILED $row, dropped after line $2 $3: $(head -c 200 "$room/stderr")"
+    fi
+}
+
+for row in pipelined_request_is_answered_after_the_one_that_waited pipelined_request_to_another_channel next_request_waits_again; do
+    "$here/hex_lines.sh" whole <"$here/connections/$row" >"$room/whole"
+    first=$(grep -n -m 1 '^bytes 1 ' "$room/whole" | cut -d: -f1)
+    for line in $(seq "$first" "$(wc -l <"$room/whole")"); do
+        drops "$room/whole" "$line" whole
+    done
+    length=$(($(sed -n "${first}p" "$room/whole" | awk '{ print length($3) / 2 }') - 1))
+    for at in $(seq 1 "$length"); do
+        "$here/hex_lines.sh" "$at" <"$here/connections/$row" >"$room/cut"
+        drops "$room/cut" "$first" "cut $at"
+    done
+done
+echo "$passed passed, $failed failed"
+[ "$failed" = 0 ]

@@ -1,0 +1,68 @@
+/* Loaded into ll_refused before its own libraries, this refuses allocations as that program orders. The program asks for impossibly much memory: 2^62 bytes and
+   as many more as a number tells. Those bytes are never found, but for the last order:
+
+   - N, below 2^40: the Nth allocation from here on is refused, counting those of malloc, calloc and realloc together;
+   - 2^40: every allocation from here on is refused;
+   - 2^41: none is refused from here on. One byte is found in place of so many if an allocation was refused since the order before, and else none. */
+#include <errno.h>
+#include <stddef.h>
+
+extern void *__libc_malloc(size_t size);
+extern void *__libc_calloc(size_t count, size_t size);
+extern void *__libc_realloc(void *at, size_t size);
+
+static const size_t ORDERS = (size_t)1 << 62;
+static const size_t EVERY = (size_t)1 << 40;
+static const size_t NONE = (size_t)1 << 41;
+
+/* How many allocations come until the refused one, with it, 0 where none is to be refused; whether every one is; whether one was. */
+static size_t left;
+static int every;
+static int met;
+
+/* Takes a size for an order, if it is one, and then answers it. */
+static int is_order(size_t size, void **answer)
+{
+    if (size < ORDERS)
+        return 0;
+    size_t number = size - ORDERS;
+    *answer = number == NONE && met ? __libc_malloc(1) : NULL;
+    left = number < EVERY ? number : 0;
+    every = number == EVERY;
+    met = 0;
+    errno = ENOMEM;
+    return 1;
+}
+
+static int is_refused(void)
+{
+    if (!every && (left == 0 || --left != 0))
+        return 0;
+    met = 1;
+    errno = ENOMEM;
+    return 1;
+}
+
+void *malloc(size_t size)
+{
+    void *answer;
+    if (is_order(size, &answer))
+        return answer;
+    return is_refused() ? NULL : __libc_malloc(size);
+}
+
+void *calloc(size_t count, size_t size)
+{
+    void *answer;
+    if (count == 1 && is_order(size, &answer))
+        return answer;
+    return is_refused() ? NULL : __libc_calloc(count, size);
+}
+
+void *realloc(void *at, size_t size)
+{
+    void *answer;
+    if (is_order(size, &answer))
+        return answer;
+    return is_refused() ? NULL : __libc_realloc(at, size);
+}
