@@ -1,3 +1,8 @@
+pub mod BookLemmas
+pub mod ExpireLemmas
+pub mod HolderLemmas
 pub mod Holding
-pub mod Rising
-pub mod Taking
+pub mod PageLemmas
+pub mod ReadyLemmas
+pub mod SlotLemmas
+pub mod TakeLemmas

@@ -1,17 +1,27 @@
-ghost use Rattle.std.specs.Prelude.{◌≡◌, ◌≤◌, ◌<◌, ◌++◌, ◌∷◌, [], None, Some, true, IfOk, IsErrOf, OnErr, OnOk, filter, find, is_some, length, map, nat_le, option_map, position};
+ghost use Rattle.std.specs.Prelude.{◌≡◌, ◌≤◌, ◌<◌, ◌+◌, ◌^◌, ◌++◌, ◌∷◌, ℕ, [], None, Some, false, true, cond, IfNone, IfOk, IfSome, IsErrOf, OnErr, OnOk, filter, find, is_some, length, map, nat_le, option_map};
+ghost use Rattle.std.specs.BTreeMap.{is_at};
 ghost use Rattle.std.specs.List.{list_any};
+ghost use Rattle.std.specs.Ordering.{is_gt, nat_cmp};
+ghost use Rattle.ll_order.specs.Numbers.{changed};
+ghost use Rattle.ll_order.specs.Places.{place_cmp};
 ghost use Rattle.ll_verdict.specs.State.{is_waiting, waiting_in};
 ghost use Rattle.ll_verdict.specs.Verdict.{waiting_limit};
-ghost use Rattle.ll_book.specs.Release.{AreThose, expired, holders_of, is_over, released, takes};
-ghost use Rattle.ll_verdict.specs.Waiting.{AreBelow, entry_in, found, has_ticket, is_ready, is_ready_at, first_ready, reply_at, without, without_ready};
+ghost use Rattle.ll_book.specs.Release.{AreThose, expired, frees, holders_of, is_over, released, takes};
+ghost use Rattle.ll_book.specs.Orders.{IsNextTaken, IsWaiting, NoneTaken, holder_at, is_passed, page_at, settle_with};
+ghost use Rattle.ll_book.specs.Orders as spec;
+ghost use Rattle.ll_verdict.specs.Waiting.{AreBelow, IsRising, entry_in, found, has_ticket, is_ready, is_ready_at, first_ready, reply_at, ticket_in, without, without_ready};
 
 use crate::holders::Holders;
 use crate::pages::Pages;
+use crate::places::{FIRST, covers, start, time_of, want_of};
+use crate::ready::Ready;
 use crate::release::Release;
+use crate::slots::Slots;
+use ll_order::{Order, Place};
 use ll_page::Page;
 use ll_verdict::{Entry, Settled, Slot};
 use std::alloc::{AllocError, Global};
-use std::collections::VecDeque;
+use std::collections::BTreeMap;
 use std::marker::Model;
 
 /// The most requests of a channel that wait at one time.
@@ -46,22 +56,27 @@ pub struct Released {
     pub looked: usize,
 }
 
-/// The open requests of a channel, in order of their tickets: each waits, or its reply does.
+/// The open requests of a channel, in order of their tickets: each waits, or its reply does. Those that wait stand beside in two orders,
+/// of what they await and of their time, so that a release
+/// or a reading of the clock looks at no more of them than it settles, and one.
 #[derive(Drop)]
 pub struct Book {
-    slots: Vec<Slot>,
+    slots: Slots,
+    wants: Order,
+    times: Order,
+    ready: Ready,
 }
 
 impl Model for Book {
     ghost use Rattle.std.specs.Prelude.{List};
     ghost use Rattle.ll_verdict.specs.declared.entry.Slot.{Slot};
-    ghost use Rattle.ll_verdict.specs.Waiting.{IsRising};
+    ghost use Rattle.ll_book.specs.Orders.{IsBook};
 
     ghost Value = { List Slot };
 
-    ghost view = { λ b. b.slots.items };
+    ghost view = { λ b. b.slots };
 
-    ghost invariant = { λ b. IsRising 0 b.slots.items };
+    ghost invariant = { λ b. IsBook b.slots b.wants b.times b.ready.tickets b.ready.memory };
 }
 
 impl Book {
@@ -70,7 +85,10 @@ impl Book {
         ensures { result ≡ [] }
     {
         Book {
-            slots: Vec::new(alloc),
+            slots: Slots::new(alloc),
+            wants: Order::new(alloc),
+            times: Order::new(alloc),
+            ready: Ready::new(alloc),
         }
     }
 
@@ -83,20 +101,44 @@ impl Book {
         ensures memory { IsErrOf result ParkFault.Memory → waiting_in self.old < waiting_limit }
         ensures unchanged { OnErr result (self.new ≡ self.old) }
     {
-        if waiting(&self.slots) >= WAITING_LIMIT {
+        if self.is_busy() {
             return Err(ParkFault::Busy);
         }
-        self.slots.reserve(1)?;
-        self.slots.push_reserved(Slot {
+        match self.hold(entry) {
+            Ok(()) => Ok(()),
+            Err(AllocError) => Err(ParkFault::Memory),
+        }
+    }
+
+    /// Adds a request that waits.
+    fn hold(&mut self, entry: Entry) -> Result<(), AllocError>
+        requires first { 0 < entry.ticket }
+        requires newest { AreBelow entry.ticket self.old }
+        ensures held { OnOk result (self.new ≡ self.old ++ record { entry = entry; settled = None } ∷ []) }
+        ensures unchanged { OnErr result (self.new ≡ self.old) }
+    {
+        self.ready.reserve(self.wants.len() + 1)?;
+        self.wants.add(want_of(&entry))?;
+        if let Err(error) = self.times.add(time_of(&entry)) {
+            self.wants.remove(want_of(&entry));
+            return Err(error);
+        }
+        let slot = Slot {
             entry,
             settled: None,
-        });
+        };
+        if let Err(error) = self.slots.push(slot) {
+            self.times.remove(time_of(&entry));
+            self.wants.remove(want_of(&entry));
+            return Err(error);
+        }
         Ok(())
     }
 
-    /// How many requests are open.
+    /// How many requests are open. Their tickets rise.
     pub fn len(&self) -> usize
-        ensures { result ≡ length self.now }
+        ensures value { result ≡ length self.now }
+        ensures rising { IsRising 0 self.now }
     {
         self.slots.len()
     }
@@ -105,14 +147,15 @@ impl Book {
     pub fn is_busy(&self) -> bool
         ensures { result ≡ nat_le waiting_limit (waiting_in self.now) }
     {
-        waiting(&self.slots) >= WAITING_LIMIT
+        let _ = &self.slots;
+        self.wants.len() >= WAITING_LIMIT
     }
 
     /// The open request of this ticket.
     pub fn find(&self, ticket: u64) -> Option<Entry>
         ensures { result ≡ found ticket self.now }
     {
-        let slot = self.slots.iter().find(|slot| slot.entry.ticket == ticket)?;
+        let slot = self.slots.get(ticket)?;
         Some(slot.entry)
     }
 
@@ -120,24 +163,24 @@ impl Book {
     pub fn find_ready(&self, ticket: u64) -> Option<Entry>
         ensures { result ≡ option_map entry_in (find (is_ready_at ticket) self.now) }
     {
-        let slot = self.slots.iter().find(|slot| slot.entry.ticket == ticket
-            && slot.settled.is_some())?;
-        Some(slot.entry)
+        match self.slots.get(ticket) {
+            Some(slot) if slot.settled.is_some() => Some(slot.entry),
+            _ => None,
+        }
     }
 
     /// How many requests' replies are there.
     pub fn ready(&self) -> usize
         ensures { result ≡ length (filter is_ready self.now) }
     {
-        ready(&self.slots)
+        self.ready.len()
     }
 
     /// The least ticket whose reply is there.
     pub fn first_ready(&self) -> Option<u64>
         ensures { result ≡ first_ready self.now }
     {
-        let slot = self.slots.iter().find(|slot| slot.settled.is_some())?;
-        Some(slot.entry.ticket)
+        self.ready.first()
     }
 
     /// Hands out the reply of this ticket, where it is there, and the request is no longer open.
@@ -146,8 +189,21 @@ impl Book {
         ensures left { self.new ≡ without_ready ticket self.old }
         ensures alone { is_some result ≡ true → self.new ≡ without ticket self.old }
     {
-        let place = place_of_ready(&self.slots, ticket)?;
-        let Slot { entry: _, settled } = self.slots.remove(place);
+        let _ = &self.slots;
+        match self.find_ready(ticket) {
+            Some(_) => self.leave(ticket),
+            None => None,
+        }
+    }
+
+    /// Takes out the request of this ticket, whose reply is there.
+    fn leave(&mut self, ticket: u64) -> Option<Settled>
+        requires { is_passed is_ready (find (has_ticket ticket) self.old) ≡ true }
+        ensures reply { result ≡ reply_at ticket self.old }
+        ensures left { self.new ≡ without ticket self.old }
+    {
+        self.ready.remove(ticket);
+        let Slot { entry: _, settled } = self.slots.remove(ticket)?;
         settled
     }
 
@@ -155,11 +211,39 @@ impl Book {
     pub fn takes_any(&self, which: Release) -> bool
         ensures { result ≡ list_any (takes which) self.now }
     {
-        self.slots.iter().any(|slot| which.takes(slot))
+        let mut looked = 0;
+        self.first_taken(which, &mut looked).is_some()
+    }
+
+    /// The first request, in the order of what is awaited, that a release takes. It looks at one.
+    fn first_taken(&self, which: Release, looked: &mut usize) -> Option<Entry>
+        requires { looked.old < 2 ^ 63 }
+        ensures some { IfSome result (λ e. IsWaiting e self.now × (frees which e.wanted ≡ true)) }
+        ensures none { IfNone result (filter (takes which) self.now ≡ []) }
+        ensures looked { looked.new ≡ looked.old + 1 }
+    {
+        let _ = &self.slots;
+        let place = self.next_taken(which, start(which), looked)?;
+        self.find(place.number)
+    }
+
+    /// The place of the next request after another place, in the order of what is awaited, that a release takes. It looks at one.
+    fn next_taken(&self, which: Release, after: Place, looked: &mut usize) -> Option<Place>
+        requires few { looked.old < 2 ^ 63 }
+        requires started { is_gt (place_cmp (spec.start which) after) ≡ false }
+        ensures some { IfSome result (λ place. IsNextTaken which after place self.now) }
+        ensures none { IfNone result (NoneTaken which after self.now) }
+        ensures looked { looked.new ≡ looked.old + 1 }
+    {
+        let _ = &self.slots;
+        let place = self.wants.first_after(after, looked)?;
+        if !covers(which, place) {
+            return None;
+        }
+        Some(place)
     }
 
     /// A holder of its page for each request that a release will take, in order of their tickets. It fails only where no memory is found.
-    #[tactic(auto, using(crate::proofs::Holding::one_more))]
     pub fn holders(
         &self,
         alloc: Global,
@@ -167,17 +251,43 @@ impl Book {
         pages: &mut Pages,
     ) -> Result<Holders, AllocError>
         ensures holders { IfOk result (λ h. h.holders ≡ holders_of pages.old which self.now) }
-        ensures looked { IfOk result (λ h. h.looked ≤ length self.now) }
+        ensures looked { IfOk result (λ h. h.looked ≤ length (filter (takes which) self.now) + 1) }
         ensures pages { pages.new ≡ pages.old }
     {
-        let mut holders = VecDeque::new(alloc);
-        for slot in &self.slots {
-            add_holder(alloc, which, slot, pages, &mut holders)?;
+        let mut holders = BTreeMap::new(alloc);
+        let mut looked = 0;
+        let mut after = start(which);
+        self.slots.len();
+        while let Some(place) = self.next_taken(which, after, &mut looked) {
+            self.add_holder(alloc, place.number, pages, &mut holders)?;
+            after = place;
         }
+        holders.len();
         Ok(Holders {
             pages: holders,
-            looked: self.slots.len(),
+            looked,
         })
+    }
+
+    /// Adds a holder of its page for the request of this ticket.
+    fn add_holder(
+        &self,
+        alloc: Global,
+        ticket: u64,
+        pages: &mut Pages,
+        holders: &mut BTreeMap<u64, Page>,
+    ) -> Result<(), AllocError>
+        requires { is_some (found ticket self.now) ≡ true }
+        ensures added { OnOk result ((t : ℕ) → page_at holders.new.entries t
+            ≡ cond (is_at (nat_cmp ticket) t) (holder_at pages.old self.now ticket) (page_at holders.old.entries t)) }
+        ensures pages { pages.new ≡ pages.old }
+    {
+        let Some(entry) = self.find(ticket) else {
+            unreachable!();
+        };
+        let page = pages.page(alloc, entry.wanted.form)?;
+        holders.insert(ticket, page)?;
+        Ok(())
     }
 
     /// Releases the requests of a rendition that await this part or an earlier one; the holders are those that `holders` made for
@@ -192,7 +302,7 @@ impl Book {
         requires those { AreThose (Release.Part rendition msn part) holders.holders self.old }
         ensures slots { self.new ≡ released (Release.Part rendition msn part) holders.holders self.old }
         ensures count { result.released ≡ length (filter (takes (Release.Part rendition msn part)) self.old) }
-        ensures looked { result.looked ≤ length self.old }
+        ensures looked { result.looked ≤ result.released + 1 }
     {
         self.release(Release::Part(rendition, msn, part), holders)
     }
@@ -202,7 +312,7 @@ impl Book {
         requires those { AreThose (Release.Segment rendition msn) holders.holders self.old }
         ensures slots { self.new ≡ released (Release.Segment rendition msn) holders.holders self.old }
         ensures count { result.released ≡ length (filter (takes (Release.Segment rendition msn)) self.old) }
-        ensures looked { result.looked ≤ length self.old }
+        ensures looked { result.looked ≤ result.released + 1 }
     {
         self.release(Release::Segment(rendition, msn), holders)
     }
@@ -212,24 +322,33 @@ impl Book {
         requires those { AreThose (Release.All rendition) holders.holders self.old }
         ensures slots { self.new ≡ released (Release.All rendition) holders.holders self.old }
         ensures count { result.released ≡ length (filter (takes (Release.All rendition)) self.old) }
-        ensures looked { result.looked ≤ length self.old }
+        ensures looked { result.looked ≤ result.released + 1 }
     {
         self.release(Release::All(rendition), holders)
     }
 
-    /// Gives each request that a release takes the next of these holders.
+    /// Gives each request that a release takes its page of these.
     fn release(&mut self, which: Release, holders: Holders) -> Released
+        requires those { AreThose which holders.holders self.old }
         ensures slots { self.new ≡ released which holders.holders self.old }
         ensures count { result.released ≡ length (filter (takes which) self.old) }
-        ensures looked { result.looked ≡ length self.old }
+        ensures looked { result.looked ≤ result.released + 1 }
     {
         let Holders {
             mut pages,
             looked: _,
         } = holders;
-        let looked = self.slots.len();
+        self.slots.len();
+        let (mut count, mut looked) = (0, 0);
+        while let Some(entry) = self.first_taken(which, &mut looked) {
+            let Some(page) = pages.remove(&entry.ticket) else {
+                unreachable!();
+            };
+            self.settle(entry, Settled::Text(page));
+            count += 1;
+        }
         Released {
-            released: release_each(&mut self.slots, which, &mut pages),
+            released: count,
             looked,
         }
     }
@@ -238,13 +357,44 @@ impl Book {
     pub fn expire(&mut self, now: u64) -> Released
         ensures slots { self.new ≡ map (expired now) self.old }
         ensures count { result.released ≡ length (filter (is_over now) self.old) }
-        ensures looked { result.looked ≤ length self.old }
+        ensures looked { result.looked ≤ result.released + 1 }
     {
-        let looked = self.slots.len();
+        self.slots.len();
+        let (mut count, mut looked) = (0, 0);
+        while let Some(entry) = self.first_over(now, &mut looked) {
+            self.settle(entry, Settled::Timeout);
+            count += 1;
+        }
         Released {
-            released: expire_each(&mut self.slots, now),
+            released: count,
             looked,
         }
+    }
+
+    /// The first request in order whose time is over. It looks at one.
+    fn first_over(&self, now: u64, looked: &mut usize) -> Option<Entry>
+        requires { looked.old < 2 ^ 63 }
+        ensures some { IfSome result (λ e. IsWaiting e self.now × (e.deadline ≤ now)) }
+        ensures none { IfNone result (filter (is_over now) self.now ≡ []) }
+        ensures looked { looked.new ≡ looked.old + 1 }
+    {
+        let _ = &self.slots;
+        let place = self.times.first_after(FIRST, looked)?;
+        if now < place.rank {
+            return None;
+        }
+        self.find(place.number)
+    }
+
+    /// Gives a request that waits its reply. It takes no memory.
+    fn settle(&mut self, entry: Entry, settled: Settled)
+        requires { IsWaiting entry self.old }
+        ensures { self.new ≡ changed ticket_in entry.ticket (settle_with settled) self.old }
+    {
+        self.wants.remove(want_of(&entry));
+        self.times.remove(time_of(&entry));
+        self.ready.put(entry.ticket);
+        self.slots.settle(entry.ticket, settled);
     }
 
     /// Forgets the open request of this ticket, where there is one.
@@ -253,106 +403,30 @@ impl Book {
         ensures count { result.released ≡ length (filter (has_ticket ticket) self.old) }
         ensures looked { result.looked ≤ length self.old }
     {
-        let looked = self.slots.len();
-        Released {
-            released: drop_each(&mut self.slots, ticket),
-            looked,
-        }
-    }
-}
-
-/// How many requests wait.
-fn waiting(slots: &[Slot]) -> usize
-    ensures { result ≡ waiting_in slots.now }
-{
-    let mut count = 0;
-    for slot in slots {
-        if slot.settled.is_none() {
-            count += 1;
-        }
-    }
-    count
-}
-
-/// How many requests' replies are there.
-fn ready(slots: &[Slot]) -> usize
-    ensures { result ≡ length (filter is_ready slots.now) }
-{
-    let mut count = 0;
-    for slot in slots {
-        if slot.settled.is_some() {
-            count += 1;
-        }
-    }
-    count
-}
-
-/// The place of the request whose reply is there under this ticket.
-fn place_of_ready(slots: &[Slot], ticket: u64) -> Option<usize>
-    ensures { result ≡ position (is_ready_at ticket) slots.now }
-{
-    slots.iter().position(|slot| slot.entry.ticket == ticket && slot.settled.is_some())
-}
-
-/// Adds a holder of its page for a request, where a release will take it.
-#[tactic(auto, unfolding(crate::specs::Release::holders_of))]
-fn add_holder(
-    alloc: Global,
-    which: Release,
-    slot: &Slot,
-    pages: &mut Pages,
-    holders: &mut VecDeque<(u64, Page)>,
-) -> Result<(), AllocError>
-    ensures added { OnOk result (holders.new.items ≡ holders.old.items ++ holders_of pages.old which (slot.now ∷ [])) }
-    ensures pages { pages.new ≡ pages.old }
-{
-    if !which.takes(slot) {
-        return Ok(());
-    }
-    let page = pages.page(alloc, slot.entry.wanted.form)?;
-    holders.push_back((slot.entry.ticket, page))?;
-    Ok(())
-}
-
-/// Gives each request that a release takes the next of these pages, and answers how many it takes.
-fn release_each(slots: &mut Vec<Slot>, which: Release, pages: &mut VecDeque<(u64, Page)>) -> usize
-    ensures slots { slots.new.items ≡ released which pages.old.items slots.old.items }
-    ensures count { result ≡ length (filter (takes which) slots.old.items) }
-{
-    let mut count = 0;
-    for slot in slots.iter_mut() {
-        if which.takes(slot) {
-            if let Some((_, page)) = pages.pop_front() {
-                slot.settled = Some(Settled::Text(page));
+        let _ = &self.slots;
+        match self.find(ticket) {
+            Some(entry) => {
+                self.forget(entry);
+                Released {
+                    released: 1,
+                    looked: 0,
+                }
             }
-            count += 1;
+            None => Released {
+                released: 0,
+                looked: 0,
+            },
         }
     }
-    count
-}
 
-/// Gives up each request whose time is over, and answers how many they are.
-fn expire_each(slots: &mut Vec<Slot>, now: u64) -> usize
-    ensures slots { slots.new.items ≡ map (expired now) slots.old.items }
-    ensures count { result ≡ length (filter (is_over now) slots.old.items) }
-{
-    let mut count = 0;
-    for slot in slots.iter_mut() {
-        if slot.settled.is_none() && slot.entry.deadline <= now {
-            slot.settled = Some(Settled::Timeout);
-            count += 1;
-        }
+    /// Forgets an open request.
+    fn forget(&mut self, entry: Entry)
+        requires { found entry.ticket self.old ≡ Some entry }
+        ensures { self.new ≡ without entry.ticket self.old }
+    {
+        self.wants.remove(want_of(&entry));
+        self.times.remove(time_of(&entry));
+        self.ready.remove(entry.ticket);
+        self.slots.remove(entry.ticket);
     }
-    count
-}
-
-/// Forgets the requests of this ticket, and answers how many there were.
-#[tactic(auto, using(crate::proofs::Taking::dropped))]
-fn drop_each(slots: &mut Vec<Slot>, ticket: u64) -> usize
-    ensures slots { slots.new.items ≡ without ticket slots.old.items }
-    ensures count { result ≡ length (filter (has_ticket ticket) slots.old.items) }
-{
-    let before = slots.as_slice().len();
-    slots.retain(|slot| slot.entry.ticket != ticket);
-    before - slots.as_slice().len()
 }

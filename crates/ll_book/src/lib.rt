@@ -6,7 +6,10 @@ mod book;
 mod holders;
 mod laws;
 mod pages;
+mod places;
+mod ready;
 mod release;
+mod slots;
 
 pub use book::{Book, ParkFault, Released};
 pub use holders::Holders;

@@ -1,2 +1,4 @@
 pub mod BookLemmas
+pub mod Firsts
 pub mod ShelfLemmas
+pub mod SpotLemmas

@@ -1,3 +1,4 @@
 pub mod Book
 pub mod Shelf
+pub mod Spots
 pub mod Waits

@@ -1,38 +1,40 @@
-ghost use Rattle.std.specs.Prelude.{◌≡◌, ◌↔◌, ◌++◌, ◌∷◌, [], IfErr, IsOk, OnOk, find, length, option_map, position, slice_get};
-ghost use Rattle.ll_held.specs.Book.{at_wait, wait_in};
-ghost use Rattle.ll_held.specs.Waits.{is_of, is_under, parked_of, under, wait_of, without};
+ghost use Rattle.std.specs.Prelude.{◌≡◌, ◌↔◌, ◌++◌, ◌∷◌, [], IfErr, IsOk, OnOk, length, option_map, slice_get};
+ghost use Rattle.ll_held.specs.Waits.{parked_of, under, wait_of, without};
 
 use crate::owner::Owner;
-use crate::shelf::Shelf;
+use crate::row::{Row, insert};
+use crate::spot::first_of;
 use crate::wait::Wait;
+use ll_order::Order;
 use ll_room::Parked;
 use std::alloc::Global;
+use std::collections::BTreeMap;
 use std::marker::Model;
-
-/// A request that waits, and the number of its value on the shelf.
-#[derive(Clone, Copy)]
-struct Row {
-    wait: Wait,
-    number: u64,
-}
 
 /// The requests that wait, of many rooms together, in order of asking, with the values that stand for them. It must be spent as they
 /// must: only an empty one may be let go.
 pub struct Held {
-    shelf: Shelf,
-    rows: Vec<Row>,
+    /// The requests under their numbers, which rise in order of asking.
+    rows: BTreeMap<u64, Row>,
+    /// The same requests by room and ticket.
+    tickets: Order,
+    /// The same requests by owner.
+    owners: Order,
+    /// The last number that was given, from 1.
+    last: u64,
 }
 
 impl Model for Held {
     ghost use Rattle.std.specs.Prelude.{List, map};
+    ghost use Rattle.std.specs.Map.{values_of};
     ghost use Rattle.ll_held.specs.Book.{IsBook, wait_in};
     ghost use Rattle.ll_held.specs.declared.wait.Wait.{Wait};
 
     ghost Value = { List Wait };
 
-    ghost view = { λ h. map wait_in h.rows.items };
+    ghost view = { λ h. map wait_in (values_of h.rows.entries) };
 
-    ghost invariant = { λ h. IsBook h.rows.items h.shelf };
+    ghost invariant = { λ h. IsBook h.rows.entries h.tickets h.owners h.last };
 }
 
 /// Only an empty one may be let go: a request that is forgotten in it is a failed proof.
@@ -41,9 +43,12 @@ impl Drop for Held {
         requires { self ≡ [] }
     {
         let Held {
-            shelf: _shelf,
-            rows: _,
+            rows,
+            tickets: _,
+            owners: _,
+            last: _,
         } = self;
+        rows.destroy_empty();
     }
 }
 
@@ -53,8 +58,10 @@ impl Held {
         ensures { result ≡ [] }
     {
         Held {
-            shelf: Shelf::new(alloc),
-            rows: Vec::new(alloc),
+            rows: BTreeMap::new(alloc),
+            tickets: Order::new(alloc),
+            owners: Order::new(alloc),
+            last: 0,
         }
     }
 
@@ -64,20 +71,32 @@ impl Held {
         ensures put { OnOk result (self.new ≡ self.old ++ (record { owner = owner; place = parked.channel; ticket = parked.ticket }) ∷ []) }
         ensures handed_back { IfErr result (λ p. (p ≡ parked) × (self.new ≡ self.old)) }
     {
-        if self.rows.reserve(1).is_err() {
+        if self.last == u64::MAX {
             return Err(parked);
         }
-        let wait = Wait {
+        let row = Row {
+            number: self.last + 1,
             owner,
-            place: parked.channel() as usize,
-            ticket: parked.ticket(),
+            parked,
         };
-        match self.shelf.put(parked) {
-            Ok(number) => {
-                self.rows.push_reserved(Row { wait, number });
+        let (by_ticket, by_owner) = (row.by_ticket(), row.by_owner());
+        let Ok(()) = self.tickets.add(by_ticket) else {
+            return Err(row.into_parked());
+        };
+        let Ok(()) = self.owners.add(by_owner) else {
+            self.tickets.remove(by_ticket);
+            return Err(row.into_parked());
+        };
+        match insert(&mut self.rows, row) {
+            Ok(()) => {
+                self.last += 1;
                 Ok(())
             }
-            Err(parked) => Err(parked),
+            Err(row) => {
+                self.tickets.remove(by_ticket);
+                self.owners.remove(by_owner);
+                Err(row.into_parked())
+            }
         }
     }
 
@@ -92,22 +111,27 @@ impl Held {
     pub fn first(&self) -> Option<Wait>
         ensures { result ≡ slice_get self.now 0 }
     {
-        let row = self.rows.first()?;
-        Some(row.wait)
+        let (_, row) = self.rows.first_key_value()?;
+        Some(row.wait())
     }
 
     /// The request that waits at this place under this ticket.
     pub fn under(&self, place: usize, ticket: u64) -> Option<Wait>
         ensures { result ≡ under place ticket self.now }
     {
-        wait_under(&self.rows, place, ticket)
+        let number = first_of(&self.tickets, place as u64, ticket)?;
+        let row = self.rows.get(&number)?;
+        Some(row.wait())
     }
 
     /// The first request whose reply is told to this owner, where one waits.
     pub fn of(&self, owner: Owner) -> Option<Wait>
         ensures { result ≡ wait_of owner self.now }
     {
-        first_of(&self.rows, owner)
+        let (kind, id) = owner.key();
+        let number = first_of(&self.owners, kind, id)?;
+        let row = self.rows.get(&number)?;
+        Some(row.wait())
     }
 
     /// Takes the value of the request that waits at this place under this ticket, which then is kept no longer.
@@ -115,10 +139,13 @@ impl Held {
         ensures value { result ≡ option_map parked_of (under place ticket self.old) }
         ensures left { self.new ≡ without place ticket self.old }
     {
-        let index = index_under(&self.rows, place, ticket)?;
-        let row = self.rows.remove(index);
-        match self.shelf.take(row.number) {
-            Some(parked) => Some(parked),
+        let number = first_of(&self.tickets, place as u64, ticket)?;
+        match self.rows.remove(&number) {
+            Some(row) => {
+                self.tickets.remove(row.by_ticket());
+                self.owners.remove(row.by_owner());
+                Some(row.into_parked())
+            }
             None => unreachable!(),
         }
     }
@@ -134,30 +161,4 @@ impl Held {
             Err(self)
         }
     }
-}
-
-/// The request that waits at this place under this ticket.
-fn wait_under(rows: &[Row], place: usize, ticket: u64) -> Option<Wait>
-    ensures { result ≡ option_map wait_in (find (at_wait (is_under place ticket)) rows.now) }
-{
-    let row = rows
-        .iter()
-        .find(|row| row.wait.place == place && row.wait.ticket == ticket)?;
-    Some(row.wait)
-}
-
-/// The first request whose reply is told to this owner.
-fn first_of(rows: &[Row], owner: Owner) -> Option<Wait>
-    ensures { result ≡ option_map wait_in (find (at_wait (is_of owner)) rows.now) }
-{
-    let row = rows.iter().find(|row| row.wait.owner.is(owner))?;
-    Some(row.wait)
-}
-
-/// The index of the row of the request that waits at this place under this ticket.
-fn index_under(rows: &[Row], place: usize, ticket: u64) -> Option<usize>
-    ensures { result ≡ position (at_wait (is_under place ticket)) rows.now }
-{
-    rows.iter()
-        .position(|row| row.wait.place == place && row.wait.ticket == ticket)
 }

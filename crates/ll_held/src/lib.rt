@@ -3,7 +3,9 @@
 
 mod held;
 mod owner;
+mod row;
 mod shelf;
+mod spot;
 mod wait;
 
 pub use held::Held;

@@ -1,4 +1,5 @@
 ghost use Rattle.std.specs.Prelude.{◌≡◌};
+ghost use Rattle.ll_held.specs.Book.{id_of, kind_of};
 ghost use Rattle.ll_held.specs.Waits.{is_same};
 
 /// To whom the reply to a request is told.
@@ -19,6 +20,16 @@ impl Owner {
             (Owner::Get(a), Owner::Get(b)) => a == b,
             (Owner::Connection(a), Owner::Connection(b)) => a == b,
             _ => false,
+        }
+    }
+
+    /// Which kind of owner it is, and its number among these.
+    pub(crate) fn key(self) -> (u64, u64)
+        ensures { result ≡ (kind_of self, id_of self) }
+    {
+        match self {
+            Owner::Get(id) => (0, id),
+            Owner::Connection(id) => (1, id),
         }
     }
 }

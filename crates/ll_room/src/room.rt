@@ -125,10 +125,11 @@ impl Room {
         self.events
     }
 
-    /// How many requests are open.
+    /// How many requests are open. Their tickets rise.
     pub fn open_requests(&self) -> usize
         ensures value { result ≡ length self.now.slots }
         ensures few { result ≤ 2 ^ 61 }
+        ensures rising { waiting.IsRising 0 self.now.slots }
     {
         self.book.len()
     }

@@ -2,6 +2,7 @@ pub mod ActLemmas
 pub mod CallLemmas
 pub mod DueLemmas
 pub mod EventLaws
+pub mod Rising
 pub mod SettingsLaws
 pub mod StandLemmas
 pub mod TieLemmas

@@ -4,8 +4,7 @@ use Rattle.std.specs.List.{list_any}
 use Rattle.std.proofs.lemmas.Bool.Decides.{nat_tests}
 use Rattle.std.proofs.lemmas.List.{map-append}
 use Rattle.ll_verdict.specs.Waiting.{AreBelow, IsRising, reply_at, ticket_in}
-use Rattle.ll_book.proofs.Rising.{rising-filter, rising-park}
-use Rattle.ll_book.proofs.Taking.{alone}
+use Rattle.ll_world.proofs.Rising.{alone, rising-filter, rising-park}
 use Rattle.ll_directive.specs.Targets.{WantValue}
 use Rattle.ll_item.specs.Settings.{Configuration}
 use Rattle.ll_item.specs.declared.item.Item.{Item}

@@ -1,45 +1,17 @@
-use Rattle.std.proofs.Common.{◌∙◌, is_some, ap, sym, subst}
-use Rattle.std.specs.List.{position}
-use Rattle.ll_verdict.specs.Waiting.{IsRising, is_ready_at, reply_at, without, without_ready}
-use Rattle.ll_book.proofs.Rising.{rising-filter}
-use Rattle.ll_book.proofs.Taking.{alone, not_ready, taken, reply-taken}
+-- The request whose reply is handed out is the only one of its ticket.
+use Rattle.std.proofs.Common.{◌∙◌, subst}
+use Rattle.ll_order.specs.Numbers.{AreRising}
+use Rattle.ll_verdict.specs.Waiting.{ticket_in}
+use Rattle.ll_book.proofs.SlotLemmas.{left_ready, none_ready, passed}
 use Rattle.ll_book.proofs.book.Book.take.Goals as goal
 
-pub returns-in_err-place-clause-reply : goal.returns-in_err-place-clause-reply
-returns-in_err-place-clause-reply c =
-    c.from_residual.ensures
-    ∙ sym (not_ready c.args.ticket c.args.self.now (c.in_err-place.ensures ∙ ap (position (is_ready_at c.args.ticket)) (c.deref.ensures.value ∙ c.self.view_is))).0
+pub leave-requires : goal.leave-requires
+leave-requires c = passed c.args.ticket c.in-Some.field-0 c.args.self.now (subst (AreRising ticket_in 0) c.self.view_is c.self.invariant.rising) c.in-Some.ensures
 
-pub returns-in_err-place-clause-left : goal.returns-in_err-place-clause-left
-returns-in_err-place-clause-left c =
-    sym (not_ready c.args.ticket c.args.self.now (c.in_err-place.ensures ∙ ap (position (is_ready_at c.args.ticket)) (c.deref.ensures.value ∙ c.self.view_is))).1
+pub returns-in-Some-clause-left : goal.returns-in-Some-clause-left
+returns-in-Some-clause-left c =
+    let rising = subst (AreRising ticket_in 0) c.self.view_is c.self.invariant.rising in
+    c.leave.ensures.left ∙ left_ready c.args.ticket c.args.self.now rising (passed c.args.ticket c.in-Some.field-0 c.args.self.now rising c.in-Some.ensures)
 
-pub invariant_of-self : goal.invariant_of-self
-invariant_of-self c =
-    subst (IsRising 0)
-    (sym (c.remove-settled.ensures.items
-    ∙ taken c.args.ticket 0 c.in_ok-place.place c.self.inside.slots.items c.self.invariant (c.in_ok-place.ensures ∙ ap (position (is_ready_at c.args.ticket)) c.deref.ensures.value)))
-    (rising-filter _ 0 c.self.inside.slots.items c.self.invariant)
-
-pub returns-clause-reply : goal.returns-clause-reply
-returns-clause-reply c =
-    ap (λ s. s.settled) c.remove-settled.ensures.value
-    ∙ reply-taken c.args.ticket c.in_ok-place.place c.remove-settled.result c.self.inside.slots.items
-    (c.in_ok-place.ensures ∙ ap (position (is_ready_at c.args.ticket)) c.deref.ensures.value)
-    ∙ ap (reply_at c.args.ticket) c.self.view_is
-
-pub returns-clause-left : goal.returns-clause-left
-returns-clause-left c =
-    c.remove-settled.ensures.items
-    ∙ taken c.args.ticket 0 c.in_ok-place.place c.self.inside.slots.items c.self.invariant (c.in_ok-place.ensures ∙ ap (position (is_ready_at c.args.ticket)) c.deref.ensures.value)
-    ∙ ap (without_ready c.args.ticket) c.self.view_is
-
-pub returns-clause-alone : goal.returns-clause-alone
-returns-clause-alone c = λ there.
-    c.remove-settled.ensures.items
-    ∙ taken c.args.ticket 0 c.in_ok-place.place c.self.inside.slots.items c.self.invariant (c.in_ok-place.ensures ∙ ap (position (is_ready_at c.args.ticket)) c.deref.ensures.value)
-    ∙ alone c.args.ticket 0 c.self.inside.slots.items c.self.invariant
-    (sym (ap is_some (ap (λ s. s.settled) c.remove-settled.ensures.value
-    ∙ reply-taken c.args.ticket c.in_ok-place.place c.remove-settled.result c.self.inside.slots.items
-    (c.in_ok-place.ensures ∙ ap (position (is_ready_at c.args.ticket)) c.deref.ensures.value))) ∙ there)
-    ∙ ap (without c.args.ticket) c.self.view_is
+pub returns-in-None-clause-left : goal.returns-in-None-clause-left
+returns-in-None-clause-left c = none_ready c.args.ticket c.args.self.now c.in-None.ensures

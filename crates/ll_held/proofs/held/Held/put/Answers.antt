@@ -1,11 +1,38 @@
-use Rattle.std.proofs.Common.{◌∙◌, ap, ap₂, sym, ◌++◌, ◌∷◌, [], List}
-use Rattle.ll_held.specs.declared.held.Row.{Row}
-use Rattle.ll_held.proofs.BookLemmas.{book_more}
+-- A row is put into both orders and stands last; where no memory is found, it leaves them again.
+use Rattle.std.proofs.Common.{◌∙◌, ◌+◌, ◌++◌, ◌∷◌, [], ap, refl, subst}
+use Rattle.ll_order.specs.Places.{Adds, Removes}
+use Rattle.ll_held.specs.declared.row.Row.{Row}
+use Rattle.ll_held.proofs.BookLemmas.{book_more, book_ticket_undone, book_undone, fresh, waits_more}
 use Rattle.ll_held.proofs.held.Held.put.Goals as goal
 
-pub invariant_of-self-in-Ok : goal.invariant_of-self-in-Ok
-invariant_of-self-in-Ok c =
-    let r : Row = record { wait = record { owner = c.args.owner; place = c.channel.result; ticket = c.ticket.result }; number = c.in-Ok.number } in
-    book_more c.self.inside.rows.items _ c.self.inside.shelf _ r c.self.invariant c.in-Ok.ensures.fresh
-    (c.push_reserved.ensures.items ∙ ap (λ (xs : List Row). xs ++ r ∷ []) c.reserve.ensures.items)
-    (c.in-Ok.ensures.put ∙ ap₂ (λ a b. c.self.inside.shelf ++ (c.in-Ok.number, record { channel = a; ticket = b }) ∷ []) (sym c.channel.ensures) (sym c.ticket.ensures))
+pub invariant_of-self-in_default-add : goal.invariant_of-self-in_default-add
+invariant_of-self-in_default-add c =
+    let r : Row = record { number = c.self.inside.last + 1; owner = c.args.owner; parked = c.args.parked } in
+    book_ticket_undone _ _ _ _ c.self.invariant r refl _ _ _ c.in_default-add.ensures.unchanged
+    (subst (λ p. Adds p c.self.inside.tickets c.add.new.self) c.by_ticket-by_ticket.ensures c.in-Ok.ensures.added)
+    (subst (λ p. Removes p c.add.new.self c.remove.new.self) c.by_ticket-by_ticket.ensures c.remove.ensures)
+
+pub insert-requires : goal.insert-requires
+insert-requires c = fresh _ _ _ _ c.self.invariant
+
+pub invariant_of-self-in-Ok-insert : goal.invariant_of-self-in-Ok-insert
+invariant_of-self-in-Ok-insert c =
+    let r : Row = record { number = c.self.inside.last + 1; owner = c.args.owner; parked = c.args.parked } in
+    book_more _ _ _ _ c.self.invariant r refl _ _ _ c.in-Ok-insert.ensures.put
+    (subst (λ p. Adds p c.self.inside.tickets c.add.new.self) c.by_ticket-by_ticket.ensures c.in-Ok.ensures.added)
+    (subst (λ p. Adds p c.self.inside.owners c.add-2.new.self) c.by_owner-by_owner.ensures c.in-Ok-add.ensures.added)
+
+pub invariant_of-self-in-Err : goal.invariant_of-self-in-Err
+invariant_of-self-in-Err c =
+    let r : Row = record { number = c.self.inside.last + 1; owner = c.args.owner; parked = c.args.parked } in
+    book_undone _ _ _ _ c.self.invariant r refl _ _ _ _ _ c.in-Err.ensures.handed_back.1
+    (subst (λ p. Adds p c.self.inside.tickets c.add.new.self) c.by_ticket-by_ticket.ensures c.in-Ok.ensures.added)
+    (subst (λ p. Removes p c.add.new.self c.remove-in-Err.new.self) c.by_ticket-by_ticket.ensures c.remove-in-Err.ensures)
+    (subst (λ p. Adds p c.self.inside.owners c.add-2.new.self) c.by_owner-by_owner.ensures c.in-Ok-add.ensures.added)
+    (subst (λ p. Removes p c.add-2.new.self c.remove-in-Err-2.new.self) c.by_owner-by_owner.ensures c.remove-in-Err-2.ensures)
+
+pub returns-in-Ok-insert-clause-put : goal.returns-in-Ok-insert-clause-put
+returns-in-Ok-insert-clause-put c =
+    let r : Row = record { number = c.self.inside.last + 1; owner = c.args.owner; parked = c.args.parked } in
+    waits_more _ _ _ _ c.self.invariant r refl _ c.in-Ok-insert.ensures.put
+    ∙ ap (λ ws. ws ++ record { owner = c.args.owner; place = c.args.parked.channel; ticket = c.args.parked.ticket } ∷ []) c.self.view_is

@@ -1,45 +1,40 @@
-use Rattle.std.proofs.Common.{◌≡◌, ◌∙◌, ap, sym, Some, option_map, position}
-use Rattle.std.proofs.lemmas.Option.{none-some}
-use Rattle.ll_held.specs.Book.{at_wait}
-use Rattle.ll_held.specs.Waits.{is_under, parked_of}
-use Rattle.ll_held.proofs.BookLemmas.{book_less, index, none_found, none_left, row_found, row_left, value}
+-- The row of the first number at this place under this ticket leaves the rows and both orders.
+use Rattle.std.proofs.Common.{Some, ◌∙◌, ap, map, option_map, subst, sym}
+use Rattle.std.specs.Map.{values_of}
+use Rattle.ll_order.specs.Places.{Removes}
+use Rattle.ll_held.specs.Book.{wait_in}
+use Rattle.ll_held.specs.Waits.{is_under, parked_of, under, without}
+use Rattle.ll_held.proofs.BookLemmas.{book_left, none_left, none_under, row_under, there_under, waits_left}
 use Rattle.ll_held.proofs.held.Held.take.Goals as goal
 
-pub returns-in_err-index-clause-value : goal.returns-in_err-index-clause-value
-returns-in_err-index-clause-value c =
-    let q = is_under c.args.place c.args.ticket in
+pub returns-in_err-number-clause-value : goal.returns-in_err-number-clause-value
+returns-in_err-number-clause-value c =
     c.from_residual.ensures
-    ∙ ap (option_map parked_of) (sym (none_found q c.self.inside.rows.items c.args.self.now c.self.view_is (c.in_err-index.ensures ∙ ap (position (at_wait q)) c.deref.ensures.value)))
+    ∙ ap (option_map parked_of) (sym (none_under _ _ _ _ c.self.invariant c.args.place c.args.ticket c.in_err-number.ensures.none) ∙ ap (under c.args.place c.args.ticket) c.self.view_is)
 
-pub returns-in_err-index-clause-left : goal.returns-in_err-index-clause-left
-returns-in_err-index-clause-left c =
-    let q = is_under c.args.place c.args.ticket in
-    none_left q c.self.inside.rows.items c.args.self.now c.self.view_is (c.in_err-index.ensures ∙ ap (position (at_wait q)) c.deref.ensures.value)
-
-pub unreachable-requires : goal.unreachable-requires
-unreachable-requires c =
-    let q = is_under c.args.place c.args.ticket in
-    let at : Some c.in_ok-index.index ≡ position (at_wait q) c.self.inside.rows.items = c.in_ok-index.ensures ∙ ap (position (at_wait q)) c.deref.ensures.value in
-    none-some (parked_of c.remove-row.result.wait)
-    (c.in-None.ensures.value ∙ value c.self.inside.rows.items c.self.inside.shelf c.in_ok-index.index c.remove-row.result c.self.invariant (index (at_wait q) c.self.inside.rows.items c.in_ok-index.index at).0 c.remove-row.ensures.value)
+pub returns-in_err-number-clause-left : goal.returns-in_err-number-clause-left
+returns-in_err-number-clause-left c =
+    sym (none_left (is_under c.args.place c.args.ticket) c.args.self.now
+    (ap (under c.args.place c.args.ticket) (sym c.self.view_is) ∙ none_under _ _ _ _ c.self.invariant c.args.place c.args.ticket c.in_err-number.ensures.none))
 
 pub invariant_of-self : goal.invariant_of-self
 invariant_of-self c =
-    let q = is_under c.args.place c.args.ticket in
-    let at : Some c.in_ok-index.index ≡ position (at_wait q) c.self.inside.rows.items = c.in_ok-index.ensures ∙ ap (position (at_wait q)) c.deref.ensures.value in
-    book_less c.self.inside.rows.items _ c.self.inside.shelf _ c.in_ok-index.index c.remove-row.result c.self.invariant (index (at_wait q) c.self.inside.rows.items c.in_ok-index.index at).0
-    c.remove-row.ensures.value c.remove-row.ensures.items c.take.ensures.left
+    book_left _ _ _ _ c.self.invariant c.in_ok-number.number c.in-Some.row (sym c.in-Some.ensures.value) _ _ _ c.remove.ensures.entries
+    (subst (λ p. Removes p c.self.inside.tickets c.remove-in-Some.new.self) c.by_ticket.ensures c.remove-in-Some.ensures)
+    (subst (λ p. Removes p c.self.inside.owners c.remove-in-Some-2.new.self) c.by_owner.ensures c.remove-in-Some-2.ensures)
+
+pub unreachable-requires : goal.unreachable-requires
+unreachable-requires c =
+    there_under _ _ _ _ c.self.invariant c.args.place c.args.ticket c.in_ok-number.number c.in_ok-number.ensures.some (sym c.in-None.ensures.value)
 
 pub returns-clause-value : goal.returns-clause-value
 returns-clause-value c =
-    let q = is_under c.args.place c.args.ticket in
-    let at : Some c.in_ok-index.index ≡ position (at_wait q) c.self.inside.rows.items = c.in_ok-index.ensures ∙ ap (position (at_wait q)) c.deref.ensures.value in
-    c.in-Some.ensures.value
-    ∙ value c.self.inside.rows.items c.self.inside.shelf c.in_ok-index.index c.remove-row.result c.self.invariant (index (at_wait q) c.self.inside.rows.items c.in_ok-index.index at).0 c.remove-row.ensures.value
-    ∙ ap (option_map parked_of) (sym (row_found q c.self.inside.rows.items c.args.self.now c.in_ok-index.index c.remove-row.result c.self.view_is at c.remove-row.ensures.value))
+    ap Some c.into_parked.ensures ∙ ap (λ r. option_map parked_of (option_map wait_in r)) c.in-Some.ensures.value
+    ∙ ap (option_map parked_of) (sym (row_under _ _ _ _ c.self.invariant c.args.place c.args.ticket c.in_ok-number.number c.in_ok-number.ensures.some)
+    ∙ ap (under c.args.place c.args.ticket) c.self.view_is)
 
 pub returns-clause-left : goal.returns-clause-left
 returns-clause-left c =
-    let q = is_under c.args.place c.args.ticket in
-    let at : Some c.in_ok-index.index ≡ position (at_wait q) c.self.inside.rows.items = c.in_ok-index.ensures ∙ ap (position (at_wait q)) c.deref.ensures.value in
-    row_left q c.self.inside.rows.items _ c.args.self.now c.in_ok-index.index c.self.view_is at c.remove-row.ensures.items
+    ap (λ rs. map wait_in (values_of rs)) c.remove.ensures.entries
+    ∙ waits_left _ _ _ _ c.self.invariant c.in_ok-number.number c.in-Some.row (sym c.in-Some.ensures.value) c.args.place c.args.ticket c.in_ok-number.ensures.some
+    ∙ ap (without c.args.place c.args.ticket) c.self.view_is

@@ -1,0 +1,3 @@
+pub mod Finds
+pub mod Keyed
+pub mod Orders
