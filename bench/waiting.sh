@@ -1,9 +1,16 @@
 #!/usr/bin/env bash
 # waiting.sh [WAITING..]: with so many requests waiting for a segment far ahead (0, 1,000 and 60,000 where none are given), publishes 5,000
-# parts of the segment before it. For each number it prints the parts per second, and their ratio to the first number's: what a plain
-# list of who waits costs. Then one part releases 10,000 requests for the same playlist, or the same requests time out: it prints how much
-# longer the first takes, and how long for each reply; the playlist is rendered once.
-# Times are the median of RUNS runs (3 where it isn't set), less that of the script that is compared. It judges nothing.
+# parts of the segment before it. For each number it prints the parts per second, and their ratio to the first number's: what those
+# cost whom a part doesn't release.
+# Then what one of 1,000 and of 60,000 requests that wait together costs from its line to its end, and the ratio of the second to the first:
+# where they wait until the script ends, where each is closed in the order of asking or in reverse, and where one part releases all (of
+# 10,000 too). A request that waits is given up with the script, which takes about as long as a close: so each row is a whole, and
+# none is less another. Then a channel is filled with as many as may wait, and one part empties it: it prints the seconds.
+# At last one part releases 10,000 requests for the same playlist, or the same requests time out: it prints how much longer the first
+# takes, and how long for each reply; the playlist is rendered once.
+# Times are the median of RUNS runs (3 where it isn't set; of 15 times as many for the cost of one request of up to 10,000, which a run's
+# own start exceeds else), less that of the script that is compared, which is one without requests where nothing else is said.
+# It judges nothing.
 set -eu
 here=$(cd "$(dirname "${BASH_SOURCE[0]}")" && pwd)
 program=$("$here/../tests/program.sh")
@@ -25,20 +32,25 @@ script() {
     }'
 }
 
-# released REQUESTS LINE: requests that wait for the second part, and a last line.
-released() {
-    awk -v requests="$1" -v line="$2" 'BEGIN {
+# asked REQUESTS: requests that wait for the second part.
+asked() {
+    awk -v requests="$1" 'BEGIN {
         print "channel cam target=60 part=1000000 skip=360 window=540 renditions=hi first=0 start=0"
         print "pub cam part hi 10000 i"
         for (n = 1; n <= requests; n++) print "get " n " /cam/hi/live.m3u8?_HLS_msn=0&_HLS_part=1"
-        print line
     }'
 }
 
-# median SCRIPT: the median time in microseconds.
+# released REQUESTS LINE: the same, and a last line.
+released() {
+    asked "$1"
+    echo "$2"
+}
+
+# median SCRIPT [TIMES]: the median time in microseconds, of so many times as many runs.
 median() {
     local run
-    for ((run = 0; run < runs; run++)); do
+    for ((run = 0; run < runs * ${2:-1}; run++)); do
         "$room/measure" "$1" "$room/answers" "$program" replay
     done | sort -n | awk '{ time[NR] = $1 } END { print time[int((NR + 1) / 2)] }'
 }
@@ -60,6 +72,61 @@ for waiting in "$@"; do
         printf "%d waiting: %d parts/s, %.3f of the first\n", waiting, 5000 * 1e6 / taken, first / taken
     }'
 done
+
+# closed REQUESTS up|down: the same, closed in order of asking or in reverse.
+closed() {
+    asked "$1"
+    awk -v requests="$1" -v way="$2" 'BEGIN {
+        for (n = 1; n <= requests; n++) print "close " (way == "up" ? n : requests + 1 - n)
+    }'
+}
+
+# spent REPLIES SCRIPT REQUESTS WORD..: the median time of the script that a command writes of so many requests, more than that of the
+# script without requests. So many get a playlist.
+spent() {
+    local wanted=$1 time replies
+    shift
+    "$@" >"$room/script"
+    time=$(median "$room/script" $(($2 > 10000 ? 1 : 15)))
+    replies=$(grep -c '^reply .* 200 ' "$room/answers" || true)
+    if [ "$replies" != "$wanted" ]; then
+        echo "$*: of $wanted requests $replies got a playlist" >&2
+        exit 1
+    fi
+    echo $((time > none ? time - none : 1))
+}
+
+# each NAME NUMBER TIME..: microseconds for one at each number, and the ratio of the last to the first.
+each() {
+    awk 'BEGIN {
+        line = ARGV[1]
+        for (n = 2; n < ARGC; n += 2) {
+            last = ARGV[n + 1] / ARGV[n]
+            if (n == 2) first = last
+            line = line (n == 2 ? ": " : ", ") sprintf("%.2f us at %d", last, ARGV[n])
+        }
+        printf "%s, ratio %.2f\n", line, last / first
+    }' "$@"
+}
+
+asked 0 >"$room/script"
+none=$(median "$room/script" 15)
+part='pub cam part hi 10000 -'
+few=$(spent 0 asked 1000)
+many=$(spent 0 asked 60000)
+each 'a request that waits until the end' 1000 "$few" 60000 "$many"
+for way in up down; do
+    few=$(spent 0 closed 1000 "$way")
+    many=$(spent 0 closed 60000 "$way")
+    if [ "$way" = up ]; then name='in the order of asking'; else name='in reverse'; fi
+    each "a request that is closed, $name" 1000 "$few" 60000 "$many"
+done
+few=$(spent 1000 released 1000 "$part")
+some=$(spent 10000 released 10000 "$part")
+many=$(spent 60000 released 60000 "$part")
+each 'a request that one part releases' 1000 "$few" 10000 "$some" 60000 "$many"
+full=$(spent 65536 released 65536 "$part")
+awk -v taken="$full" 'BEGIN { printf "filled with 65536 and emptied by one part: %.3f s\n", taken / 1e6 }'
 
 released 10000 'clock 180000' >"$room/script"
 without=$(median "$room/script")

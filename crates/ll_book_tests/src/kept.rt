@@ -1,0 +1,124 @@
+//! A book whose requests get their tickets one after another.
+ghost use Rattle.std.specs.Prelude.{◌≡◌};
+ghost use Rattle.ll_verdict.specs.Waiting.{AreBelow};
+
+use ll_book::{Book, Pages, ParkFault, Release, Released, release_law};
+use ll_directive::Awaited;
+use ll_item::{Item, Settings};
+use ll_page::{Form, Rendition, Shown};
+use ll_range::Ranges;
+use ll_verdict::{Entry, Settled, Wanted};
+use ll_window::Window;
+use std::alloc::{AllocError, Global};
+use std::marker::Model;
+use std::test::Fail;
+
+/// A book, and the ticket of its next request.
+#[derive(Drop)]
+pub(crate) struct Kept {
+    book: Book,
+    next: u64,
+}
+
+impl Model for Kept {
+    ghost use Rattle.std.specs.Prelude.{◌<◌, List};
+    ghost use Rattle.ll_verdict.specs.Waiting.{AreBelow};
+    ghost use Rattle.ll_verdict.specs.declared.entry.Slot.{Slot};
+
+    ghost Value = { List Slot };
+
+    ghost view = { λ k. k.book };
+
+    ghost invariant = { λ k. (0 < k.next) × AreBelow k.next k.book };
+}
+
+impl Kept {
+    /// No requests.
+    pub(crate) fn new(alloc: Global) -> Kept {
+        Kept {
+            book: Book::new(alloc),
+            next: 1,
+        }
+    }
+
+    /// What is kept.
+    pub(crate) fn book(&self) -> &Book {
+        &self.book
+    }
+
+    /// Holds a request for the full playlist of a rendition: its ticket.
+    pub(crate) fn park(
+        &mut self,
+        rendition: usize,
+        awaited: Awaited,
+        deadline: u64,
+    ) -> Result<u64, ParkFault> {
+        let ticket = self.next;
+        if ticket == u64::MAX {
+            return Err(ParkFault::Busy);
+        }
+        self.book.park(Entry {
+            ticket,
+            wanted: Wanted {
+                rendition,
+                awaited,
+                form: Form::Full,
+            },
+            seen: 0,
+            deadline,
+        })?;
+        self.next = ticket + 1;
+        Ok(ticket)
+    }
+
+    /// Releases requests: how many were looked at for the holders, and what the release came to.
+    pub(crate) fn release(
+        &mut self,
+        alloc: Global,
+        which: Release,
+        pages: &mut Pages,
+    ) -> Result<(usize, Released), AllocError> {
+        release_law();
+        let holders = self.book.holders(alloc, which, pages)?;
+        let looked = holders.looked();
+        let released = match which {
+            Release::Part(rendition, msn, part) => {
+                self.book.release_part(rendition, msn, part, holders)
+            }
+            Release::Segment(rendition, msn) => self.book.release_segment(rendition, msn, holders),
+            Release::All(rendition) => self.book.release_all(rendition, holders),
+        };
+        Ok((looked, released))
+    }
+
+    /// Gives up those whose time is over.
+    pub(crate) fn expire(&mut self, now: u64) -> Released {
+        self.book.expire(now)
+    }
+
+    /// Hands out a reply.
+    pub(crate) fn take(&mut self, ticket: u64) -> Option<Settled> {
+        self.book.take(ticket)
+    }
+
+    /// Forgets a request.
+    pub(crate) fn drop_ticket(&mut self, ticket: u64) -> Released {
+        self.book.drop_ticket(ticket)
+    }
+}
+
+/// The pages of one of two renditions that have a part each.
+pub(crate) fn pages(alloc: Global, rendition: usize) -> Result<Pages, Fail> {
+    let line =
+        "channel cam target=4 part=1000000 skip=24 window=36 renditions=hi,lo first=0 start=0";
+    let settings = Settings::read(alloc, line)?;
+    let mut renditions = Vec::new(alloc);
+    for text in ["part hi 1000000 i", "part lo 1000000 i"] {
+        let mut window = Window::new(alloc, &settings)?;
+        window.push(Item::read(alloc, &settings, text)?)?;
+        let ranges = Ranges::new(alloc, &settings);
+        renditions.push(Rendition { window, ranges })?;
+    }
+    let shown = Shown::of(alloc, &settings, &renditions, 2)?;
+    Ok(Pages::new(shown, rendition).ok_or("the rendition")?)
+}
