@@ -1,6 +1,6 @@
 #!/usr/bin/env bash
-# waiting.sh [WAITING..]: with so many requests waiting for a segment far ahead (0, 1,000 and 60,000 where none are given), publishes 5,000
-# parts of the segment before it. For each number it prints the parts per second, and their ratio to the first number's: what those
+# waiting.sh [WAITING..]: with so many requests waiting for a segment far ahead (0, 1,000 and 60,000 where none are given), publishes 400,000
+# parts of a segment before it. For each number it prints the parts per second, and their ratio to the first number's: what those
 # cost whom a part doesn't release.
 # Then what one of 1,000 and of 60,000 requests that wait together costs from its line to its end, and the ratio of the second to the first:
 # where they wait until the script ends, where each is closed in the order of asking or in reverse, and where one part releases all (of
@@ -28,7 +28,7 @@ script() {
         print "channel cam target=60 part=1000000 skip=360 window=540 renditions=hi first=0 start=0"
         print "pub cam part hi 10000 i"
         for (n = 1; n <= waiting; n++) print "get " n " /cam/hi/live.m3u8?_HLS_msn=2"
-        for (n = 1; n <= parts; n++) print "pub cam part hi 10000 -"
+        for (n = 1; n <= parts; n++) print "pub cam part hi 100 -"
     }'
 }
 
@@ -55,21 +55,22 @@ median() {
     done | sort -n | awk '{ time[NR] = $1 } END { print time[int((NR + 1) / 2)] }'
 }
 
+parts=400000
 first=
 for waiting in "$@"; do
     script "$waiting" 0 >"$room/script"
     without=$(median "$room/script")
-    script "$waiting" 5000 >"$room/script"
+    script "$waiting" "$parts" >"$room/script"
     with=$(median "$room/script")
     accepted=$(grep -c '^ok ' "$room/answers" || true)
-    if [ "$accepted" != 5001 ]; then
-        echo "of 5001 parts $accepted were accepted" >&2
+    if [ "$accepted" != $((parts + 1)) ]; then
+        echo "of $((parts + 1)) parts $accepted were accepted" >&2
         exit 1
     fi
     taken=$((with > without ? with - without : 1))
     first=${first:-$taken}
-    awk -v waiting="$waiting" -v taken="$taken" -v first="$first" 'BEGIN {
-        printf "%d waiting: %d parts/s, %.3f of the first\n", waiting, 5000 * 1e6 / taken, first / taken
+    awk -v waiting="$waiting" -v parts="$parts" -v taken="$taken" -v first="$first" 'BEGIN {
+        printf "%d waiting: %d parts/s, %.3f of the first\n", waiting, parts * 1e6 / taken, first / taken
     }'
 done
 
@@ -129,9 +130,9 @@ full=$(spent 65536 released 65536 "$part")
 awk -v taken="$full" 'BEGIN { printf "filled with 65536 and emptied by one part: %.3f s\n", taken / 1e6 }'
 
 released 10000 'clock 180000' >"$room/script"
-without=$(median "$room/script")
+without=$(median "$room/script" 15)
 released 10000 'pub cam part hi 10000 -' >"$room/script"
-with=$(median "$room/script")
+with=$(median "$room/script" 15)
 replies=$(grep -c '^reply .* 200 ' "$room/answers" || true)
 if [ "$replies" != 10000 ]; then
     echo "of 10000 requests $replies got a playlist" >&2

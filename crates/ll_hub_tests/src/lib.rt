@@ -4,6 +4,8 @@
 #[cfg(test)]
 mod cases;
 #[cfg(test)]
+mod crowd_tests;
+#[cfg(test)]
 mod fault_tests;
 #[cfg(test)]
 mod hub_tests;

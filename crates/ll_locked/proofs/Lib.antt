@@ -3,4 +3,5 @@ pub mod CountLemmas
 pub mod FaultLemmas
 pub mod LastLemmas
 pub mod ParkedLemmas
+pub mod SearchLemmas
 pub mod ToldLemmas

@@ -3,12 +3,12 @@ ghost use Rattle.std.specs.Prelude.{◌≡◌, ◌+◌, ◌++◌, ◌∷◌, [],
 ghost use Rattle.std.specs.Bool.{Decides};
 ghost use Rattle.ll_verdict.specs.Waiting as waiting;
 ghost use Rattle.ll_verdict.specs.Waiting.{found};
-ghost use Rattle.ll_locked.specs.Channel.{is_of, parked_for, ticket_at};
+ghost use Rattle.ll_locked.specs.Channel.{IsChannel, is_of, parked_for, ticket_at};
 ghost use Rattle.ll_locked.specs.Section as spec;
 ghost use Rattle.ll_locked.specs.Told.{IsAccepted, IsAskRefused, IsHandedOut, IsReadingRefused, IsTotal, IsTotalOf};
 ghost use Rattle.ll_record.specs.Chunk.{IsChunk, IsFaithful, emptied};
 ghost use Rattle.ll_record.specs.Recording.{GoesOn, IsRecorded};
-ghost use Rattle.ll_room.specs.Home.{AreDistinct, among, home, less};
+ghost use Rattle.ll_room.specs.Home.{among, home, less, tickets};
 ghost use Rattle.ll_room.specs.declared.stamped.Stamp.TheVariants as stamp;
 ghost use Rattle.ll_verdict.specs.Events.{Event, Clock, Publish};
 ghost use Rattle.ll_verdict.specs.State.{state_of};
@@ -177,7 +177,7 @@ impl Channel {
         if !is_ready(&self.recorder, entry) {
             return Tried::Still;
         }
-        let Some(parked) = take(&mut self.parked, entry.ticket) else {
+        let Some(parked) = take(&self.recorder, &mut self.parked, entry.ticket) else {
             unreachable!();
         };
         match self.recorder.collect(parked) {
@@ -197,7 +197,7 @@ impl Channel {
         if !is_here(&self.recorder, known, entry) {
             return false;
         }
-        let Some(parked) = take(&mut self.parked, entry.ticket) else {
+        let Some(parked) = take(&self.recorder, &mut self.parked, entry.ticket) else {
             unreachable!();
         };
         match self.recorder.close(parked) {
@@ -312,22 +312,26 @@ fn is_same(a: &Settings, b: &Settings) -> bool
     a == b
 }
 
-/// Takes out the value of the request of this ticket.
-fn take(parked: &mut Vec<Stored>, ticket: u64) -> Option<Parked>
-    ensures value { (channel : ℕ) (tickets : List ℕ) → AreDistinct tickets → parked.old.items ≡ parked_for channel tickets
-        → result ≡ (if among ticket tickets then Some (ticket_at channel ticket) else None) }
-    ensures left { (channel : ℕ) (tickets : List ℕ) → AreDistinct tickets → parked.old.items ≡ parked_for channel tickets
-        → parked.new.items ≡ parked_for channel (less ticket tickets) }
+/// Takes out the value of the open request of this ticket.
+fn take(recorder: &Recorder, parked: &mut Vec<Stored>, ticket: u64) -> Option<Parked>
+    requires { IsChannel recorder.now parked.old.items }
+    ensures value { result ≡ (if among ticket (tickets recorder.now.room) then Some (ticket_at recorder.now.room.channel ticket) else None) }
+    ensures left { parked.new.items ≡ parked_for recorder.now.room.channel (less ticket (tickets recorder.now.room)) }
 {
-    let place = place_of(parked, ticket)?;
+    let place = place_of(recorder, parked, ticket)?;
     Some(parked.remove(place).into_parked())
 }
 
-/// The place of the value of the request of this ticket.
-fn place_of(parked: &[Stored], ticket: u64) -> Option<usize>
+/// The place of the value of the open request of this ticket.
+fn place_of(recorder: &Recorder, parked: &[Stored], ticket: u64) -> Option<usize>
+    requires { IsChannel recorder.now parked.now }
     ensures { result ≡ position (is_of ticket) parked.now }
 {
-    parked.iter().position(|one| one.ticket() == ticket)
+    // the tickets of open requests rise, as this call says
+    let _open = recorder.room().open_requests();
+    parked
+        .binary_search_by_key(&ticket, |one| one.ticket())
+        .ok()
 }
 
 impl Known<'_> {

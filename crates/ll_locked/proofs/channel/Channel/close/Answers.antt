@@ -19,7 +19,7 @@ open_there c = among-open _ c.self.inside.recorder.room.slots _ (here c).open_th
 
 -- the value that stands for the request is taken out
 its-value : (c : After-close) → c.in-Some.parked ≡ ticket_at c.self.inside.recorder.room.channel c.args.entry.ticket
-its-value c = the-value _ _ _ (open_there c) (c.in-Some.ensures.value _ (tickets c.self.inside.recorder.room) c.self.invariant.distinct c.self.invariant.each)
+its-value c = the-value _ _ _ (open_there c) c.in-Some.ensures.value
 
 done : (c : After-close) → c.close.result ≡ given_up.Done
 done c = c.close.ensures.answer ∙ closes c.self.inside.recorder.room c.in-Some.parked c.args.entry.ticket (its-value c) (open_there c)
@@ -30,7 +30,7 @@ is-done c = ap room.is_done (done c)
 pub unreachable-requires : goal.unreachable-requires
 unreachable-requires c =
     none-missing _ _ (among-open _ c.self.inside.recorder.room.slots _ (c.if-not-is_here.ensures.0 refl).open_there)
-    (sym c.in_default.is ∙ c.take.ensures.value _ (tickets c.self.inside.recorder.room) c.self.invariant.distinct c.self.invariant.each)
+    (sym c.in_default.is ∙ c.take.ensures.value)
 
 pub unreachable-requires-in-Stranger : goal.unreachable-requires-in-Stranger
 unreachable-requires-in-Stranger c =
@@ -42,7 +42,7 @@ invariant_of-self c =
     left-beside c.self.inside.recorder c.close.new.self _ c.args.entry.ticket _ _ c.self.invariant
     (c.close.ensures.given_up (is-done at) c.self.invariant.events c.self.invariant.recorded) c.close.ensures.goes_on.same
     (c.close.ensures.fewer (is-done at) ∙ ap (λ (p : Ticket). less p.ticket (tickets c.self.inside.recorder.room)) (its-value at))
-    (c.in-Some.ensures.left _ (tickets c.self.inside.recorder.room) c.self.invariant.distinct c.self.invariant.each)
+    c.in-Some.ensures.left
 
 pub returns-clause-closed : goal.returns-clause-closed
 returns-clause-closed c =

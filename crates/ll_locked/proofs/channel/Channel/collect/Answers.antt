@@ -20,7 +20,7 @@ use Rattle.ll_locked.proofs.channel.Channel.collect.Goals.{After-collect}
 its-value : (c : After-collect) → c.in-Some.parked ≡ ticket_at c.self.inside.recorder.room.channel c.args.entry.ticket
 its-value c =
     the-value _ _ _ (among-ready _ c.self.inside.recorder.room.slots _ (c.if-not-is_ready.ensures.0 refl))
-    (c.in-Some.ensures.value _ (tickets c.self.inside.recorder.room) c.self.invariant.distinct c.self.invariant.each)
+    c.in-Some.ensures.value
 
 -- its reply is there, and is handed out
 reply : (c : After-collect) (es : List Event) → IsRecorded c.self.inside.recorder es → IsHanded c.self.inside.recorder.room es c.args.entry
@@ -36,7 +36,7 @@ is-got c = ap room.is_got (got c c.self.invariant.events c.self.invariant.record
 pub unreachable-requires : goal.unreachable-requires
 unreachable-requires c =
     none-missing _ _ (among-ready _ c.self.inside.recorder.room.slots _ (c.if-not-is_ready.ensures.0 refl))
-    (sym c.in_default.is ∙ c.take.ensures.value _ (tickets c.self.inside.recorder.room) c.self.invariant.distinct c.self.invariant.each)
+    (sym c.in_default.is ∙ c.take.ensures.value)
 
 pub unreachable-requires-in-Still : goal.unreachable-requires-in-Still
 unreachable-requires-in-Still c = true≢false (sym (is-got (goal.at.unreachable-requires-in-Still c).After-collect) ∙ ap room.is_got c.in-Still.is)
@@ -50,7 +50,7 @@ invariant_of-self c =
     left-beside c.self.inside.recorder c.collect.new.self _ c.args.entry.ticket _ _ c.self.invariant
     (c.collect.ensures.handed (is-got at) c.self.invariant.events c.self.invariant.recorded) c.collect.ensures.goes_on.same
     (c.collect.ensures.fewer (is-got at) ∙ ap (λ (p : Ticket). less p.ticket (tickets c.self.inside.recorder.room)) (its-value at))
-    (c.in-Some.ensures.left _ (tickets c.self.inside.recorder.room) c.self.invariant.distinct c.self.invariant.each)
+    c.in-Some.ensures.left
 
 -- what is told of it by any events that are recorded
 told : (c : After-collect) (m : Mark Reply) → Got m ≡ c.collect.result → (es : List Event) → IsRecorded c.self.inside.recorder es
