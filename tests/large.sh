@@ -147,6 +147,32 @@ expect a_day_of_segments 0 '' replay
 cp "$room/full" "$room/wanted"
 expect a_delta_update_of_a_day 0 '' apply "$room/base" "$room/delta"
 
+# Ten thousand segments of four parts: the window shows the last nine, and the last three of them list their parts.
+awk -v settings="$settings" 'BEGIN {
+    print settings
+    for (part = 0; part < 40000; part++) print "pub cam part hi 1000000 " (part % 4 == 0 ? "i" : part % 4 == 3 ? "f" : "-")
+    print "get 1 /cam/hi/live.m3u8"
+}' >"$room/script"
+awk 'BEGIN {
+    print "#EXTM3U\n#EXT-X-VERSION:9\n#EXT-X-TARGETDURATION:4"
+    print "#EXT-X-SERVER-CONTROL:CAN-BLOCK-RELOAD=YES,PART-HOLD-BACK=3.000000,CAN-SKIP-UNTIL=24.000000"
+    print "#EXT-X-PART-INF:PART-TARGET=1.000000\n#EXT-X-MEDIA-SEQUENCE:9991\n#EXT-X-DISCONTINUITY-SEQUENCE:0\n#EXT-X-MAP:URI=\"init0.mp4\""
+    for (s = 9991; s < 10000; s++) {
+        time = 4 * s
+        printf "#EXT-X-PROGRAM-DATE-TIME:1970-01-01T%02d:%02d:%02d.000Z\n", time / 3600, time / 60 % 60, time % 60
+        for (part = 0; part < 4 && s > 9996; part++) {
+            printf "#EXT-X-PART:DURATION=1.000000,URI=\"s%d.%d.m4s\"%s\n", s, part, part ? "" : ",INDEPENDENT=YES"
+        }
+        printf "#EXTINF:4.000000,\ns%d.m4s\n", s
+    }
+    print "#EXT-X-PRELOAD-HINT:TYPE=PART,URI=\"s10000.0.m4s\""
+}' >"$room/text"
+{
+    seq -f 'ok %.0f' 1 40000
+    reply 1 "$room/text"
+} >"$room/wanted"
+expect ten_thousand_segments 0 '' replay
+
 # URIs of 60,000 bytes.
 uri=$(many 60000)
 day 3 0 | sed -e "s|s1.m4s|$uri|" -e "s|init0.mp4|$uri|" -e "s|s2.0.m4s|$uri|" -e "s|s3.0.m4s|$uri|" >"$room/base"

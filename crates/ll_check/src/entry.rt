@@ -13,8 +13,9 @@ ghost use Rattle.ll_verdict.specs.declared.reply.Reply as verdict;
 use ll_directive::Want;
 use ll_entry::{CheckKind, Recorded};
 use ll_item::Item;
-use ll_room::{AskFault, Keeper, Stamped};
+use ll_room::{Keeper, Stamped};
 use ll_verdict::{Outcome, PublishFault, Reply};
+use std::alloc::AllocError;
 
 /// Takes the event of an entry, where the entry is right.
 pub(crate) fn enter(keeper: &mut Keeper, entry: Recorded) -> Result<(), CheckKind>
@@ -70,13 +71,13 @@ fn make_request(
     if !is_after(ask, room.asks()) || room.is_full() {
         return Err(CheckKind::Refused);
     }
-    if !is_same(outcome, room.outcome(&want)) {
+    let decision = room.decide(&want);
+    if !is_same(outcome, decision.outcome(room.count())) {
         return Err(CheckKind::WrongReply);
     }
-    match keeper.ask(want) {
-        Ok(_) => Ok(()),
-        Err(AskFault::RecordFull) => unreachable!(),
-        Err(AskFault::Memory) => Err(CheckKind::Memory),
+    match keeper.pass(decision) {
+        Ok(()) => Ok(()),
+        Err(AllocError) => Err(CheckKind::Memory),
     }
 }
 

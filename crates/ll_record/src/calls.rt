@@ -91,17 +91,18 @@ impl Recorder {
             return Err(AskFault::RecordFull);
         }
         room.settings().within_limits();
-        let outcome = room.outcome(&want);
+        let decision = room.decide(&want);
+        let outcome = decision.outcome(room.count());
         let Ok(line) = request_line(*alloc, room, lines, &want, outcome) else {
             return Err(AskFault::Memory);
         };
-        match room.ask(want) {
+        match room.ask_decided(want, decision) {
             Ok(asked) => {
                 lines.put(line.as_str());
                 *calls += 1;
                 Ok(asked)
             }
-            Err(fault) => Err(fault),
+            Err(AllocError) => Err(AskFault::Memory),
         }
     }
 

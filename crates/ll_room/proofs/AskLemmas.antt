@@ -21,10 +21,9 @@ use Rattle.ll_verdict.specs.declared.entry.Slot.{Slot}
 use Rattle.ll_verdict.specs.declared.reply.Reply.{Reply}
 use Rattle.ll_verdict.specs.declared.reply.Reply.TheVariants as now
 use Rattle.ll_verdict.specs.declared.wanted.Wanted.{Wanted}
-use Rattle.ll_verdict.proofs.StateLemmas.{at_once-is}
-use Rattle.ll_room.specs.Answers.{asked}
+use Rattle.ll_room.specs.Decided.{page_now}
 use Rattle.ll_room.specs.Home.{Home, Stands, home, less, tickets}
-use Rattle.ll_room.specs.Kept.{page_now, with_answer, with_held}
+use Rattle.ll_room.specs.Kept.{with_answer, with_held}
 use Rattle.ll_room.proofs.IdleLemmas.{idle, same_slots}
 use Rattle.ll_room.proofs.KeptLemmas.{newest}
 use Rattle.ll_room.proofs.StandLemmas.{all_stay, stands-by}
@@ -37,11 +36,6 @@ abbrev with_reply : Home → Option Reply → Option Wanted → Home
 with_reply h (Some reply) a = with_answer h
 with_reply h None (Some a) = with_held h a
 with_reply h None None = with_answer h
-
--- what is answered is the reply at once
-pub answered : (h : Home) (es : List Event) (w : WantValue) (o : Option Reply) → answer_of h.settings (of h es) w ≡ o
-    → asked h w o ≡ asked h w (at_once h.settings (held h.settings es) es w)
-answered h es w o e = ap (asked h w) (sym e ∙ sym (at_once-is h.settings es w))
 
 -- the open requests of before, which are not due
 stay : (c : Configuration) (es : List Event) (w : WantValue) → 1 ≤ c.target
@@ -102,14 +96,6 @@ pub too_far : (c : Configuration) (s : State) (w : WantValue) (a : Wanted) → w
     → verdict.far c (own a.rendition s.items) a.awaited ≡ true → answer_of c s w ≡ Some now.TooFar
 too_far c s w a e t f = known c s w a false true (nat_le waiting_limit (waiting_in s.slots)) e t f refl
 
-pub busy : (c : Configuration) (s : State) (w : WantValue) (a : Wanted) → wanted_of c w ≡ Some a → is_there c s.items a ≡ false
-    → verdict.far c (own a.rendition s.items) a.awaited ≡ false → waiting_limit ≤ waiting_in s.slots → answer_of c s w ≡ Some now.Busy
-busy c s w a e t f many = known c s w a false false true e t f (grind (arith, nat_tests))
-
-pub waits : (c : Configuration) (s : State) (w : WantValue) (a : Wanted) → wanted_of c w ≡ Some a → is_there c s.items a ≡ false
-    → verdict.far c (own a.rendition s.items) a.awaited ≡ false → waiting_in s.slots < waiting_limit → answer_of c s w ≡ None
-waits c s w a e t f few = known c s w a false false false e t f (grind (arith, nat_tests))
-
 -- the page is that of the state
 pub page-is : (h : Home) (es : List Event) (a : Wanted) → Stands h es → page_now h a ≡ page_of h.settings (items h.settings es) a
 page-is h es a stands = ap (λ (x : Home). page_now x a) stands
@@ -156,12 +142,6 @@ newest-held h i new a e below is =
     ∙ ap (less (h.asks + 1)) (map-append ticket_in h.slots _)
     ∙ newest (h.asks + 1) h.slots (subst (λ (x : Home). AreBelow (x.asks + 1) x.slots) e below)
 
-pub few-waiting : (h : Home) (es : List Event) → Stands h es → waiting_in h.slots < waiting_limit → waiting_in (of h es).slots < waiting_limit
-few-waiting h es stands n = subst (λ (x : Home). waiting_in x.slots < waiting_limit) stands n
-
-pub many-waiting : (h : Home) (es : List Event) → Stands h es → waiting_limit ≤ waiting_in h.slots → waiting_limit ≤ waiting_in (of h es).slots
-many-waiting h es stands n = subst (λ (x : Home). waiting_limit ≤ waiting_in x.slots) stands n
-
 pub held-stands : (h new : Home) (es : List Event) (w : WantValue) (a : Wanted) → Stands h es → 1 ≤ h.settings.target → wanted_of h.settings w ≡ Some a
     → answer_of h.settings (of h es) w ≡ None → new ≡ with_held h a → Stands new (es ++ Ask w ∷ [])
 held-stands h new es w a stands low e none is = asked-stands h new es w None stands low none (is ∙ ap (with_reply h None) (sym e))
@@ -169,3 +149,6 @@ held-stands h new es w a stands low e none is = asked-stands h new es w None sta
 pub is-busy : (h i : Home) (es : List Event) (b : Bool) → Stands h es → i ≡ h → b ≡ nat_le waiting_limit (waiting_in i.slots)
     → nat_le waiting_limit (waiting_in (state_of h.settings es).slots) ≡ b
 is-busy h i es b stands e is = sym (is ∙ ap (λ (x : Home). nat_le waiting_limit (waiting_in x.slots)) (e ∙ stands))
+
+pub few-now : (h i : Home) (b : Bool) → i ≡ h → b ≡ nat_le waiting_limit (waiting_in i.slots) → b ≡ false → waiting_in h.slots < waiting_limit
+few-now h i b e is no_more = grind (arith, nat_tests, ap (λ (x : Home). nat_le waiting_limit (waiting_in x.slots)) e)

@@ -26,8 +26,8 @@ below-new a s [] h r = (h, tt)
 below-new a s (t ∷ ss) h r = (r.0, below-new a s ss h r.1)
 
 -- a request that is answered at once
-pub kept-answer : (h : Home) (shown : Option Moment) → h.events < event_end → IsKept h shown → IsKept (with_answer h) shown
-kept-answer h shown few k = record {
+pub kept-answer : (h : Home) (written : Option Moment) → h.events < event_end → IsKept h written → IsKept (with_answer h) written
+kept-answer h written few k = record {
   current = k.current;
   target = k.target;
   each = k.each;
@@ -40,10 +40,10 @@ kept-answer h shown few k = record {
 }
 
 -- a request that is held
-pub kept-held : (h : Home) (shown : Option Moment) (e : Entry) (ss : List Slot) → h.events < event_end → e.ticket ≡ h.asks + 1
-    → ss ≡ h.slots ++ (record { entry = e; settled = None }) ∷ [] → IsKept h shown
-    → IsKept (record h { asks = h.asks + 1; slots = ss; events = h.events + 1 }) shown
-kept-held h shown e ss few t is k =
+pub kept-held : (h : Home) (written : Option Moment) (e : Entry) (ss : List Slot) → h.events < event_end → e.ticket ≡ h.asks + 1
+    → ss ≡ h.slots ++ (record { entry = e; settled = None }) ∷ [] → IsKept h written
+    → IsKept (record h { asks = h.asks + 1; slots = ss; events = h.events + 1 }) written
+kept-held h written e ss few t is k =
     let many : length ss ≡ length h.slots + 1 = ap length is ∙ length-append h.slots ((record { entry = e; settled = None }) ∷ []) in record {
       current = k.current;
       target = k.target;
@@ -122,10 +122,10 @@ clock_counted : (events slots : ℕ) → events < 2 ^ 60 → slots ≤ events �
 clock_counted events slots h k = omega (arith, h, k)
 
 -- the clock
-pub clock-kept : (h : Home) (shown : Option Moment) (time : ℕ) (slots : List Slot) → IsKept h shown
+pub clock-kept : (h : Home) (written : Option Moment) (time : ℕ) (slots : List Slot) → IsKept h written
     → h.events < 2 ^ 60 → time ≤ 2 ^ 60 → slots ≡ map (expired time) h.slots
-    → IsKept (record h { time = time; slots = slots; events = h.events + 1 }) shown
-clock-kept h shown time slots k room early e =
+    → IsKept (record h { time = time; slots = slots; events = h.events + 1 }) written
+clock-kept h written time slots k room early e =
     let long : length slots ≡ length h.slots = ap length e ∙ long_expired time h.slots in
     record {
       current = k.current;
@@ -153,9 +153,9 @@ lost t (s ∷ ss) h = lost_by s (without t ss) ss (s.entry.ticket == t) (list_an
 abbrev with_left : Home → List Slot → Home
 with_left h slots = record h { slots = slots; events = h.events + 1 }
 
-pub leave-kept : (h : Home) (shown : Option Moment) (t : ℕ) (slots : List Slot) → IsKept h shown
-    → slots ≡ without t h.slots → list_any (has_ticket t) h.slots ≡ true → IsKept (with_left h slots) shown
-leave-kept h shown t slots k e there =
+pub leave-kept : (h : Home) (written : Option Moment) (t : ℕ) (slots : List Slot) → IsKept h written
+    → slots ≡ without t h.slots → list_any (has_ticket t) h.slots ≡ true → IsKept (with_left h slots) written
+leave-kept h written t slots k e there =
     let fewer : length slots < length h.slots = subst (λ ss. length ss < length h.slots) (sym e) (lost t h.slots there) in
     record {
       current = k.current;
@@ -170,5 +170,5 @@ leave-kept h shown t slots k e there =
     }
 
 -- where none leaves
-pub same-kept : (h : Home) (shown : Option Moment) (slots : List Slot) → IsKept h shown → slots ≡ h.slots → IsKept (record h { slots = slots }) shown
-same-kept h shown slots k e = subst (λ ss. IsKept (record h { slots = ss }) shown) (sym e) k
+pub same-kept : (h : Home) (written : Option Moment) (slots : List Slot) → IsKept h written → slots ≡ h.slots → IsKept (record h { slots = slots }) written
+same-kept h written slots k e = subst (λ ss. IsKept (record h { slots = ss }) written) (sym e) k

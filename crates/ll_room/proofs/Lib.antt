@@ -1,5 +1,6 @@
 pub mod AcceptLemmas
 pub mod AskLemmas
+pub mod DecideLemmas
 pub mod FreedLemmas
 pub mod IdleLemmas
 pub mod KeptLemmas
@@ -7,3 +8,4 @@ pub mod PublishLemmas
 pub mod SettleLemmas
 pub mod StandLemmas
 pub mod TicketLemmas
+pub mod WrittenLemmas

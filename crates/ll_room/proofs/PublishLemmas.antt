@@ -216,11 +216,11 @@ length_tickets : (ss : List Slot) → length (map ticket_in ss) ≡ length ss
 length_tickets [] = refl
 length_tickets (s ∷ ss) = ap suc (length_tickets ss)
 
-pub kept-item : (h : Home) (shown now : Option Moment) (kept : List Rendition) (ss : List Slot) (moment_now : Moment) → h.events < event_end → IsKept h shown
+pub kept-item : (h : Home) (written now : Option Moment) (kept : List Rendition) (ss : List Slot) (moment_now : Moment) → h.events < event_end → IsKept h written
     → length kept ≡ length h.renditions → map ticket_in ss ≡ map ticket_in h.slots → moment_now ≡ record { settings = h.settings; renditions = kept; count = h.count + 1 }
     → IsCurrent moment_now now
     → IsKept (record h { renditions = kept; count = h.count + 1; slots = ss; events = h.events + 1 }) now
-kept-item h shown now kept ss moment_now few k many same is current =
+kept-item h written now kept ss moment_now few k many same is current =
     let long : length ss ≡ length h.slots = sym (length_tickets ss) ∙ ap length same ∙ length_tickets h.slots in record {
       current = subst (λ m. IsCurrent m now) is current;
       target = k.target;
@@ -247,18 +247,18 @@ pub released-item : (h : Home) (i : Item) (first second : Option Release) (x : C
     → IsComing h first second x → changed h first second x ≡ with_item h x.renditions.items i
 released-item h i first second x both r is =
     let made : Moment = record { settings = h.settings; renditions = x.renditions.items; count = h.count + 1 } in
-    let pages_are : pages x ≡ new_pages h x.renditions.items i = ap₂ (λ m q. record { moment = m; rendition = q }) is.shown r in
+    let pages_are : pages x ≡ new_pages h x.renditions.items i = ap₂ (λ m q. record { moment = m; rendition = q }) is.written r in
     ap₂ (λ p q. item_on x.renditions.items (freed_slots p q h.slots) h) pages_are both
 
 -- the room that takes over what was made is kept true
-pub kept-change : (h : Home) (shown : Option Moment) (first second : Option Release) (x : Coming) (new final : List Slot) → h.events < event_end → IsKept h shown
+pub kept-change : (h : Home) (written : Option Moment) (first second : Option Release) (x : Coming) (new final : List Slot) → h.events < event_end → IsKept h written
     → AreApart (first, second) → IsComing h first second x → new ≡ released_with first x.first h.slots → final ≡ released_with second x.second new
-    → IsKept (item_on x.renditions.items final h) (Some x.shown)
-kept-change h shown first second x new final few k apart is e f =
+    → IsKept (item_on x.renditions.items final h) (Some x.written)
+kept-change h written first second x new final few k apart is e f =
     let slots : final ≡ freed_slots (pages x) (first, second) h.slots =
     f ∙ both-released (pages x) (first, second) h.slots new x.first x.second apart is.has_first is.has_second e in
-    kept-item h shown (Some x.shown) x.renditions.items final x.shown few k is.many (ap (map ticket_in) slots ∙ same-tickets (pages x) (first, second) h.slots)
-    is.shown refl
+    kept-item h written (Some x.written) x.renditions.items final x.written few k is.many (ap (map ticket_in) slots ∙ same-tickets (pages x) (first, second) h.slots)
+    is.written refl
 
 pub coming-of : (h now : Home) (first second : Option Release) (x : Coming) → h ≡ now → IsComing now first second x → IsComing h first second x
 coming-of h now first second x e is = subst (λ (r : Home). IsComing r first second x) (sym e) is

@@ -9,11 +9,11 @@ use Rattle.ll_room.specs.declared.publish.Coming.{Coming}
 
 -- the pages of the item's rendition
 abbrev pub pages : Coming → PagesOf
-pages x = record { moment = x.shown; rendition = x.rendition }
+pages x = record { moment = x.written; rendition = x.rendition }
 
 pub record IsComing (h : Home) (first second : Option Release) (x : Coming) : Type 0 where
   pub many : length x.renditions.items ≡ length h.renditions
-  pub shown : x.shown ≡ record { settings = h.settings; renditions = x.renditions.items; count = h.count + 1 }
+  pub written : x.written ≡ record { settings = h.settings; renditions = x.renditions.items; count = h.count + 1 }
   pub has_first : HasHolders (pages x) first h.slots x.first
   pub has_second : HasHolders (pages x) second h.slots x.second
 

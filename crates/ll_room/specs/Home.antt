@@ -2,6 +2,7 @@
 use Rattle.std.specs.Prelude.{◌≡◌, ℕ, List, [], ◌∷◌, Bool, false, filter, length, map, not, ◌==◌}
 use Rattle.std.specs.List.{list_any}
 use Rattle.ll_item.specs.Settings.{Configuration}
+use Rattle.ll_page.specs.Page.{Moment}
 use Rattle.ll_page.specs.View.{renditions}
 use Rattle.ll_page.specs.declared.rendition.Rendition.{Rendition}
 use Rattle.ll_verdict.specs.Waiting.{ticket_in}
@@ -38,6 +39,10 @@ home channel c s = record {
   slots = s.slots;
   events = s.events;
 }
+
+-- the channel at this moment
+abbrev pub moment : Home → Moment
+moment h = record { settings = h.settings; renditions = h.renditions; count = h.count }
 
 -- a room stands for these events of its channel
 abbrev pub Stands : Home → List Event → Type 0

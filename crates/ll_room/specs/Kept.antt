@@ -1,21 +1,17 @@
 -- For private contracts: what a room keeps true of itself.
 use Rattle.std.specs.Prelude.{◌≡◌, ◌≤◌, ◌+◌, ◌*◌, ◌^◌, ◌++◌, [], ◌∷◌, Option, Some, None, length}
-use Rattle.ll_page.specs.Page.{Moment, Paged, seen_of}
+use Rattle.ll_page.specs.Page.{Moment}
 use Rattle.ll_verdict.specs.Waiting.{AreBelow}
 use Rattle.ll_verdict.specs.declared.wanted.Wanted.{Wanted}
-use Rattle.ll_room.specs.Home.{Home}
+use Rattle.ll_room.specs.Home.{Home, moment}
 
--- the channel at this moment
-abbrev pub moment : Home → Moment
-moment h = record { settings = h.settings; renditions = h.renditions; count = h.count }
-
--- a shared copy, where one was made, is the channel as it is now
+-- what was written is of the channel as it is now
 abbrev pub IsCurrent : Moment → Option Moment → Type 0
 IsCurrent now None = Unit
-IsCurrent now (Some shown) = shown ≡ now
+IsCurrent now (Some written) = written ≡ now
 
-pub record IsKept (h : Home) (shown : Option Moment) : Type 0 where
-  pub current : IsCurrent (moment h) shown
+pub record IsKept (h : Home) (written : Option Moment) : Type 0 where
+  pub current : IsCurrent (moment h) written
   -- a request that waits is not due when it is made
   pub target : 1 ≤ h.settings.target
   pub each : length h.renditions ≡ length h.settings.renditions
@@ -26,10 +22,6 @@ pub record IsKept (h : Home) (shown : Option Moment) : Type 0 where
   pub few : length h.slots ≤ h.asks
   -- each open request can still be collected or closed
   pub counted : h.events + length h.slots ≤ 2 ^ 61
-
--- the playlist or delta update as it is now
-abbrev pub page_now : Home → Wanted → Paged
-page_now h a = record { seen = seen_of (moment h) a.rendition; form = a.form }
 
 -- one more request, which is answered at once
 abbrev pub with_answer : Home → Home

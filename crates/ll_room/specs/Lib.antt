@@ -1,8 +1,10 @@
 pub mod Answers
 pub mod Coming
+pub mod Decided
 pub mod Freed
 pub mod Full
 pub mod Home
 pub mod Kept
 pub mod Mark
 pub mod Ticket
+pub mod Written

@@ -6,19 +6,23 @@ ghost use Rattle.ll_verdict.specs.Outcome.{outcome_of};
 ghost use Rattle.ll_verdict.specs.State.{waiting_in};
 ghost use Rattle.ll_verdict.specs.Verdict.{at_once, held, waiting_limit, wanted_of};
 ghost use Rattle.ll_verdict.specs.Verdict as verdict;
+ghost use Rattle.ll_directive.specs.Targets.{WantValue};
 ghost use Rattle.ll_room.specs.Answers.{asked, new_tickets, others};
+ghost use Rattle.ll_room.specs.Decided.{IsDecided, IsDecidedOfOne, page_now};
 ghost use Rattle.ll_verdict.specs.Full.{event_end};
 ghost use Rattle.ll_room.specs.Home.{IsSame, Stands, tickets};
-ghost use Rattle.ll_room.specs.Kept.{page_now, with_answer, with_held};
+ghost use Rattle.ll_room.specs.Kept.{with_answer, with_held};
 
 use crate::asked::Asked;
+use crate::decision::Decision;
 use crate::fault::AskFault;
 use crate::parked::Parked;
 use crate::room::{EVENT_END, Room};
 use crate::stamped::{Stamp, Stamped};
+use crate::written::Written;
 use ll_book::ParkFault;
 use ll_directive::{Skip, Want};
-use ll_page::{Form, Page, SkipKind};
+use ll_page::{Form, Page, Shown, SkipKind};
 use ll_rendition::{is_far, is_there};
 use ll_verdict::{Entry, Outcome, Reply, Wanted};
 use std::alloc::AllocError;
@@ -49,42 +53,75 @@ impl Room {
         if self.events >= EVENT_END {
             return Err(AskFault::RecordFull);
         }
-        let Some(wanted) = self.wanted(&want) else {
-            return Ok(self.answer(want, Reply::NotFound));
+        let decision = self.decide(&want);
+        Ok(self.ask_decided(want, decision)?)
+    }
+
+    /// What comes of a request, were it made now. It takes no memory.
+    pub fn decide(&self, want: &Want) -> Decision
+        ensures { IsDecided self.now want.now result }
+    {
+        // (so that it is known that there are as many renditions as names)
+        let _ = &self.renditions;
+        let Some(wanted) = self.wanted(want) else {
+            return Decision::NotFound;
         };
         if self.is_there(&wanted) {
-            let page = self.page(&wanted)?;
-            return Ok(self.answer(want, Reply::Text(page)));
+            return Decision::There(wanted);
         }
         if self.is_far(&wanted) {
-            return Ok(self.answer(want, Reply::TooFar));
+            return Decision::TooFar;
         }
-        match self.hold(wanted) {
-            Ok(parked) => Ok(Asked::Held(parked)),
-            Err(ParkFault::Busy) => Ok(self.answer(want, Reply::Busy)),
-            Err(ParkFault::Memory) => Err(AskFault::Memory),
+        if self.book.is_busy() {
+            return Decision::Busy;
+        }
+        Decision::Waits(wanted)
+    }
+
+    /// Makes a request of which this was decided, as [`Room::decide`] does. It fails only where no memory is found, and then changes nothing.
+    pub fn ask_decided(&mut self, want: Want, decision: Decision) -> Result<Asked, AllocError>
+        requires few { self.old.events < event_end }
+        requires decided { IsDecided self.old want decision }
+        ensures answer { (events : List Event) → Stands self.old events
+            → IfOk result (λ a. a ≡ asked self.old want (at_once self.old.settings (held self.old.settings events) events want)) }
+        ensures asked { (events : List Event) → Stands self.old events → OnOk result (Stands self.new (events ++ Ask want ∷ [])) }
+        ensures opened { IfOk result (λ a. tickets self.new ≡ tickets self.old ++ new_tickets a) }
+        ensures newest { IfOk result (λ a. others a (tickets self.new) ≡ tickets self.old) }
+        ensures same { IsSame self.old self.new }
+        ensures unchanged { OnErr result (self.new ≡ self.old) }
+    {
+        // (so that it is known that a request waits for some time)
+        let _ = &self.settings;
+        match decision {
+            Decision::NotFound => Ok(self.answer(want, Reply::NotFound)),
+            Decision::There(wanted) => {
+                let page = self.page(&wanted)?;
+                Ok(self.answer(want, Reply::Text(page)))
+            }
+            Decision::TooFar => Ok(self.answer(want, Reply::TooFar)),
+            Decision::Busy => Ok(self.answer(want, Reply::Busy)),
+            Decision::Waits(wanted) => Ok(Asked::Held(self.hold(wanted)?)),
         }
     }
 
-    /// What the reply to a request comes to, were it made now; none where it would be held. It takes no memory.
-    pub fn outcome(&self, want: &Want) -> Option<Outcome>
-        ensures { (events : List Event) → Stands self.now events
-            → result ≡ option_map outcome_of (at_once self.now.settings (held self.now.settings events) events want.now) }
+    /// Makes a request of which this was decided, and gives no reply: no playlist is written. It fails only where no memory is found, and then
+    /// changes nothing.
+    pub(crate) fn pass(&mut self, decision: Decision) -> Result<(), AllocError>
+        requires few { self.old.events < event_end }
+        requires decided { IsDecidedOfOne self.old decision }
+        ensures asked { (events : List Event) (want : WantValue) → IsDecided self.old want decision → Stands self.old events
+            → OnOk result (Stands self.new (events ++ Ask want ∷ [])) }
+        ensures same { IsSame self.old self.new }
+        ensures unchanged { OnErr result (self.new ≡ self.old) }
     {
-        let now = Outcome::Text(self.count);
-        let Some(wanted) = self.wanted(want) else {
-            return Some(Outcome::NotFound);
-        };
-        if self.is_there(&wanted) {
-            return Some(now);
+        // (so that it is known that a request waits for some time)
+        let _ = &self.settings;
+        if let Decision::Waits(wanted) = decision {
+            self.hold(wanted)?.spend();
+        } else {
+            self.count_ask();
         }
-        if self.is_far(&wanted) {
-            return Some(Outcome::TooFar);
-        }
-        if self.book.is_busy() {
-            return Some(Outcome::Busy);
-        }
-        None
+        Ok(())
     }
 
     /// What a request asks of a rendition, where the channel has one of that name.
@@ -117,15 +154,21 @@ impl Room {
         is_far(&self.renditions[wanted.rendition].window, wanted.awaited)
     }
 
-    /// The playlist or delta update as it is now.
+    /// The playlist or delta update as it is now. It is kept until the next item, so that whoever asks for it until then shares it.
     fn page(&mut self, wanted: &Wanted) -> Result<Page, AllocError>
         requires { wanted.now.rendition < length self.old.renditions }
         ensures page { IfOk result (λ p. p ≡ page_now self.old wanted.now) }
         ensures unchanged { self.new ≡ self.old }
     {
-        let shown = self.shown()?;
-        let page = Page::make(self.alloc, &shown, wanted.rendition, wanted.form)?;
-        Ok(page.unwrap())
+        let (rendition, form) = (wanted.rendition, wanted.form);
+        if let Some(written) = &mut self.written {
+            return written.page(self.alloc, rendition, form);
+        }
+        let shown = Shown::of(self.alloc, &self.settings, &self.renditions, self.count)?;
+        let mut written = Written::new(self.alloc, shown);
+        let page = written.page(self.alloc, rendition, form)?;
+        self.written = Some(written);
+        Ok(page)
     }
 
     /// Counts a request that is answered at once.
@@ -134,26 +177,39 @@ impl Room {
         ensures answer { result ≡ asked self.old want (Some reply) }
         ensures counted { self.new ≡ with_answer self.old }
     {
-        self.asks += 1;
-        self.events += 1;
+        self.count_ask();
         Asked::Now(Stamped::new(self.channel, Stamp::Ask(self.asks, want), reply))
     }
 
-    /// Holds a request, and counts it.
-    fn hold(&mut self, wanted: Wanted) -> Result<Parked, ParkFault>
+    /// Counts a request that isn't held.
+    fn count_ask(&mut self)
         requires { self.old.events < event_end }
+        ensures { self.new ≡ with_answer self.old }
+    {
+        self.asks += 1;
+        self.events += 1;
+    }
+
+    /// Holds a request, where fewer wait than may, and counts it.
+    fn hold(&mut self, wanted: Wanted) -> Result<Parked, AllocError>
+        requires few { self.old.events < event_end }
+        requires free { waiting_in self.old.slots < waiting_limit }
         ensures parked { IfOk result (λ p. p ≡ record { channel = self.old.channel; ticket = self.old.asks + 1 }) }
-        ensures held { OnOk result ((waiting_in self.old.slots < waiting_limit) × (self.new ≡ with_held self.old wanted)) }
-        ensures busy { IsErrOf result ParkFault.Busy → waiting_limit ≤ waiting_in self.old.slots }
+        ensures held { OnOk result (self.new ≡ with_held self.old wanted) }
         ensures unchanged { OnErr result (self.new ≡ self.old) }
     {
         let ticket = self.asks + 1;
-        self.book.park(Entry {
+        let entry = Entry {
             ticket,
             wanted,
             seen: self.count,
             deadline: self.time + WAIT * self.settings.target(),
-        })?;
+        };
+        match self.book.park(entry) {
+            Ok(()) => {}
+            Err(ParkFault::Busy) => unreachable!(),
+            Err(ParkFault::Memory) => return Err(AllocError),
+        }
         self.asks = ticket;
         self.events += 1;
         Ok(Parked::new(self.channel, ticket))

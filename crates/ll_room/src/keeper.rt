@@ -4,12 +4,15 @@ ghost use Rattle.ll_verdict.specs.Waiting.{reply_at};
 ghost use Rattle.ll_verdict.specs.Events.{Event, Ask, Clock, Close, Collect, Publish};
 ghost use Rattle.ll_verdict.specs.State.{state_of};
 ghost use Rattle.ll_verdict.specs.Verdict.{at_once, held};
+ghost use Rattle.ll_directive.specs.Targets.{WantValue};
 ghost use Rattle.ll_room.specs.Answers.{asked, collected_at, is_open, now_in};
+ghost use Rattle.ll_room.specs.Decided.{IsDecided, IsDecidedOfOne};
 ghost use Rattle.ll_verdict.specs.Full.{event_end, refusal_after};
 ghost use Rattle.ll_room.specs.Home.{Stands, home};
 ghost use Rattle.ll_room.specs.declared.stamped.Stamp.TheVariants as stamp;
 
 use crate::asked::{Asked, Closed, Collected};
+use crate::decision::Decision;
 use crate::fault::{AskFault, ClockFault};
 use crate::parked::Parked;
 use crate::room::Room;
@@ -79,6 +82,19 @@ impl Keeper {
     {
         let asked = self.room.ask(want)?;
         Ok(given(asked))
+    }
+
+    /// Makes a request of which [`Room::decide`] decided this, and gives no reply: no playlist is written. It fails only where no memory is
+    /// found.
+    pub fn pass(&mut self, decision: Decision) -> Result<(), AllocError>
+        requires few { self.old.events < event_end }
+        requires decided { IsDecidedOfOne self.old decision }
+        ensures asked { (events : List Event) (want : WantValue) → IsDecided self.old want decision → Stands self.old events
+            → OnOk result (Stands self.new (events ++ Ask want ∷ [])) }
+        ensures settings { self.new.settings ≡ self.old.settings }
+        ensures unchanged { OnErr result (self.new ≡ self.old) }
+    {
+        self.room.pass(decision)
     }
 
     /// Hands out the reply to the request of this number, where it is there; the request is then no longer open. It takes no memory.

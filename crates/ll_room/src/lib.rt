@@ -4,6 +4,7 @@
 
 mod ask;
 mod asked;
+mod decision;
 mod fault;
 mod keeper;
 mod laws;
@@ -12,8 +13,10 @@ mod publish;
 mod room;
 mod settle;
 mod stamped;
+mod written;
 
 pub use asked::{Asked, Closed, Collected};
+pub use decision::Decision;
 pub use fault::{AskFault, ClockFault};
 pub use keeper::Keeper;
 pub use laws::event_limit_law;

@@ -14,6 +14,7 @@ ghost use Rattle.ll_room.specs.declared.stamped.Stamp.TheVariants as stamp;
 
 use crate::room::{EVENT_END, Room};
 use crate::stamped::{Stamp, Stamped};
+use crate::written::Written;
 use ll_book::{Holders, Pages, Release};
 use ll_item::Item;
 use ll_page::{Rendition, Shown};
@@ -117,7 +118,7 @@ impl Room {
         ensures unchanged { OnErr result (self.new ≡ self.old) }
     {
         accept_at(&mut self.renditions, item)?;
-        self.shown = None;
+        self.written = None;
         self.count += 1;
         self.events += 1;
         Ok(())
@@ -158,10 +159,12 @@ impl Room {
         let mut pages = Pages::new(shown.again()?, rendition).unwrap();
         let first = holders(&self.book, self.alloc, first, &mut pages)?;
         let second = holders(&self.book, self.alloc, second, &mut pages)?;
+        let mut written = Written::new(self.alloc, shown);
+        written.add(pages)?;
         Ok(Coming {
             rendition,
             renditions,
-            shown,
+            written,
             first,
             second,
         })
@@ -188,7 +191,7 @@ impl Room {
         ensures { self.new ≡ changed self.old first second coming }
     {
         self.renditions = coming.renditions;
-        self.shown = Some(coming.shown);
+        self.written = Some(coming.written);
         self.count += 1;
         self.events += 1;
         release(&mut self.book, first, coming.first);
@@ -203,8 +206,8 @@ struct Coming {
     rendition: usize,
     /// What will be kept of each rendition.
     renditions: Vec<Rendition>,
-    /// The channel with the item.
-    shown: Shown,
+    /// The channel with the item, and the playlists that its releases need.
+    written: Written,
     /// The holders of the first release.
     first: Option<Holders>,
     /// The holders of the second release.

@@ -6,11 +6,11 @@ ghost use Rattle.ll_verdict.specs.State.{state_of};
 ghost use Rattle.ll_room.specs.Answers.{is_open};
 ghost use Rattle.ll_verdict.specs.Full.{is_full};
 ghost use Rattle.ll_room.specs.Home.{home};
-ghost use Rattle.ll_room.specs.Kept.{moment};
 
+use crate::written::Written;
 use ll_book::Book;
 use ll_item::Settings;
-use ll_page::{Rendition, Shown};
+use ll_page::Rendition;
 use ll_range::Ranges;
 use ll_verdict::Entry;
 use ll_window::Window;
@@ -28,8 +28,8 @@ pub struct Room {
     pub(crate) channel: u64,
     pub(crate) settings: Settings,
     pub(crate) renditions: Vec<Rendition>,
-    /// A copy of the settings and renditions as they are now, once one was made.
-    pub(crate) shown: Option<Shown>,
+    /// The channel as it is now, and its playlists that were written, since one was asked for.
+    pub(crate) written: Option<Written>,
     pub(crate) count: u64,
     pub(crate) time: u64,
     pub(crate) asks: u64,
@@ -63,7 +63,7 @@ impl Model for Room {
       asks = r.asks;
       slots = r.book;
       events = r.events;
-    }) r.shown };
+    }) r.written };
 }
 
 impl Room {
@@ -79,7 +79,7 @@ impl Room {
             channel,
             settings,
             renditions,
-            shown: None,
+            written: None,
             count: 0,
             time: 0,
             asks: 0,
@@ -174,19 +174,6 @@ impl Room {
         ensures { result ≡ is_open self.now ticket }
     {
         self.book.find(ticket).is_some()
-    }
-
-    /// The channel as it is now, as one copy that any number of pages share. It fails only where no memory is found.
-    pub(crate) fn shown(&mut self) -> Result<Shown, AllocError>
-        ensures shown { IfOk result (λ s. s ≡ moment self.old) }
-        ensures unchanged { self.new ≡ self.old }
-    {
-        if let Some(shown) = &self.shown {
-            return shown.again();
-        }
-        let shown = Shown::of(self.alloc, &self.settings, &self.renditions, self.count)?;
-        self.shown = Some(shown.again()?);
-        Ok(shown)
     }
 }
 

@@ -5,49 +5,60 @@ use Rattle.ll_entry.specs.declared.entry.Recorded.{Recorded}
 use Rattle.ll_entry.specs.declared.entry.Recorded.TheVariants as recorded
 use Rattle.ll_item.specs.Settings.{limit_broken}
 use Rattle.ll_record_laws.specs.Leads.{with_end}
+use Rattle.std.specs.Prelude.{option_map}
 use Rattle.ll_room.specs.Answers.{new_tickets}
+use Rattle.ll_room.specs.Home.{Stands}
 use Rattle.ll_verdict.specs.Events.{Event, Ask}
+use Rattle.ll_verdict.specs.Outcome.{outcome_of}
+use Rattle.ll_verdict.specs.Verdict.{at_once, held}
 use Rattle.ll_record.proofs.Spare.{one-new, spare-left-more, spare-more}
 use Rattle.ll_record.proofs.Steps.{IsTold, ask-step, kept-after}
 use Rattle.ll_record.specs.Recording.{IsRecorded, Recording, of_channel}
 use Rattle.ll_record.specs.contracts.recorder.Recorder.{the_view}
 use Rattle.ll_record.proofs.recorder.Recorder.ask.Goals as goal
+use Rattle.ll_record.proofs.recorder.Recorder.ask.Goals.{After-drop-line}
 
-abbrev after : goal.After-drop-line → Recording
-after c = record { room = c.ask.new.self; at = c.self.inside.at; lines = c.put.new.self.lines; calls = c.self.inside.calls + 1 }
+abbrev after : After-drop-line → Recording
+after c = record { room = c.ask_decided.new.self; at = c.self.inside.at; lines = c.put.new.self.lines; calls = c.self.inside.calls + 1 }
 
-abbrev entry : goal.After-drop-line → Recorded
+abbrev entry : After-drop-line → Recorded
 entry c = recorded.Ask (c.self.inside.room.asks + 1) (of_channel c.self.inside.room.settings c.args.want) c.outcome-outcome.result
 
-line-is : (c : goal.After-drop-line) → c.as_str.result.now ≡ entry_line c.self.inside.room.settings (entry c)
+line-is : (c : After-drop-line) → c.as_str.result.now ≡ entry_line c.self.inside.room.settings (entry c)
 line-is c = c.as_str.ensures.value ∙ c.in-Ok.ensures.text c.self.inside.room.settings
 
-told : (c : goal.After-drop-line) → IsTold (the_view c.self.inside) (after c) (entry c)
+told : (c : After-drop-line) → IsTold (the_view c.self.inside) (after c) (entry c)
 told c = record {
   within = subst (λ s. limit_broken s ≡ None) c.settings.ensures c.within_limits.ensures;
   utf8 = subst (λ t. is_utf8 t ≡ true) (line-is c) c.put.ensures.text;
   next = record {
-    room = c.ask.ensures.same;
+    room = c.ask_decided.ensures.same;
     at = refl;
     lines = c.put.ensures.lines ∙ ap₂ (λ lines line. lines ++ with_end line) c.request_line.ensures.lines (line-is c);
     calls = refl;
   };
 }
 
-next : (c : goal.After-drop-line) (events : List Event) → IsRecorded (the_view c.self.inside) events
+-- what is written is what comes of the request
+outcome-is : (c : After-drop-line) (events : List Event) → Stands c.self.inside.room events
+    → c.outcome-outcome.result ≡ option_map outcome_of (at_once c.self.inside.room.settings (held c.self.inside.room.settings events) events c.args.want)
+outcome-is c events stands =
+    c.outcome-outcome.ensures c.self.inside.room (sym c.count.ensures) ∙ ap (option_map outcome_of) (sym (c.decide-decision.ensures.reply events stands))
+
+next : (c : After-drop-line) (events : List Event) → IsRecorded (the_view c.self.inside) events
     → IsRecorded (after c) (events ++ Ask (of_channel c.self.inside.room.settings c.args.want) ∷ [])
 next c =
     ask-step (the_view c.self.inside) (after c) c.args.want c.outcome-outcome.result (told c) (sym c.is_full.ensures ∙ c.if-is_full.false)
-    (c.in-Ok.ensures.spelled c.self.inside.room.settings) c.outcome-outcome.ensures c.in-Ok-ask.ensures.asked
+    (c.in-Ok.ensures.spelled c.self.inside.room.settings) (outcome-is c) c.in-Ok-ask_decided.ensures.asked
 
-pub invariant_of-self-in-Ok-ask : goal.invariant_of-self-in-Ok-ask
-invariant_of-self-in-Ok-ask c =
+pub invariant_of-self-in-Ok-ask_decided : goal.invariant_of-self-in-Ok-ask_decided
+invariant_of-self-in-Ok-ask_decided c =
     kept-after (the_view c.self.inside) (after c) (Ask (of_channel c.self.inside.room.settings c.args.want)) c.self.inside.lines.free c.put.new.self.free c.self.invariant (next c)
-    (spare-more c.self.inside.room c.ask.new.self (new_tickets c.in-Ok-ask.asked) c.put.new.self.free c.in-Ok-ask.ensures.opened (one-new c.in-Ok-ask.asked)
+    (spare-more c.self.inside.room c.ask_decided.new.self (new_tickets c.in-Ok-ask_decided.asked) c.put.new.self.free c.in-Ok-ask_decided.ensures.opened (one-new c.in-Ok-ask_decided.asked)
     (spare-left-more (length c.self.inside.room.slots) (length (string_bytes c.in-Ok.line)) (length c.as_str.result.now) (length c.self.inside.room.slots) c.request_line.new.lines.free c.put.new.self.free
     (ap length (sym c.as_str.ensures.value)) refl c.in-Ok.ensures.free c.put.ensures.free))
 
-pub returns-in-Ok-ask-clause-asked : goal.returns-in-Ok-ask-clause-asked
-returns-in-Ok-ask-clause-asked c =
+pub returns-in-Ok-ask_decided-clause-asked : goal.returns-in-Ok-ask_decided-clause-asked
+returns-in-Ok-ask_decided-clause-asked c =
     subst (λ (x : Recording). (events : List Event) → IsRecorded x events → IsRecorded (after c) (events ++ Ask (of_channel x.room.settings c.args.want) ∷ []))
     c.self.view_is (next c)

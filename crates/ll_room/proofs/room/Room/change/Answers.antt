@@ -24,7 +24,7 @@ release-requires-2 c =
 pub invariant_of-self : goal.invariant_of-self
 invariant_of-self c =
     let h = the_view c.self.inside in
-    kept-change h c.self.inside.shown c.args.first c.args.second c.args.coming c.release.new.book c.release-2.new.book
+    kept-change h c.self.inside.written c.args.first c.args.second c.args.coming c.release.new.book c.release-2.new.book
     (few-events h c.args.self.now c.self.view_is c.requires.few) c.self.invariant c.requires.apart
     (coming-of h c.args.self.now c.args.first c.args.second c.args.coming c.self.view_is c.requires.coming) c.release.ensures c.release-2.ensures
 
