@@ -1,8 +1,9 @@
 #!/usr/bin/env bash
 # check.sh [ENTRIES..]: checks records of so many entries (100,000 and 1,000,000 where none are given; at least 40), in which each part of
-# a second is awaited by two players, one of whom asks for a delta update, and asked for by a third who waits for nothing. For each number it
-# prints the entries and the bytes per second of `llhls check`, and the ratio to the first number's; then the peak memory, and the memory
-# that a byte of the record takes. Times are the median of RUNS runs (9 where it isn't set). It judges nothing.
+# a second is awaited by two players, one of whom asks for a delta update, and asked for by a third who waits for nothing; then records of ten times
+# as many entries that are requests for the playlist as it is, after ten segments. For each number it prints the entries and the bytes per second of
+# `llhls check`, and the ratio to the first number's; then the peak memory, and the memory that a byte of the record takes. Times are the median of
+# RUNS runs (9 where it isn't set). It judges nothing.
 set -eu
 here=$(cd "$(dirname "${BASH_SOURCE[0]}")" && pwd)
 program=$("$here/../tests/program.sh")
@@ -47,9 +48,24 @@ make() {
         }'
 }
 
+# make_plain ENTRIES: makes a record of ten segments, and so many requests for the playlist as it is, in one chunk.
+make_plain() {
+    awk -v entries="$1" 'BEGIN {
+        print "#LLHLS-CHUNK 1"
+        print "channel cam target=4 part=1000000 skip=24 window=36 renditions=hi first=0 start=0"
+        print "at 0"
+        for (part = 0; part < 40; part++) print "P part hi 1000000 " (part % 4 == 0 ? "i" : part % 4 == 3 ? "f" : "-")
+        for (ask = 1; ask <= entries; ask++) print "A " ask " hi - - - text 40"
+        print "#END"
+        print entries + 40 >"/dev/stderr"
+    }'
+}
+
+# measure MAKE ENTRIES: makes a record, checks it again and again, and prints what that takes.
 first=
-for entries in "$@"; do
-    make "$entries" >"$room/record" 2>"$room/made"
+measure() {
+    local made run bytes median peak
+    "$1" "$2" >"$room/record" 2>"$room/made"
     made=$(<"$room/made")
     rm -f "$room/measured"
     for ((run = 0; run < runs; run++)); do
@@ -69,4 +85,13 @@ for entries in "$@"; do
             printf "%d entries, %d bytes: %.0f entries/s, %.0f bytes/s, ratio %.2f; ", made, bytes, made * 1e6 / median, bytes * 1e6 / median, (made / median) / (of[1] / of[2])
             printf "peak %d KiB: %.1f bytes a byte\n", peak, peak * 1024 / bytes
         }'
+}
+
+for entries in "$@"; do
+    measure make "$entries"
+done
+echo 'requests for the playlist as it is:'
+first=
+for entries in "$@"; do
+    measure make_plain $((10 * entries))
 done
