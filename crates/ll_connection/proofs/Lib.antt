@@ -1,3 +1,4 @@
+pub mod CountLemmas
 pub mod CutLemmas
 pub mod MetLemmas
 pub mod OpenLemmas

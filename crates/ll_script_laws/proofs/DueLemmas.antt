@@ -4,7 +4,8 @@ use Rattle.ll_connection.specs.Met.{waiting_of, wants_out}
 use Rattle.ll_connection.specs.Turn as connection
 use Rattle.ll_connection.specs.Turn.{Connections, Turn, bytes, end, session_of}
 use Rattle.ll_connection.specs.Visit.{Luck}
-use Rattle.ll_connection.proofs.MetLemmas.{AreMet, HasOut, bytes-met, count-less, count-more, end-met, few_out, has_out, is_its_own, own_ticket, reply-met}
+use Rattle.ll_connection.proofs.CountLemmas.{count-less, count-more, is_its_own, own_ticket}
+use Rattle.ll_connection.proofs.MetLemmas.{AreMet, HasOut, bytes-met, end-met, few_out, has_out, reply-met}
 use Rattle.ll_session.specs.Talk.{SessionValue}
 use Rattle.ll_held.specs.Waits.{is_of, is_same, under, wait_of, without}
 use Rattle.ll_held.specs.declared.owner.Owner.{Owner}
