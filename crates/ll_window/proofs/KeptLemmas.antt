@@ -1,5 +1,5 @@
 -- A window as it is kept, one part more.
-use Rattle.std.proofs.Common.{◌≡◌, ℕ, ◌+◌, ◌*◌, ◌≤◌, List, [], ◌∷◌, ◌++◌, Bool, true, false, cond, length, ◌==◌, None, nat_le, refl, ap, ap₂, sym, subst, ◌∙◌, arith}
+use Rattle.std.proofs.Common.{◌≡◌, ℕ, ◌+◌, ◌*◌, ◌^◌, ◌≤◌, List, [], ◌∷◌, ◌++◌, Bool, true, false, cond, length, ◌==◌, ◌<◌, None, nat_le, nat_lt, refl, ap, ap₂, sym, subst, ◌∙◌, arith}
 use Rattle.std.proofs.lemmas.Bool.Decides.{nat_tests}
 use Rattle.ll_attr.specs.YearEnd.{last_micro}
 use Rattle.ll_item.specs.Settings.{Configuration, number_end}
@@ -9,21 +9,23 @@ use Rattle.ll_window.specs.declared.place.Place.{Place}
 use Rattle.ll_window.specs.declared.progress.Progress.{Progress}
 use Rattle.ll_window.specs.declared.segment.Segment.{Segment}
 use Rattle.ll_window.specs.Compact.{Compact}
+use Rattle.ll_window.specs.Hidden.{AreHidden}
 use Rattle.ll_window.specs.Kept.{AreTimed, IsKept, grown, after, spare}
 use Rattle.ll_window.specs.Refusal.{part_refusal}
 use Rattle.ll_window.specs.Rows.{Row, row, one_if, is_broken, lasting, broken_in}
 use Rattle.ll_window.specs.Segments.{duration}
-use Rattle.ll_window.specs.Step.{with_open, with_part_by, after_segment, with_end, next_place}
+use Rattle.ll_window.specs.Step.{after_segment, grown_by, joined, next_place, relisted, with_end, with_part_by}
 use Rattle.ll_window.specs.Window.{window_limit, near_limit, gone, window, listed}
-use Rattle.ll_window.proofs.StepLemmas.{duration-snoc, again}
+use Rattle.ll_window.proofs.HideLemmas.{near-within}
+use Rattle.ll_window.proofs.StepLemmas.{duration-snoc}
 use Rattle.ll_window.proofs.SuffixLemmas.{suffix}
-use Rattle.ll_window.proofs.WindowLemmas.{lasting-append, broken-append, lasting-cons, broken-cons, listed-window-again, gone-window-again}
+use Rattle.ll_window.proofs.WindowLemmas.{broken-append, broken-cons, broken-listed, gone-window-again, lasting-append, lasting-cons, lasting-listed, listed-window-again, shown-segment}
 
 -- the value of a window that keeps these
-abbrev pub told : Configuration → List Row → ℕ → List Part → ℕ → Progress → Compact
-told c rs lasts ps left p = record {
+abbrev pub told : Configuration → List Row → List Part → ℕ → Progress → Compact
+told c rs ps left p = record {
   settings = c;
-  window = listed (near_limit c) lasts rs;
+  window = rs;
   open_parts = ps;
   next_number = p.next_number;
   maps = p.maps;
@@ -36,40 +38,40 @@ told c rs lasts ps left p = record {
 }
 
 abbrev pub kept : Configuration → Finished → List Part → Progress → Compact
-kept c f ps p = told c f.rows.items p.open_duration ps f.discontinuity p
+kept c f ps p = told c f.rows.items ps f.discontinuity p
 
 -- one more part of the open segment
 pub told_open : (c : Configuration) (f : Finished) (ps qs : List Part) (p q : Progress) (part : Part) (place : Place) (k : Compact) → kept c f ps p ≡ k
-    → p.open_duration ≡ duration ps → place ≡ next_place k → qs ≡ ps ++ part ∷ [] → q ≡ grown p part.duration place
-    → kept c f qs q ≡ with_open k part
-told_open c f ps qs p q part place k is lasts here more grows =
-    let d = duration-snoc ps part in
-    let all = ps ++ part ∷ [] in
-    ap₂ (λ xs x. kept c f xs x) more (grows ∙ ap (grown p part.duration) (here ∙ ap next_place (sym is)))
-    ∙ ap (λ n. told c f.rows.items n all f.discontinuity (grown p part.duration (next_place (kept c f ps p)))) (omega (arith, d, lasts))
-    ∙ ap (λ v. record (with_open (kept c f ps p) part) { window = v }) (again (near_limit c) p.open_duration (duration all) f.rows.items (omega (arith, d, lasts)))
-    ∙ ap (λ x. with_open x part) is
+    → place ≡ next_place k → qs ≡ ps ++ part ∷ [] → q ≡ grown p part.duration place → kept c f qs q ≡ grown_by k part
+told_open c f ps qs p q part place k is here more grows =
+    ap₂ (λ xs x. kept c f xs x) more (grows ∙ ap (grown p part.duration) (here ∙ ap next_place (sym is))) ∙ ap (λ x. grown_by x part) is
 
 -- the open segment with these parts
 abbrev closing : List Part → Progress → Row
 closing qs q = row q.next_number q.maps q.open_time qs
 
--- the open segment is finished
-closed_with : (c : Configuration) (w : ℕ) (f g : Finished) (qs os : List Part) (q : Progress) (s : Segment) → w ≡ c.window → q.open_duration ≡ duration qs
+-- the open segment is one of the window
+closed_with : (c : Configuration) (w : ℕ) (f g : Finished) (qs os : List Part) (q : Progress) (s : Segment) → w ≡ c.window
     → os ≡ [] → s ≡ (closing qs q).segment → g.rows.items ≡ window (w * 1000000) (f.rows.items ++ closing qs q ∷ [])
     → g.discontinuity ≡ f.discontinuity + broken_in (gone (w * 1000000) (f.rows.items ++ closing qs q ∷ []))
-    → kept c g os (after q s) ≡ after_segment (kept c f qs q)
-closed_with c w f g qs os q s wide lasts none same items left =
+    → kept c g os (after q s) ≡ joined (kept c f qs q)
+closed_with c w f g qs os q s wide none same items left =
     let r = closing qs q in
-    let e = lasting-cons r [] in
-    let least = window_limit c in
-    let near = near_limit c in
-    ap₂ (λ xs x. told c g.rows.items 0 xs g.discontinuity (after q x)) none same
-    ∙ ap₂ (λ rs n. told c rs 0 [] n (after q r.segment))
+    ap₂ (λ xs x. told c g.rows.items xs g.discontinuity (after q x)) none same
+    ∙ ap₂ (λ rs n. told c rs [] n (after q r.segment))
     (items ∙ ap (λ v. window (v * 1000000) (f.rows.items ++ r ∷ [])) wide)
-    (left ∙ ap (λ v. f.discontinuity + broken_in (gone (v * 1000000) (f.rows.items ++ r ∷ []))) wide
-    ∙ ap (λ n. f.discontinuity + n) (gone-window-again least near q.open_duration f.rows.items r (omega (arith, e, lasts))))
-    ∙ ap (λ v. record (after_segment (kept c f qs q)) { window = v }) (listed-window-again least near q.open_duration f.rows.items r (omega (arith, e, lasts)))
+    (left ∙ ap (λ v. f.discontinuity + broken_in (gone (v * 1000000) (f.rows.items ++ r ∷ []))) wide)
+
+-- what was listed before it was finished makes no difference
+finished_again : (k : Compact) → after_segment k ≡ after_segment (relisted k)
+finished_again k =
+    let r = row k.next_number k.maps k.open_time k.open_parts in
+    let e = lasting-cons r [] in
+    let least = window_limit k.settings in
+    let near = near_limit k.settings in
+    ap₂ (λ v n. record (after_segment k) { window = v; discontinuity = k.discontinuity + n })
+    (listed-window-again least near (duration k.open_parts) k.window r (omega (arith, e)))
+    (gone-window-again least near (duration k.open_parts) k.window r (omega (arith, e)))
 
 abbrev pub ending : Progress → Progress
 ending p = record p { ended = true }
@@ -100,6 +102,15 @@ timed-window : (least time : ℕ) (rs : List Row) → AreTimed rs time → AreTi
 timed-window least time [] h = tt
 timed-window least time (r ∷ rs) h = timed_by least time r rs (nat_le least (lasting rs)) h (timed-window least time rs h.1)
 
+timed-listed : (near tail time : ℕ) (rs : List Row) → AreTimed rs time → AreTimed (listed near tail rs) time
+timed-listed near tail time [] h = tt
+timed-listed near tail time (r ∷ rs) h =
+    let b = nat_lt (lasting rs + tail) near in
+    let e = ap (λ s. s.time) (shown-segment b r) in
+    let f = ap (λ s. s.duration) (shown-segment b r) in
+    let l = lasting-listed near tail rs in
+    (omega (arith, e, f, l, h.0), timed-listed near tail time rs h.1)
+
 spare-snoc : (ps : List Part) (p : Part) → spare (ps ++ p ∷ []) ≡ 0
 spare-snoc [] p = refl
 spare-snoc (q ∷ ps) p = refl
@@ -122,6 +133,8 @@ kept_open c f ps qs p part place k allowed more =
       few_maps = k.few_maps;
       numbers = omega (arith, l.0, n, m);
       times = omega (arith, l.1);
+      hidden = k.hidden;
+      far = λ some. let e = k.far some in omega (arith, e);
     }
 
 at_most_one : (b : Bool) → one_if b ≤ 1
@@ -132,8 +145,9 @@ at_most_one false = omega arith
 pub kept_closed : (c : Configuration) (w : ℕ) (f g : Finished) (qs os : List Part) (q : Progress) (s : Segment) → IsKept c f qs q → q.next_number ≤ number_end
     → os ≡ [] → s ≡ (closing qs q).segment → g.rows.items ≡ window (w * 1000000) (f.rows.items ++ closing qs q ∷ [])
     → g.discontinuity ≡ f.discontinuity + broken_in (gone (w * 1000000) (f.rows.items ++ closing qs q ∷ []))
-    → g.lasting ≡ lasting g.rows.items → IsKept c g os (after q s)
-kept_closed c w f g qs os q s k low none same items left sum =
+    → g.lasting ≡ lasting g.rows.items → AreHidden g → (0 < g.far → (0 < f.far) × (g.near_lasting ≡ f.near_lasting + q.open_duration))
+    → IsKept c g os (after q s)
+kept_closed c w f g qs os q s k low none same items left sum hides goes_far =
     let r = closing qs q in
     let least = w * 1000000 in
     let xs = f.rows.items ++ r ∷ [] in
@@ -164,6 +178,8 @@ kept_closed c w f g qs os q s k low none same items left sum =
       few_maps = omega (arith, m, few, k.few_maps);
       numbers = omega (arith, low, n);
       times = k.times;
+      hidden = hides;
+      far = λ some. let x = goes_far some in let y = k.far x.0 in omega (arith, x.1, y);
     }
 
 -- a segment that is open has a number
@@ -177,25 +193,24 @@ pub kept_finished : (c : Configuration) (w : ℕ) (f g : Finished) (ps qs os : L
     → part_refusal c p.next_number (duration ps) p.end_time part.duration ≡ None → qs ≡ ps ++ part ∷ [] → q ≡ grown p part.duration place → r ≡ after q s
     → os ≡ [] → s ≡ (closing qs q).segment → g.rows.items ≡ window (w * 1000000) (f.rows.items ++ closing qs q ∷ [])
     → g.discontinuity ≡ f.discontinuity + broken_in (gone (w * 1000000) (f.rows.items ++ closing qs q ∷ []))
-    → g.lasting ≡ lasting g.rows.items → IsKept c g os r
-kept_finished c w f g ps qs os p q r part place s k allowed more grows goes none same items left sum =
+    → g.lasting ≡ lasting g.rows.items → AreHidden g → (0 < g.far → (0 < f.far) × (g.near_lasting ≡ f.near_lasting + q.open_duration)) → IsKept c g os r
+kept_finished c w f g ps qs os p q r part place s k allowed more grows goes none same items left sum hides goes_far =
     let l = limits c p.next_number (duration ps) p.end_time part.duration allowed in
     let n = ap (λ (x : Progress). x.next_number) grows in
     subst (λ x. IsKept c g os x) (sym goes)
-    (kept_closed c w f g qs os q s (subst (λ x. IsKept c f qs x) (sym grows) (kept_open c f ps qs p part place k allowed more)) (omega (arith, l.0, n)) none same items left sum)
+    (kept_closed c w f g qs os q s (subst (λ x. IsKept c f qs x) (sym grows) (kept_open c f ps qs p part place k allowed more)) (omega (arith, l.0, n)) none same items left sum hides goes_far)
 
 pub told_finished : (c : Configuration) (w : ℕ) (f g : Finished) (ps qs os : List Part) (p q r : Progress) (part : Part) (place : Place) (s : Segment) (k : Compact) → kept c f ps p ≡ k
-    → w ≡ c.window → p.open_duration ≡ duration ps → place ≡ next_place k → qs ≡ ps ++ part ∷ [] → q ≡ grown p part.duration place → r ≡ after q s
+    → w ≡ c.window → place ≡ next_place k → qs ≡ ps ++ part ∷ [] → q ≡ grown p part.duration place → r ≡ after q s
     → os ≡ [] → s ≡ (closing qs q).segment → g.rows.items ≡ window (w * 1000000) (f.rows.items ++ closing qs q ∷ [])
     → g.discontinuity ≡ f.discontinuity + broken_in (gone (w * 1000000) (f.rows.items ++ closing qs q ∷ []))
-    → kept c g os r ≡ with_part_by true k part
-told_finished c w f g ps qs os p q r part place s k is wide lasts here more grows goes none same items left =
-    let n = ap (λ (x : Progress). x.open_duration) grows in
-    let d = duration-snoc ps part in
-    let e = ap duration more in
-    ap (λ x. kept c g os x) goes
-    ∙ closed_with c w f g qs os q s wide (omega (arith, n, d, e, lasts)) none same items left
-    ∙ ap after_segment (told_open c f ps qs p q part place k is lasts here more grows)
+    → relisted (kept c g os r) ≡ with_part_by true k part
+told_finished c w f g ps qs os p q r part place s k is wide here more grows goes none same items left =
+    ap relisted
+    (ap (λ x. kept c g os x) goes
+    ∙ closed_with c w f g qs os q s wide none same items left
+    ∙ ap joined (told_open c f ps qs p q part place k is here more grows))
+    ∙ finished_again (grown_by k part)
 
 ending_kept : (c : Configuration) (f : Finished) (ps : List Part) (p : Progress) → IsKept c f ps p → IsKept c f ps (ending p)
 ending_kept c f ps p k = record {
@@ -208,24 +223,61 @@ ending_kept c f ps p k = record {
   few_maps = k.few_maps;
   numbers = k.numbers;
   times = k.times;
+  hidden = k.hidden;
+  far = k.far;
 }
 
 pub kept_ended : (c : Configuration) (w : ℕ) (f g : Finished) (ps os : List Part) (p r : Progress) (s : Segment) → IsKept c f ps p → (ps ≡ [] → ⊥)
     → r ≡ after (ending p) s → os ≡ [] → s ≡ (closing ps (ending p)).segment
     → g.rows.items ≡ window (w * 1000000) (f.rows.items ++ closing ps (ending p) ∷ [])
     → g.discontinuity ≡ f.discontinuity + broken_in (gone (w * 1000000) (f.rows.items ++ closing ps (ending p) ∷ []))
-    → g.lasting ≡ lasting g.rows.items → IsKept c g os r
-kept_ended c w f g ps os p r s k some goes none same items left sum =
+    → g.lasting ≡ lasting g.rows.items → AreHidden g → (0 < g.far → (0 < f.far) × (g.near_lasting ≡ f.near_lasting + p.open_duration)) → IsKept c g os r
+kept_ended c w f g ps os p r s k some goes none same items left sum hides goes_far =
     subst (λ x. IsKept c g os x) (sym goes)
-    (kept_closed c w f g ps os (ending p) s (ending_kept c f ps p k) (open_number c f ps p k some) none same items left sum)
+    (kept_closed c w f g ps os (ending p) s (ending_kept c f ps p k) (open_number c f ps p k some) none same items left sum hides goes_far)
 
 pub told_ended : (c : Configuration) (w : ℕ) (f g : Finished) (ps os : List Part) (p r : Progress) (s : Segment) (k : Compact) → kept c f ps p ≡ k → w ≡ c.window
-    → p.open_duration ≡ duration ps → (ps ≡ [] → ⊥) → r ≡ after (ending p) s → os ≡ [] → s ≡ (closing ps (ending p)).segment
+    → (ps ≡ [] → ⊥) → r ≡ after (ending p) s → os ≡ [] → s ≡ (closing ps (ending p)).segment
     → g.rows.items ≡ window (w * 1000000) (f.rows.items ++ closing ps (ending p) ∷ [])
     → g.discontinuity ≡ f.discontinuity + broken_in (gone (w * 1000000) (f.rows.items ++ closing ps (ending p) ∷ []))
-    → kept c g os r ≡ with_end k
-told_ended c w f g ps os p r s k is wide lasts some goes none same items left =
-    ap (λ x. kept c g os x) goes ∙ closed_with c w f g ps os (ending p) s wide lasts none same items left ∙ open_by c f ps p some ∙ ap with_end is
+    → relisted (kept c g os r) ≡ with_end k
+told_ended c w f g ps os p r s k is wide some goes none same items left =
+    ap relisted (ap (λ x. kept c g os x) goes ∙ closed_with c w f g ps os (ending p) s wide none same items left) ∙ open_by c f ps p some ∙ ap with_end is
+
+-- the parts that no playlist lists any more are given up
+
+pub short : (c : Configuration) (f : Finished) (ps : List Part) (p : Progress) → IsKept c f ps p → f.near_lasting + p.open_duration < 2 ^ 64
+short c f ps p k = let n = near-within f k.hidden in omega (arith, n, k.within, k.ends, k.times)
+
+pub kept_relisted : (c : Configuration) (t : ℕ) (f g : Finished) (ps : List Part) (p : Progress) → t ≡ c.target → IsKept c f ps p
+    → g.rows.items ≡ listed (3 * (t * 1000000)) p.open_duration f.rows.items → AreHidden g → (0 < g.far → 3 * (t * 1000000) ≤ g.near_lasting + p.open_duration)
+    → (g.lasting ≡ f.lasting) × (g.discontinuity ≡ f.discontinuity) → IsKept c g ps p
+kept_relisted c t f g ps p from k items hides goes_far same =
+    let near = 3 * (t * 1000000) in
+    let l = ap lasting items in
+    let m = lasting-listed near p.open_duration f.rows.items in
+    let b = ap broken_in items in
+    let n = broken-listed near p.open_duration f.rows.items in
+    record {
+      sum = omega (arith, l, m, same.0, k.sum);
+      lasts = k.lasts;
+      ends = k.ends;
+      timed = subst (λ rs. AreTimed rs p.open_time) (sym items) (timed-listed near p.open_duration p.open_time f.rows.items k.timed);
+      within = omega (arith, l, m, k.within);
+      breaks = omega (arith, b, n, same.1, k.breaks);
+      few_maps = k.few_maps;
+      numbers = k.numbers;
+      times = k.times;
+      hidden = hides;
+      far = λ some. let e = goes_far some in omega (arith, e, from);
+    }
+
+pub told_relisted : (c : Configuration) (t : ℕ) (f g : Finished) (ps : List Part) (p : Progress) (k : Compact) → kept c f ps p ≡ k → t ≡ c.target → p.open_duration ≡ duration ps
+    → g.rows.items ≡ listed (3 * (t * 1000000)) p.open_duration f.rows.items → g.discontinuity ≡ f.discontinuity → kept c g ps p ≡ relisted k
+told_relisted c t f g ps p k is from lasts items same =
+    ap₂ (λ rs n. told c rs ps n p)
+    (items ∙ ap₂ (λ x n. listed (3 * (x * 1000000)) n f.rows.items) from lasts) same
+    ∙ ap relisted is
 
 none_empty : (ps : List Part) → length ps ≡ 0 → ps ≡ []
 none_empty [] e = refl

@@ -1,3 +1,4 @@
+pub mod HideLemmas
 pub mod KeptLemmas
 pub mod NumberLemmas
 pub mod ReaderLemmas

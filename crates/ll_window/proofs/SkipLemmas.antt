@@ -31,7 +31,7 @@ skipped-listed limit tail near t (r ∷ rs) =
     ∙ ap (λ n. one_if (nat_lt limit (lasting rs + tail)) + n) (skipped-listed limit tail near t rs)
 
 -- the segments from a place on, one place further to the front
-one-back : (rs : List Row) (n : ℕ) (r : Row) → n < length rs → r ≡ get_or rs n r → drop n rs ≡ r ∷ drop (suc n) rs
+pub one-back : (rs : List Row) (n : ℕ) (r : Row) → n < length rs → r ≡ get_or rs n r → drop n rs ≡ r ∷ drop (suc n) rs
 one-back rs n r lt e = drop-cons rs n r lt ∙ ap (λ x. x ∷ drop (suc n) rs) (sym e)
 
 -- they last no longer than all

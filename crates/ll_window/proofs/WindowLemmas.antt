@@ -47,17 +47,25 @@ gone-snoc least (r ∷ rs) s = gone_by least r rs s (nat_le least (lasting rs)) 
 
 -- listed parts
 
-shown-duration : (b : Bool) (r : Row) → (shown_by b r).segment ≡ r.segment
-shown-duration true r = refl
-shown-duration false r = refl
+pub shown-segment : (b : Bool) (r : Row) → (shown_by b r).segment ≡ r.segment
+shown-segment true r = refl
+shown-segment false r = refl
 
 pub lasting-listed : (near tail : ℕ) (rs : List Row) → lasting (listed near tail rs) ≡ lasting rs
 lasting-listed near tail [] = refl
 lasting-listed near tail (r ∷ rs) =
     lasting-cons (shown_by (nat_lt (lasting rs + tail) near) r) (listed near tail rs)
-    ∙ ap (λ s. s.duration + lasting (listed near tail rs)) (shown-duration (nat_lt (lasting rs + tail) near) r)
+    ∙ ap (λ s. s.duration + lasting (listed near tail rs)) (shown-segment (nat_lt (lasting rs + tail) near) r)
     ∙ ap (λ n. r.segment.duration + n) (lasting-listed near tail rs)
     ∙ sym (lasting-cons r rs)
+
+pub broken-listed : (near tail : ℕ) (rs : List Row) → broken_in (listed near tail rs) ≡ broken_in rs
+broken-listed near tail [] = refl
+broken-listed near tail (r ∷ rs) =
+    broken-cons (shown_by (nat_lt (lasting rs + tail) near) r) (listed near tail rs)
+    ∙ ap (λ s. one_if s.broken + broken_in (listed near tail rs)) (shown-segment (nat_lt (lasting rs + tail) near) r)
+    ∙ ap (λ n. one_if r.segment.broken + n) (broken-listed near tail rs)
+    ∙ sym (broken-cons r rs)
 
 pub length_listed : (near tail : ℕ) (rs : List Row) → length (listed near tail rs) ≡ length rs
 length_listed near tail [] = refl
@@ -94,7 +102,7 @@ gone-listed least near tail [] = refl
 gone-listed least near tail (r ∷ rs) =
     let s = shown_by (nat_lt (lasting rs + tail) near) r in
     ap (λ n. broken_in (cond (nat_le least n) (s ∷ gone least (listed near tail rs)) [])) (lasting-listed near tail rs)
-    ∙ gone_listed_by least near tail r s rs (nat_le least (lasting rs)) (shown-duration (nat_lt (lasting rs + tail) near) r) (gone-listed least near tail rs)
+    ∙ gone_listed_by least near tail r s rs (nat_le least (lasting rs)) (shown-segment (nat_lt (lasting rs + tail) near) r) (gone-listed least near tail rs)
 
 shown_twice : (b c : Bool) (r : Row) → (b ≡ true → c ≡ true) → shown_by b (shown_by c r) ≡ shown_by b r
 shown_twice true true r h = refl

@@ -1,5 +1,5 @@
 -- For private contracts: what a window keeps beside its value.
-use Rattle.std.specs.Prelude.{◌≡◌, ℕ, ◌+◌, ◌*◌, ◌≤◌, List, [], ◌∷◌, false, Some}
+use Rattle.std.specs.Prelude.{◌≡◌, ℕ, ◌+◌, ◌*◌, ◌<◌, ◌≤◌, List, [], ◌∷◌, false, Some}
 use Rattle.ll_attr.specs.YearEnd.{last_micro}
 use Rattle.ll_item.specs.Settings.{Configuration, number_end}
 use Rattle.ll_item.specs.declared.part.Part.{Part}
@@ -7,8 +7,10 @@ use Rattle.ll_window.specs.declared.progress.Progress.{Progress}
 use Rattle.ll_window.specs.declared.finished.Finished.{Finished}
 use Rattle.ll_window.specs.declared.place.Place.{Place}
 use Rattle.ll_window.specs.declared.segment.Segment.{Segment}
+use Rattle.ll_window.specs.Hidden.{AreHidden}
 use Rattle.ll_window.specs.Rows.{Row, lasting, broken_in}
 use Rattle.ll_window.specs.Segments.{duration}
+use Rattle.ll_window.specs.Window.{near_limit}
 
 -- each of these segments ends so long before this time as those after it last
 abbrev pub AreTimed : List Row → ℕ → Type 0
@@ -38,7 +40,8 @@ abbrev pub spare : List Part → ℕ
 spare [] = 1
 spare (p ∷ ps) = 0
 
--- sums are kept, and numbers and times have not passed their ends
+-- Sums are kept, and numbers and times have not passed their ends. After the far segments those that last three target durations at
+-- least.
 pub record IsKept (c : Configuration) (f : Finished) (open_parts : List Part) (p : Progress) : Type 0 where
   pub sum : f.lasting ≡ lasting f.rows.items
   pub lasts : p.open_duration ≡ duration open_parts
@@ -49,3 +52,5 @@ pub record IsKept (c : Configuration) (f : Finished) (open_parts : List Part) (p
   pub few_maps : p.maps ≤ p.next_number
   pub numbers : p.next_number ≤ number_end + spare open_parts
   pub times : c.start * 1000 + p.end_time ≤ last_micro
+  pub hidden : AreHidden f
+  pub far : 0 < f.far → near_limit c ≤ f.near_lasting + p.open_duration

@@ -1,4 +1,5 @@
 pub mod Compact
+pub mod Hidden
 pub mod Kept
 pub mod Numbers
 pub mod Refusal

@@ -1,5 +1,5 @@
 -- What is told of each finished segment.
-use Rattle.std.specs.Prelude.{ℕ, ◌+◌, List, [], ◌∷◌, Bool, true, false, sum_by}
+use Rattle.std.specs.Prelude.{ℕ, ◌+◌, List, [], ◌∷◌, Bool, true, false, Option, Some, None, sum_by}
 use Rattle.ll_item.specs.declared.part.Part.{Part}
 use Rattle.ll_window.specs.declared.segment.Segment.{Segment}
 use Rattle.ll_window.specs.Segments.{duration}
@@ -8,6 +8,11 @@ pub record Row : Type 0 where
   pub segment : Segment
   -- the parts that are listed
   pub parts : List Part
+
+-- the parts of a segment, where they are kept
+abbrev pub parts_in : {A : Type 0} → Option A → (A → List Part) → List Part
+parts_in None parts_of = []
+parts_in (Some kept) parts_of = parts_of kept
 
 -- a segment is broken from the one before where a break stands before its first part (section 4.4.4.3)
 abbrev pub is_broken : List Part → Bool

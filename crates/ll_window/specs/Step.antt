@@ -15,30 +15,41 @@ use Rattle.ll_window.specs.declared.window.PushFault.{PushFault}
 abbrev pub next_place : Compact → Place
 next_place k = record { number = k.next_number; index = length k.open_parts }
 
--- one more part of the open segment
-abbrev pub with_open : Compact → Part → Compact
-with_open k p = record k {
-  window = listed (near_limit k.settings) (duration (k.open_parts ++ p ∷ [])) k.window;
+-- the parts that are listed, now that the open segment lasts so long
+abbrev pub relisted : Compact → Compact
+relisted k = record k { window = listed (near_limit k.settings) (duration k.open_parts) k.window }
+
+-- the open segment has one more part
+abbrev pub grown_by : Compact → Part → Compact
+grown_by k p = record k {
   open_parts = k.open_parts ++ p ∷ [];
   end_time = k.end_time + p.duration;
   pending = false;
   last = Some (next_place k);
 }
 
+-- one more part of the open segment
+abbrev pub with_open : Compact → Part → Compact
+with_open k p = relisted (grown_by k p)
+
 -- the window and the open segment
 abbrev pub window_and_open : Compact → List Row
 window_and_open k = k.window ++ row k.next_number k.maps k.open_time k.open_parts ∷ []
 
--- the open segment is finished
-abbrev pub after_segment : Compact → Compact
-after_segment k = record k {
-  window = listed (near_limit k.settings) 0 (window (window_limit k.settings) (window_and_open k));
+-- the open segment is one of the window
+abbrev pub joined : Compact → Compact
+joined k = record k {
+  window = window (window_limit k.settings) (window_and_open k);
   open_parts = [];
   next_number = k.next_number + 1;
   maps = k.maps + one_if (is_broken k.open_parts);
   open_time = k.open_time + duration k.open_parts;
   discontinuity = k.discontinuity + broken_in (gone (window_limit k.settings) (window_and_open k));
 }
+
+-- the open segment is finished
+abbrev pub after_segment : Compact → Compact
+after_segment k = relisted (joined k)
 
 -- one more part, which finishes its segment or doesn't
 abbrev pub with_part_by : Bool → Compact → Part → Compact

@@ -1,10 +1,12 @@
 //! The finished segments of the window.
-ghost use Rattle.std.specs.Prelude.{◌≡◌, ◌+◌, ◌<◌, ◌≤◌, ◌^◌, ◌++◌, ◌∷◌, [], IfOk, OnOk, OnErr, MatchBool, length, slice_get};
+ghost use Rattle.std.specs.Prelude.{◌≡◌, ◌+◌, ◌<◌, ◌≤◌, ◌^◌, ◌++◌, ◌∷◌, [], IfOk, OnOk, OnErr, MatchBool, length, slice_get, false};
+ghost use Rattle.std.specs.Arc.{arc_value};
 ghost use Rattle.std.specs.Option.{option_copied};
+ghost use Rattle.ll_window.specs.Hidden.{AreHidden};
 ghost use Rattle.ll_window.specs.Rows.{row, broken_in};
 ghost use Rattle.ll_window.specs.Rows as spec;
 ghost use Rattle.ll_window.specs.Segments.{duration};
-ghost use Rattle.ll_window.specs.Window.{window, gone, skipped_in};
+ghost use Rattle.ll_window.specs.Window.{window, gone, listed, shown_by, skipped_in};
 
 use crate::progress::Progress;
 use crate::segment::Segment;
@@ -13,61 +15,97 @@ use std::alloc::{AllocError, Global};
 use std::collections::VecDeque;
 use std::marker::Model;
 use std::mem;
+use std::sync::Arc;
 
-/// A finished segment with all its parts.
+/// A finished segment with the parts that it lists, which copies share.
 #[derive(Debug, Drop)]
 pub(crate) struct Kept {
     pub(crate) segment: Segment,
-    pub(crate) parts: Vec<Part>,
+    /// None, once no playlist lists them any more.
+    parts: Option<Arc<Vec<Part>>>,
 }
 
 impl Model for Kept {
-    ghost use Rattle.ll_window.specs.Rows.{Row};
+    ghost use Rattle.std.specs.Arc.{arc_value};
+    ghost use Rattle.ll_window.specs.Rows.{Row, parts_in};
 
     ghost Value = { Row };
 
-    ghost view = { λ k. record { segment = k.segment; parts = k.parts.items } };
+    ghost view = { λ k. record { segment = k.segment; parts = parts_in k.parts (λ kept. (arc_value kept).items) } };
 }
 
 impl Clone for Kept {
     ghost is_clone = { λ k l. l ≡ k };
 
     fn clone(&self) -> Result<Kept, AllocError> {
+        let parts = match &self.parts {
+            Some(parts) => Some(Arc::try_clone(parts)?),
+            None => None,
+        };
         Ok(Kept {
             segment: self.segment,
-            parts: self.parts.clone()?,
+            parts,
         })
     }
 }
 
-/// The finished segments of the window, how long they last together in microseconds, and how many broken ones have left.
+impl Kept {
+    /// The parts that it lists.
+    pub(crate) fn parts(&self) -> &[Part]
+        ensures { result.now ≡ self.now.parts }
+    {
+        match &self.parts {
+            Some(parts) => parts.as_slice(),
+            None => &[],
+        }
+    }
+
+    /// Gives up its parts.
+    fn hide(&mut self)
+        ensures { self.new ≡ shown_by false self.old }
+    {
+        self.parts = None;
+    }
+}
+
+/// The finished segments of the window.
 #[derive(Debug, Drop)]
 pub(crate) struct Finished {
     pub(crate) rows: VecDeque<Kept>,
+    /// How long they last together, in microseconds.
     pub(crate) lasting: u64,
+    /// How many broken ones have left.
     pub(crate) discontinuity: u64,
+    /// How many of them, the first ones, list no parts any more.
+    pub(crate) far: usize,
+    /// How long the others last together, in microseconds.
+    pub(crate) near_lasting: u64,
 }
 
 impl Finished {
     pub(crate) fn new(alloc: Global) -> Finished
-        ensures { (result.rows.items ≡ []) × (result.lasting ≡ 0) × (result.discontinuity ≡ 0) }
+        ensures { (result.rows.items ≡ []) × (result.lasting ≡ 0) × (result.discontinuity ≡ 0) × (result.far ≡ 0) × (result.near_lasting ≡ 0) }
     {
         Finished {
             rows: VecDeque::new(alloc),
             lasting: 0,
             discontinuity: 0,
+            far: 0,
+            near_lasting: 0,
         }
     }
 
-    /// Finished segments equal to these, or an error where no memory is found.
+    /// Finished segments equal to these, which share their parts, or an error where no memory is found.
     pub(crate) fn copy(&self) -> Result<Finished, AllocError>
         ensures { IfOk result (λ f. (f.rows.items ≡ self.now.rows.items) × (f.lasting ≡ self.now.lasting)
-            × (f.discontinuity ≡ self.now.discontinuity)) }
+            × (f.discontinuity ≡ self.now.discontinuity) × (f.far ≡ self.now.far) × (f.near_lasting ≡ self.now.near_lasting)) }
     {
         Ok(Finished {
             rows: self.rows.clone()?,
             lasting: self.lasting,
             discontinuity: self.discontinuity,
+            far: self.far,
+            near_lasting: self.near_lasting,
         })
     }
 
@@ -85,23 +123,68 @@ impl Finished {
         requires lasting { self.old.lasting + progress.open_duration < 2 ^ 64 }
         requires maps { progress.maps + 1 < 2 ^ 64 }
         requires breaks { self.old.discontinuity + broken_in self.old.rows.items ≤ progress.maps }
+        requires hidden { AreHidden self.old }
         ensures rows { OnOk result (self.new.rows.items
             ≡ window least (self.old.rows.items ++ row progress.next_number progress.maps progress.open_time open_parts.old.items ∷ [])) }
         ensures left { OnOk result (self.new.discontinuity ≡ self.old.discontinuity
             + broken_in (gone least (self.old.rows.items ++ row progress.next_number progress.maps progress.open_time open_parts.old.items ∷ []))) }
         ensures segment { IfOk result (λ s. s ≡ (row progress.next_number progress.maps progress.open_time open_parts.old.items).segment) }
         ensures sums { OnOk result (self.new.lasting ≡ spec.lasting self.new.rows.items) }
+        ensures hidden { OnOk result (AreHidden self.new) }
+        ensures far { OnOk result (0 < self.new.far → (0 < self.old.far) × (self.new.near_lasting ≡ self.old.near_lasting + progress.open_duration)) }
         ensures emptied { OnOk result (open_parts.new.items ≡ []) }
         ensures err { OnErr result ((self.new.rows.items ≡ self.old.rows.items) × (self.new.lasting ≡ self.old.lasting)
-            × (self.new.discontinuity ≡ self.old.discontinuity) × (open_parts.new.items ≡ open_parts.old.items)) }
+            × (self.new.discontinuity ≡ self.old.discontinuity) × (self.new.far ≡ self.old.far) × (self.new.near_lasting ≡ self.old.near_lasting)
+            × (open_parts.new.items ≡ open_parts.old.items)) }
     {
         self.rows.reserve(1)?;
-        let parts = mem::replace(open_parts, Vec::new(alloc));
-        let segment = progress.segment(parts.as_slice());
+        let segment = progress.segment(open_parts.as_slice());
+        let parts = Some(shared(alloc, open_parts)?);
         self.rows.push_back(Kept { segment, parts })?;
         self.lasting += segment.duration;
+        self.near_lasting += segment.duration;
         self.shrink(least);
         Ok(segment)
+    }
+
+    /// Gives up the parts of the segments after which the others and the open parts last so many microseconds at least.
+    pub(crate) fn hide(&mut self, near: u64, open_duration: u64)
+        requires hidden { AreHidden self.old }
+        requires far { 0 < self.old.far → near ≤ self.old.near_lasting + open_duration }
+        requires lasting { self.old.near_lasting + open_duration < 2 ^ 64 }
+        ensures rows { self.new.rows.items ≡ listed near open_duration self.old.rows.items }
+        ensures hidden { AreHidden self.new }
+        ensures far { 0 < self.new.far → near ≤ self.new.near_lasting + open_duration }
+        ensures same { (self.new.lasting ≡ self.old.lasting) × (self.new.discontinuity ≡ self.old.discontinuity) }
+    {
+        while self.hide_next(near, open_duration) {}
+    }
+
+    /// Gives up the parts of the first segment that has not, where the others and the open parts after it last so many microseconds at
+    /// least; answers whether it did.
+    fn hide_next(&mut self, near: u64, open_duration: u64) -> bool
+        requires hidden { AreHidden self.old }
+        requires far { 0 < self.old.far → near ≤ self.old.near_lasting + open_duration }
+        requires lasting { self.old.near_lasting + open_duration < 2 ^ 64 }
+        ensures rows { listed near open_duration self.new.rows.items ≡ listed near open_duration self.old.rows.items }
+        ensures hidden { AreHidden self.new }
+        ensures far { 0 < self.new.far → near ≤ self.new.near_lasting + open_duration }
+        ensures lasting { self.new.near_lasting ≤ self.old.near_lasting }
+        ensures same { (self.new.lasting ≡ self.old.lasting) × (self.new.discontinuity ≡ self.old.discontinuity) }
+        ensures done { MatchBool result ((length self.new.rows.items ≡ length self.old.rows.items) × (self.new.far ≡ self.old.far + 1))
+            (self.new.rows.items ≡ listed near open_duration self.new.rows.items) }
+    {
+        let Some(first) = self.rows.get_mut(self.far) else {
+            return false;
+        };
+        let after = self.near_lasting - first.segment.duration;
+        if after + open_duration < near {
+            return false;
+        }
+        first.hide();
+        self.far += 1;
+        self.near_lasting = after;
+        true
     }
 
     /// The segment at this place with its parts, 0 being the first.
@@ -129,9 +212,12 @@ impl Finished {
     fn shrink(&mut self, least: u64)
         requires sum { self.old.lasting ≡ spec.lasting self.old.rows.items }
         requires breaks { self.old.discontinuity + broken_in self.old.rows.items < 2 ^ 64 }
+        requires hidden { AreHidden self.old }
         ensures rows { self.new.rows.items ≡ window least self.old.rows.items }
         ensures left { self.new.discontinuity ≡ self.old.discontinuity + broken_in (gone least self.old.rows.items) }
         ensures sum { self.new.lasting ≡ spec.lasting self.new.rows.items }
+        ensures hidden { AreHidden self.new }
+        ensures far { 0 < self.new.far → (0 < self.old.far) × (self.new.near_lasting ≡ self.old.near_lasting) }
     {
         while self.leave(least) {}
     }
@@ -140,7 +226,10 @@ impl Finished {
     fn leave(&mut self, least: u64) -> bool
         requires sum { self.old.lasting ≡ spec.lasting self.old.rows.items }
         requires breaks { self.old.discontinuity + broken_in self.old.rows.items < 2 ^ 64 }
+        requires hidden { AreHidden self.old }
         ensures sum { self.new.lasting ≡ spec.lasting self.new.rows.items }
+        ensures hidden { AreHidden self.new }
+        ensures far { 0 < self.new.far → (0 < self.old.far) × (self.new.near_lasting ≡ self.old.near_lasting) }
         ensures breaks { self.new.discontinuity + broken_in self.new.rows.items ≡ self.old.discontinuity + broken_in self.old.rows.items }
         ensures window { window least self.new.rows.items ≡ window least self.old.rows.items }
         ensures gone { self.new.discontinuity + broken_in (gone least self.new.rows.items)
@@ -161,9 +250,29 @@ impl Finished {
         }
         self.rows.pop_front();
         self.lasting -= duration;
+        if self.far > 0 {
+            self.far -= 1;
+        } else {
+            self.near_lasting -= duration;
+        }
         if broken {
             self.discontinuity += 1;
         }
         true
+    }
+}
+
+/// These parts, to be shared, taken out of their place. It fails only where no memory is found, and then they stay there.
+fn shared(alloc: Global, parts: &mut Vec<Part>) -> Result<Arc<Vec<Part>>, AllocError>
+    ensures shared { IfOk result (λ all. (arc_value all).items ≡ parts.old.items) }
+    ensures emptied { OnOk result (parts.new.items ≡ []) }
+    ensures err { OnErr result (parts.new.items ≡ parts.old.items) }
+{
+    match Arc::new(alloc, mem::replace(parts, Vec::new(alloc))) {
+        Ok(all) => Ok(all),
+        Err(failed) => {
+            *parts = failed.value;
+            Err(AllocError)
+        }
     }
 }

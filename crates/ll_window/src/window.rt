@@ -1,4 +1,5 @@
 ghost use Rattle.std.specs.Prelude.{◌≡◌, ◌≢◌, ◌≤◌, ◌+◌, ◌-◌, ◌++◌, ◌∷◌, [], List, IfOk, IfErr, IfSome, MatchResult, OnOk, OnErr, IsErrOf, None, Some, length, nat_lt, true};
+ghost use Rattle.std.specs.Arc.{arc_value};
 ghost use Rattle.std.specs.Option.{option_map};
 ghost use Rattle.ll_item.specs.declared.item.Item.{Item};
 ghost use Rattle.ll_attr.specs.YearEnd.{last_micro};
@@ -6,9 +7,9 @@ ghost use Rattle.ll_window.specs.Compact.{compact, unfinished};
 ghost use Rattle.ll_window.specs.Compact as kept;
 ghost use Rattle.ll_window.specs.Refusal.{refusal, refusal_after, part_refusal};
 ghost use Rattle.ll_window.specs.Segments.{duration};
-ghost use Rattle.ll_window.specs.Step.{with_item, with_part, with_part_by, with_end};
+ghost use Rattle.ll_window.specs.Step.{relisted, with_item, with_part, with_part_by, with_end};
 ghost use Rattle.ll_window.specs.Step as step;
-ghost use Rattle.ll_window.specs.Window.{near_limit, segment_at, parts_at};
+ghost use Rattle.ll_window.specs.Window.{segment_at, parts_at};
 
 use crate::finished::Finished;
 use crate::place::Place;
@@ -17,6 +18,7 @@ use crate::segment::Segment;
 use ll_item::{Item, Part, Settings};
 use std::alloc::{AllocError, Global};
 use std::marker::Model;
+use std::sync::Arc;
 use thiserror::Error;
 
 /// The largest media sequence number.
@@ -58,22 +60,22 @@ pub enum PushFault {
 #[derive(Debug, Drop)]
 pub struct Window {
     alloc: Global,
-    settings: Settings,
+    settings: Arc<Settings>,
     finished: Finished,
     open_parts: Vec<Part>,
     progress: Progress,
 }
 
 impl Model for Window {
+    ghost use Rattle.std.specs.Arc.{arc_value};
     ghost use Rattle.ll_window.specs.Compact.{Compact};
     ghost use Rattle.ll_window.specs.Kept.{IsKept};
-    ghost use Rattle.ll_window.specs.Window.{near_limit, listed};
 
     ghost Value = { Compact };
 
     ghost view = { λ w. record {
-      settings = w.settings;
-      window = listed (near_limit w.settings) w.progress.open_duration w.finished.rows.items;
+      settings = arc_value w.settings;
+      window = w.finished.rows.items;
       open_parts = w.open_parts.items;
       next_number = w.progress.next_number;
       maps = w.progress.maps;
@@ -85,7 +87,7 @@ impl Model for Window {
       ended = w.progress.ended;
     } };
 
-    ghost invariant = { λ w. IsKept w.settings w.finished w.open_parts.items w.progress };
+    ghost invariant = { λ w. IsKept (arc_value w.settings) w.finished w.open_parts.items w.progress };
 }
 
 impl Window {
@@ -93,7 +95,13 @@ impl Window {
     pub fn new(alloc: Global, settings: &Settings) -> Result<Window, AllocError>
         ensures { IfOk result (λ w. w ≡ compact settings.now []) }
     {
-        let settings = settings.copy(alloc)?;
+        Ok(Window::of(alloc, Arc::new(alloc, settings.copy(alloc)?)?))
+    }
+
+    /// The window of no items, under these settings, which its copies share.
+    pub fn of(alloc: Global, settings: Arc<Settings>) -> Window
+        ensures { result ≡ compact (arc_value settings) [] }
+    {
         let progress = Progress {
             next_number: settings.first(),
             maps: 0,
@@ -104,13 +112,13 @@ impl Window {
             last: None,
             ended: false,
         };
-        Ok(Window {
+        Window {
             alloc,
             settings,
             finished: Finished::new(alloc),
             open_parts: Vec::new(alloc),
             progress,
-        })
+        }
     }
 
     /// Adds the next item, or answers the first rule that refuses it, or that memory ran out; nothing changes then. A date range
@@ -148,7 +156,6 @@ impl Window {
     }
 
     /// How many finished segments a playlist shows.
-    #[tactic(auto, using(crate::proofs::WindowLemmas::length_listed))]
     pub fn segment_count(&self) -> usize
         ensures { result ≡ length self.now.window }
     {
@@ -156,7 +163,7 @@ impl Window {
     }
 
     /// The finished segment at this place, 0 being the first that a playlist shows; none after the last.
-    #[tactic(auto, using(crate::proofs::ReaderLemmas::segment_listed, crate::proofs::ReaderLemmas::ends_before))]
+    #[tactic(auto, using(crate::proofs::ReaderLemmas::ends_before))]
     pub fn segment(&self, place: usize) -> Option<Segment>
         ensures value { result ≡ segment_at self.now.window place }
         ensures time { IfSome result (λ s. s.time ≤ last_micro) }
@@ -173,8 +180,8 @@ impl Window {
         ensures { result.now ≡ parts_at self.now.window place }
     {
         match self.finished.row(place) {
-            Some(kept) if self.is_near(&kept.segment) => kept.parts.as_slice(),
-            _ => &[],
+            Some(kept) => kept.parts(),
+            None => &[],
         }
     }
 
@@ -242,13 +249,14 @@ impl Window {
         self.progress.end_time
     }
 
-    /// A window equal to this one, or an error where no memory is found.
+    /// A window equal to this one, which shares its settings and the parts of its finished segments, or an error where no memory is
+    /// found.
     pub fn copy(&self) -> Result<Window, AllocError>
         ensures { IfOk result (λ w. w ≡ self.now) }
     {
         Ok(Window {
             alloc: self.alloc,
-            settings: self.settings.copy(self.alloc)?,
+            settings: Arc::try_clone(&self.settings)?,
             finished: self.finished.copy()?,
             open_parts: self.open_parts.clone()?,
             progress: self.progress,
@@ -344,6 +352,7 @@ impl Window {
             let place = self.next_place();
             self.open_parts.push(part)?;
             self.progress = self.progress.with_part(part.duration, place);
+            self.hide();
         }
         Ok(())
     }
@@ -361,6 +370,7 @@ impl Window {
         match self.finished.finish(self.alloc, least, progress, parts) {
             Ok(segment) => {
                 self.progress = progress.after(segment);
+                self.hide();
                 Ok(())
             }
             Err(AllocError) => {
@@ -385,6 +395,7 @@ impl Window {
         let parts = &mut self.open_parts;
         let segment = self.finished.finish(self.alloc, least, progress, parts)?;
         self.progress = progress.after(segment);
+        self.hide();
         Ok(())
     }
 
@@ -398,12 +409,12 @@ impl Window {
         }
     }
 
-    /// Whether the parts after a finished segment last less than three target durations.
-    fn is_near(&self, segment: &Segment) -> bool
-        requires after { segment.now.time + segment.now.duration ≤ self.now.open_time }
-        ensures { result ≡ nat_lt (self.now.open_time + duration self.now.open_parts - (segment.now.time + segment.now.duration)) (near_limit self.now.settings) }
+    /// Gives up the parts that no playlist lists any more: those of segments after which the parts last three target durations at least
+    /// (section 4.4.4.9).
+    fn hide(&mut self)
+        ensures { self.new ≡ relisted self.old }
     {
-        let end = self.progress.open_time + self.progress.open_duration;
-        end - (segment.time + segment.duration) < 3 * (self.settings.target() * 1_000_000)
+        let near = 3 * (self.settings.target() * 1_000_000);
+        self.finished.hide(near, self.progress.open_duration);
     }
 }

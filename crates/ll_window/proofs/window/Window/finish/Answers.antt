@@ -11,12 +11,13 @@ invariant_of-self-in-Ok c =
     kept_finished _ c.window-least.result c.self.inside.finished c.finish.new.self c.self.inside.open_parts.items c.push.new.self.items c.finish.new.open_parts.items c.self.inside.progress
     c.with_part-progress.result c.after-self-inside.result c.args.part c.next_place.result c.in-Ok.segment
     c.self.invariant (ap (λ k. part_refusal k.settings k.next_number (duration k.open_parts) k.end_time c.args.part.duration) c.self.view_is ∙ c.requires)
-    c.in_ok-push.ensures.items c.with_part-progress.ensures c.after-self-inside.ensures e.emptied e.segment e.rows e.left e.sums
+    c.in_ok-push.ensures.items c.with_part-progress.ensures c.after-self-inside.ensures e.emptied e.segment e.rows e.left e.sums e.hidden e.far
 
 pub returns-in-Ok-clause-ok : goal.returns-in-Ok-clause-ok
 returns-in-Ok-clause-ok c =
     let e = c.in-Ok.ensures in
-    told_finished _ c.window-least.result c.self.inside.finished c.finish.new.self c.self.inside.open_parts.items c.push.new.self.items c.finish.new.open_parts.items c.self.inside.progress
+    c.hide.ensures
+    ∙ told_finished _ c.window-least.result c.self.inside.finished c.finish.new.self c.self.inside.open_parts.items c.push.new.self.items c.finish.new.open_parts.items c.self.inside.progress
     c.with_part-progress.result c.after-self-inside.result c.args.part c.next_place.result c.in-Ok.segment _
-    c.self.view_is c.window-least.ensures.value c.self.invariant.lasts c.next_place.ensures
+    c.self.view_is (c.window-least.ensures.value ∙ ap (λ s. s.window) c.deref.ensures) c.next_place.ensures
     c.in_ok-push.ensures.items c.with_part-progress.ensures c.after-self-inside.ensures e.emptied e.segment e.rows e.left

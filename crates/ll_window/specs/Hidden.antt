@@ -1,0 +1,17 @@
+-- For private contracts: segments that list no parts any more have given them up.
+use Rattle.std.specs.Prelude.{◌≡◌, ℕ, zero, suc, ◌≤◌, List, [], ◌∷◌, false, drop, length}
+use Rattle.ll_window.specs.declared.finished.Finished.{Finished}
+use Rattle.ll_window.specs.Rows.{Row, lasting}
+use Rattle.ll_window.specs.Window.{shown_by}
+
+-- these segments, of which the first so many list no parts
+abbrev pub hidden : ℕ → List Row → List Row
+hidden zero rs = rs
+hidden (suc n) [] = []
+hidden (suc n) (r ∷ rs) = shown_by false r ∷ hidden n rs
+
+-- the far ones have given up their parts, and it is known how long the others last
+pub record AreHidden (f : Finished) : Type 0 where
+  pub within : f.far ≤ length f.rows.items
+  pub sum : f.near_lasting ≡ lasting (drop f.far f.rows.items)
+  pub given_up : hidden f.far f.rows.items ≡ f.rows.items
