@@ -8,6 +8,8 @@ mod fault_tests;
 #[cfg(test)]
 mod page_tests;
 #[cfg(test)]
+mod piece_tests;
+#[cfg(test)]
 mod read_table_tests;
 #[cfg(test)]
 mod read_tests;

@@ -97,7 +97,7 @@ part hi 1000000 f
 end hi";
 
 /// The text of a name.
-fn text_of(name: &str) -> &str {
+pub(crate) fn text_of(name: &str) -> &str {
     match name {
         "TWO" => TWO,
         "ONE" => ONE,
@@ -120,18 +120,24 @@ fn name_of(text: &str) -> &str {
 fn channel(alloc: Global, text: &str) -> Result<(Settings, Vec<Rendition>), Fail> {
     let (line, items) = text.split_once('\n').ok_or("it has items")?;
     let settings = Settings::read(alloc, line)?;
-    let mut renditions = Vec::new(alloc);
-    for _ in settings.renditions() {
-        let window = Window::new(alloc, &settings)?;
-        let ranges = Ranges::new(alloc, &settings);
-        renditions.push(Rendition { window, ranges })?;
-    }
+    let mut renditions = no_items(alloc, &settings)?;
     publish(alloc, &settings, &mut renditions, items)?;
     Ok((settings, renditions))
 }
 
+/// What is kept of renditions without items.
+pub(crate) fn no_items(alloc: Global, settings: &Settings) -> Result<Vec<Rendition>, Fail> {
+    let mut renditions = Vec::new(alloc);
+    for _ in settings.renditions() {
+        let window = Window::new(alloc, settings)?;
+        let ranges = Ranges::new(alloc, settings);
+        renditions.push(Rendition { window, ranges })?;
+    }
+    Ok(renditions)
+}
+
 /// Adds the items of these lines to what is kept of their renditions.
-fn publish(
+pub(crate) fn publish(
     alloc: Global,
     settings: &Settings,
     renditions: &mut Vec<Rendition>,

@@ -1,8 +1,8 @@
 pub mod DeltaLemmas
+pub mod PieceLemmas
 pub mod PlaceLemmas
 pub mod RangeLemmas
 pub mod RangeTexts
 pub mod RenditionLemmas
-pub mod SegmentLemmas
 pub mod Texts
 pub mod WorkedExamples

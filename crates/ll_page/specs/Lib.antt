@@ -1,6 +1,8 @@
 pub mod Delta
 pub mod Full
 pub mod Page
+pub mod Piece
+pub mod Pieces
 pub mod Playlist
 pub mod Spelling
 pub mod View

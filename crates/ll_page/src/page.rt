@@ -1,7 +1,9 @@
 ghost use Rattle.std.specs.Prelude.{◌≡◌, ◌<◌, ◌≤◌, IfOk, MatchOption, length};
 ghost use Rattle.ll_page.specs.Page.{page_text, seen_of};
+ghost use Rattle.ll_page.specs.Pieces.{pieces_of};
 
 use crate::form::Form;
+use crate::pieces::Pieces;
 use crate::playlist::written;
 use crate::shown::Shown;
 use crate::view::View;
@@ -46,7 +48,27 @@ impl Page {
         let Some(view) = shown.view(rendition) else {
             return Ok(None);
         };
-        let text = ArcStr::from_string(written(alloc, &view, form)?)?;
+        let pieces = Pieces::new(alloc).after(alloc, &view)?;
+        Page::make_from(alloc, shown, rendition, &pieces, form)
+    }
+
+    /// The page that `make` makes, joined from the pieces of its view, so that no line of a segment is written again. It fails
+    /// only where no memory is found.
+    pub fn make_from(
+        alloc: Global,
+        shown: &Shown,
+        rendition: usize,
+        pieces: &Pieces,
+        form: Form,
+    ) -> Result<Option<Page>, AllocError>
+        requires { rendition < length shown.now.renditions → pieces.now ≡ pieces_of (seen_of shown.now rendition) }
+        ensures { IfOk result (λ found. MatchOption found (length shown.now.renditions ≤ rendition)
+            (λ p. (rendition < length shown.now.renditions) × (p ≡ record { seen = seen_of shown.now rendition; form = form }))) }
+    {
+        let Some(view) = shown.view(rendition) else {
+            return Ok(None);
+        };
+        let text = ArcStr::from_string(written(alloc, &view, pieces, form)?)?;
         Ok(Some(Page {
             text,
             shown: shown.again()?,

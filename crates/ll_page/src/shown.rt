@@ -1,4 +1,5 @@
 ghost use Rattle.std.specs.Prelude.{◌≡◌, ◌<◌, ◌≤◌, IfOk, MatchOption, length};
+ghost use Rattle.std.specs.Arc.{arc_value};
 ghost use Rattle.ll_page.specs.Page.{seen_of};
 
 use crate::rendition::Rendition;
@@ -8,8 +9,8 @@ use std::alloc::{AllocError, Global};
 use std::marker::Model;
 use std::sync::Arc;
 
-/// A channel at one moment: a copy of its settings, of what is kept of each of its renditions, and how many items it has
-/// accepted. Any number of pages may share it.
+/// A channel at one moment: its settings, what is kept of each of its renditions, and how many items it has accepted. Any number of
+/// pages may share it.
 #[derive(Drop)]
 pub struct Shown {
     kept: Arc<Kept>,
@@ -18,7 +19,7 @@ pub struct Shown {
 /// What is shared.
 #[derive(Drop)]
 pub(crate) struct Kept {
-    pub(crate) settings: Settings,
+    pub(crate) settings: Arc<Settings>,
     pub(crate) renditions: Vec<Rendition>,
     pub(crate) count: u64,
 }
@@ -30,13 +31,33 @@ impl Model for Shown {
     ghost Value = { Moment };
 
     ghost view = { λ s. record {
-      settings = (arc_value s.kept).settings;
+      settings = arc_value (arc_value s.kept).settings;
       renditions = (arc_value s.kept).renditions.items;
       count = (arc_value s.kept).count;
     } };
 }
 
 impl Shown {
+    /// The channel of these settings, which it shares, and renditions, which has accepted so many items. It fails only where no memory
+    /// is found.
+    pub fn new(
+        alloc: Global,
+        settings: &Arc<Settings>,
+        renditions: Vec<Rendition>,
+        count: u64,
+    ) -> Result<Shown, AllocError>
+        ensures { IfOk result (λ s. s ≡ record { settings = arc_value settings.now; renditions = renditions.items; count = count }) }
+    {
+        let kept = Kept {
+            settings: Arc::try_clone(settings)?,
+            renditions,
+            count,
+        };
+        Ok(Shown {
+            kept: Arc::new(alloc, kept)?,
+        })
+    }
+
     /// The channel of these settings and renditions, which has accepted so many items. It copies them, and fails only where no
     /// memory is found.
     pub fn of(
@@ -47,14 +68,13 @@ impl Shown {
     ) -> Result<Shown, AllocError>
         ensures { IfOk result (λ s. s ≡ record { settings = settings.now; renditions = renditions.now; count = count }) }
     {
-        let kept = Kept {
-            settings: settings.copy(alloc)?,
-            renditions: Rendition::copy_all(alloc, renditions)?,
+        let settings = Arc::new(alloc, settings.copy(alloc)?)?;
+        Shown::new(
+            alloc,
+            &settings,
+            Rendition::copy_all(alloc, renditions)?,
             count,
-        };
-        Ok(Shown {
-            kept: Arc::new(alloc, kept)?,
-        })
+        )
     }
 
     /// The view of the rendition with this index, where there is one.

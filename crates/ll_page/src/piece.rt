@@ -1,0 +1,102 @@
+ghost use Rattle.std.specs.Prelude.{◌≡◌, ◌≤◌, ◌++◌, IfOk, OnOk, string_bytes, true};
+ghost use Rattle.std.specs.Arc.{arc_value};
+ghost use Rattle.ll_attr.specs.YearEnd.{last_micro};
+ghost use Rattle.ll_line.specs.Text.{text_of};
+ghost use Rattle.ll_page.specs.Piece.{piece_lines};
+
+use crate::segment_lines::{push_map, push_segment};
+use ll_item::Part;
+use ll_window::Segment;
+use std::alloc::{AllocError, Global};
+use std::marker::Model;
+use std::sync::Arc;
+
+/// The lines of a segment that doesn't lead its playlist, with what they were written of. However a piece was come by, its
+/// text is right.
+#[derive(Drop)]
+pub(crate) struct Piece {
+    finished: bool,
+    segment: Segment,
+    parts: Vec<Part>,
+    text: String,
+}
+
+impl Model for Piece {
+    ghost use Rattle.std.specs.Prelude.{◌≡◌, false, string_bytes};
+    ghost use Rattle.ll_line.specs.Text.{text_of};
+    ghost use Rattle.ll_page.specs.Piece.{PieceOf, row_lines};
+
+    ghost Value = { PieceOf };
+
+    ghost view = { λ p. record { row = record { segment = p.segment; parts = p.parts.items }; finished = p.finished } };
+
+    ghost invariant = { λ p. string_bytes p.text ≡ text_of (row_lines p.finished false (record { segment = p.segment; parts = p.parts.items })) };
+}
+
+impl Piece {
+    /// The piece of a segment, finished or open, which lists these parts: the one that is there, shared, where it's of just
+    /// these, or else a new one. It fails only where no memory is found.
+    pub(crate) fn of(
+        alloc: Global,
+        there: Option<&Arc<Piece>>,
+        finished: bool,
+        segment: Segment,
+        parts: &[Part],
+    ) -> Result<Arc<Piece>, AllocError>
+        requires { segment.time ≤ last_micro }
+        ensures { IfOk result (λ p. arc_value p ≡ record { row = record { segment = segment; parts = parts.now }; finished = finished }) }
+    {
+        match there {
+            Some(piece) if piece.is(finished, segment, parts) => Arc::try_clone(piece),
+            _ => Ok(Arc::new(alloc, Piece::make(alloc, finished, segment, parts)?)?),
+        }
+    }
+
+    /// A new piece.
+    fn make(
+        alloc: Global,
+        finished: bool,
+        segment: Segment,
+        parts: &[Part],
+    ) -> Result<Piece, AllocError>
+        requires { segment.time ≤ last_micro }
+        ensures { IfOk result (λ p. p ≡ record { row = record { segment = segment; parts = parts.now }; finished = finished }) }
+    {
+        let mut text = String::new(alloc);
+        push_segment(&mut text, finished, segment, parts)?;
+        Ok(Piece {
+            finished,
+            segment,
+            parts: Vec::from_slice(alloc, parts)?,
+            text,
+        })
+    }
+
+    /// Whether it is of this segment, and of these parts.
+    fn is(&self, finished: bool, segment: Segment, parts: &[Part]) -> bool
+        ensures { result ≡ true → self.now ≡ record { row = record { segment = segment; parts = parts.now }; finished = finished } }
+    {
+        self.finished == finished && self.segment == segment && are_same(&self.parts, parts)
+    }
+
+    /// The media sequence number of its segment.
+    pub(crate) fn number(&self) -> u64 {
+        self.segment.number
+    }
+
+    /// Adds its lines to the text. Where its segment leads the playlist, the line of its map comes first; a broken one has that
+    /// line in any case, after its discontinuity.
+    pub(crate) fn push(&self, text: &mut String, leads: bool) -> Result<(), AllocError>
+        ensures { OnOk result (string_bytes text.new ≡ string_bytes text.old ++ text_of (piece_lines leads self.now)) }
+    {
+        push_map(text, leads && !self.segment.broken, self.segment.map_number)?;
+        text.push_str(&self.text)
+    }
+}
+
+/// Whether two lists of parts are the same.
+fn are_same(a: &[Part], b: &[Part]) -> bool
+    ensures { result ≡ true → a.now ≡ b.now }
+{
+    a == b
+}
