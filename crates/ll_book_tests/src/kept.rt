@@ -120,5 +120,6 @@ pub(crate) fn pages(alloc: Global, rendition: usize) -> Result<Pages, Fail> {
         renditions.push(Rendition { window, ranges })?;
     }
     let shown = Shown::of(alloc, &settings, &renditions, 2)?;
-    Ok(Pages::new(shown, rendition).ok_or("the rendition")?)
+    let pages = Pages::new(alloc, shown, rendition, None)?;
+    Ok(pages.ok_or("the rendition")?)
 }

@@ -7,8 +7,10 @@ use Rattle.ll_book.specs.Release.{expired, is_over, over_if}
 use Rattle.ll_verdict.specs.Waiting.{AreBelow, without, has_ticket, ticket_in}
 use Rattle.ll_room.specs.Home.{Home, less}
 use Rattle.ll_room.specs.Kept.{IsKept, with_answer}
+use Rattle.ll_room.specs.Stored.{AreFew}
 use Rattle.std.proofs.lemmas.Bool.Decides.{nat_tests}
 use Rattle.ll_item.specs.Settings.{Configuration}
+use Rattle.ll_page.specs.Pieces.{PiecesOf}
 use Rattle.ll_page.specs.View.{renditions}
 use Rattle.ll_page.proofs.RenditionLemmas.{length-renditions}
 use Rattle.ll_page.specs.declared.rendition.Rendition.{Rendition}
@@ -26,9 +28,10 @@ below-new a s [] h r = (h, tt)
 below-new a s (t ∷ ss) h r = (r.0, below-new a s ss h r.1)
 
 -- a request that is answered at once
-pub kept-answer : (h : Home) (written : Option Moment) → h.events < event_end → IsKept h written → IsKept (with_answer h) written
-kept-answer h written few k = record {
+pub kept-answer : (h : Home) (written : Option Moment) (pieces : List PiecesOf) → h.events < event_end → IsKept h written pieces → IsKept (with_answer h) written pieces
+kept-answer h written pieces few k = record {
   current = k.current;
+  stored = k.stored;
   target = k.target;
   each = k.each;
   accepted = omega (arith, k.accepted);
@@ -40,12 +43,13 @@ kept-answer h written few k = record {
 }
 
 -- a request that is held
-pub kept-held : (h : Home) (written : Option Moment) (e : Entry) (ss : List Slot) → h.events < event_end → e.ticket ≡ h.asks + 1
-    → ss ≡ h.slots ++ (record { entry = e; settled = None }) ∷ [] → IsKept h written
-    → IsKept (record h { asks = h.asks + 1; slots = ss; events = h.events + 1 }) written
-kept-held h written e ss few t is k =
+pub kept-held : (h : Home) (written : Option Moment) (pieces : List PiecesOf) (e : Entry) (ss : List Slot) → h.events < event_end → e.ticket ≡ h.asks + 1
+    → ss ≡ h.slots ++ (record { entry = e; settled = None }) ∷ [] → IsKept h written pieces
+    → IsKept (record h { asks = h.asks + 1; slots = ss; events = h.events + 1 }) written pieces
+kept-held h written pieces e ss few t is k =
     let many : length ss ≡ length h.slots + 1 = ap length is ∙ length-append h.slots ((record { entry = e; settled = None }) ∷ []) in record {
       current = k.current;
+      stored = k.stored;
       target = k.target;
       each = k.each;
       accepted = omega (arith, k.accepted);
@@ -58,10 +62,11 @@ kept-held h written e ss few t is k =
       counted = omega (arith, few, k.few, k.asked, many);
     }
 
-pub kept-new : (channel : ℕ) (c : Configuration) (kept : List Rendition) (ss : List Slot) → 1 ≤ c.target → kept ≡ renditions c [] → ss ≡ []
-    → IsKept (record { channel = channel; settings = c; renditions = kept; count = 0; time = 0; asks = 0; slots = ss; events = 0 }) None
-kept-new channel c kept ss low is none = record {
+pub kept-new : (channel : ℕ) (c : Configuration) (kept : List Rendition) (pieces : List PiecesOf) (ss : List Slot) → 1 ≤ c.target → kept ≡ renditions c [] → AreFew pieces kept → ss ≡ []
+    → IsKept (record { channel = channel; settings = c; renditions = kept; count = 0; time = 0; asks = 0; slots = ss; events = 0 }) None pieces
+kept-new channel c kept pieces ss low is few none = record {
   current = tt;
+  stored = few;
   target = low;
   each = ap length is ∙ length-renditions c [];
   accepted = omega arith;
@@ -122,13 +127,14 @@ clock_counted : (events slots : ℕ) → events < 2 ^ 60 → slots ≤ events �
 clock_counted events slots h k = omega (arith, h, k)
 
 -- the clock
-pub clock-kept : (h : Home) (written : Option Moment) (time : ℕ) (slots : List Slot) → IsKept h written
+pub clock-kept : (h : Home) (written : Option Moment) (pieces : List PiecesOf) (time : ℕ) (slots : List Slot) → IsKept h written pieces
     → h.events < 2 ^ 60 → time ≤ 2 ^ 60 → slots ≡ map (expired time) h.slots
-    → IsKept (record h { time = time; slots = slots; events = h.events + 1 }) written
-clock-kept h written time slots k room early e =
+    → IsKept (record h { time = time; slots = slots; events = h.events + 1 }) written pieces
+clock-kept h written pieces time slots k room early e =
     let long : length slots ≡ length h.slots = ap length e ∙ long_expired time h.slots in
     record {
       current = k.current;
+      stored = k.stored;
       target = k.target;
       each = k.each;
       accepted = omega (arith, k.accepted);
@@ -153,12 +159,13 @@ lost t (s ∷ ss) h = lost_by s (without t ss) ss (s.entry.ticket == t) (list_an
 abbrev with_left : Home → List Slot → Home
 with_left h slots = record h { slots = slots; events = h.events + 1 }
 
-pub leave-kept : (h : Home) (written : Option Moment) (t : ℕ) (slots : List Slot) → IsKept h written
-    → slots ≡ without t h.slots → list_any (has_ticket t) h.slots ≡ true → IsKept (with_left h slots) written
-leave-kept h written t slots k e there =
+pub leave-kept : (h : Home) (written : Option Moment) (pieces : List PiecesOf) (t : ℕ) (slots : List Slot) → IsKept h written pieces
+    → slots ≡ without t h.slots → list_any (has_ticket t) h.slots ≡ true → IsKept (with_left h slots) written pieces
+leave-kept h written pieces t slots k e there =
     let fewer : length slots < length h.slots = subst (λ ss. length ss < length h.slots) (sym e) (lost t h.slots there) in
     record {
       current = k.current;
+      stored = k.stored;
       target = k.target;
       each = k.each;
       accepted = omega (arith, k.accepted);
@@ -170,5 +177,5 @@ leave-kept h written t slots k e there =
     }
 
 -- where none leaves
-pub same-kept : (h : Home) (written : Option Moment) (slots : List Slot) → IsKept h written → slots ≡ h.slots → IsKept (record h { slots = slots }) written
-same-kept h written slots k e = subst (λ ss. IsKept (record h { slots = ss }) written) (sym e) k
+pub same-kept : (h : Home) (written : Option Moment) (pieces : List PiecesOf) (slots : List Slot) → IsKept h written pieces → slots ≡ h.slots → IsKept (record h { slots = slots }) written pieces
+same-kept h written pieces slots k e = subst (λ ss. IsKept (record h { slots = ss }) written pieces) (sym e) k

@@ -7,5 +7,6 @@ pub mod KeptLemmas
 pub mod PublishLemmas
 pub mod SettleLemmas
 pub mod StandLemmas
+pub mod StoredLemmas
 pub mod TicketLemmas
 pub mod WrittenLemmas

@@ -10,6 +10,7 @@ use Rattle.ll_item.specs.declared.item.Item.TheVariants as item
 use Rattle.ll_directive.specs.declared.want.Awaited.{Awaited}
 use Rattle.ll_directive.specs.declared.want.Awaited.TheVariants.{Nothing, Segment, Part}
 use Rattle.ll_page.specs.Page.{Moment}
+use Rattle.ll_page.specs.Pieces.{PiecesOf}
 use Rattle.ll_page.specs.View.{kept, renditions}
 use Rattle.ll_page.specs.declared.rendition.Rendition.{Rendition}
 use Rattle.ll_page.proofs.RenditionLemmas.{rendition-got, renditions-snoc}
@@ -30,6 +31,7 @@ use Rattle.ll_verdict.specs.Full.{event_end}
 use Rattle.ll_room.specs.Full.{refusal_at}
 use Rattle.ll_room.specs.Home.{Home}
 use Rattle.ll_room.specs.Kept.{IsCurrent, IsKept}
+use Rattle.ll_room.specs.Stored.{AreFew}
 use Rattle.ll_room.specs.declared.publish.Coming.{Coming}
 
 -- one more item for its rendition
@@ -216,13 +218,14 @@ length_tickets : (ss : List Slot) → length (map ticket_in ss) ≡ length ss
 length_tickets [] = refl
 length_tickets (s ∷ ss) = ap suc (length_tickets ss)
 
-pub kept-item : (h : Home) (written now : Option Moment) (kept : List Rendition) (ss : List Slot) (moment_now : Moment) → h.events < event_end → IsKept h written
+pub kept-item : (h : Home) (written now : Option Moment) (old pieces : List PiecesOf) (kept : List Rendition) (ss : List Slot) (moment_now : Moment) → h.events < event_end → IsKept h written old → AreFew pieces kept
     → length kept ≡ length h.renditions → map ticket_in ss ≡ map ticket_in h.slots → moment_now ≡ record { settings = h.settings; renditions = kept; count = h.count + 1 }
     → IsCurrent moment_now now
-    → IsKept (record h { renditions = kept; count = h.count + 1; slots = ss; events = h.events + 1 }) now
-kept-item h written now kept ss moment_now few k many same is current =
+    → IsKept (record h { renditions = kept; count = h.count + 1; slots = ss; events = h.events + 1 }) now pieces
+kept-item h written now old pieces kept ss moment_now few k stored many same is current =
     let long : length ss ≡ length h.slots = sym (length_tickets ss) ∙ ap length same ∙ length_tickets h.slots in record {
       current = subst (λ m. IsCurrent m now) is current;
+      stored = stored;
       target = k.target;
       each = many ∙ k.each;
       accepted = omega (arith, k.accepted);
@@ -234,7 +237,7 @@ kept-item h written now kept ss moment_now few k many same is current =
     }
 
 -- the room after one more item that releases nothing, or of which these are the open requests
-abbrev item_on : List Rendition → List Slot → Home → Home
+abbrev pub item_on : List Rendition → List Slot → Home → Home
 item_on kept ss h = record h { renditions = kept; count = h.count + 1; slots = ss; events = h.events + 1 }
 
 pub silent-item : (h now : Home) (kept : List Rendition) (i : Item) → h ≡ now → takes_any (releases now i).0 now.slots ≡ false
@@ -251,13 +254,13 @@ released-item h i first second x both r is =
     ap₂ (λ p q. item_on x.renditions.items (freed_slots p q h.slots) h) pages_are both
 
 -- the room that takes over what was made is kept true
-pub kept-change : (h : Home) (written : Option Moment) (first second : Option Release) (x : Coming) (new final : List Slot) → h.events < event_end → IsKept h written
+pub kept-change : (h : Home) (written : Option Moment) (old pieces : List PiecesOf) (first second : Option Release) (x : Coming) (new final : List Slot) → h.events < event_end → IsKept h written old → AreFew pieces x.renditions.items
     → AreApart (first, second) → IsComing h first second x → new ≡ released_with first x.first h.slots → final ≡ released_with second x.second new
-    → IsKept (item_on x.renditions.items final h) (Some x.written)
-kept-change h written first second x new final few k apart is e f =
+    → IsKept (item_on x.renditions.items final h) (Some x.written) pieces
+kept-change h written old pieces first second x new final few k stored apart is e f =
     let slots : final ≡ freed_slots (pages x) (first, second) h.slots =
     f ∙ both-released (pages x) (first, second) h.slots new x.first x.second apart is.has_first is.has_second e in
-    kept-item h written (Some x.written) x.renditions.items final x.written few k is.many (ap (map ticket_in) slots ∙ same-tickets (pages x) (first, second) h.slots)
+    kept-item h written (Some x.written) old pieces x.renditions.items final x.written few k stored is.many (ap (map ticket_in) slots ∙ same-tickets (pages x) (first, second) h.slots)
     is.written refl
 
 pub coming-of : (h now : Home) (first second : Option Release) (x : Coming) → h ≡ now → IsComing now first second x → IsComing h first second x

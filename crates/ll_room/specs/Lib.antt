@@ -6,5 +6,6 @@ pub mod Full
 pub mod Home
 pub mod Kept
 pub mod Mark
+pub mod Stored
 pub mod Ticket
 pub mod Written

@@ -22,7 +22,7 @@ use crate::stamped::{Stamp, Stamped};
 use crate::written::Written;
 use ll_book::ParkFault;
 use ll_directive::{Skip, Want};
-use ll_page::{Form, Page, Shown, SkipKind};
+use ll_page::{Form, Page, Rendition, Shown, SkipKind};
 use ll_rendition::{is_far, is_there};
 use ll_verdict::{Entry, Outcome, Reply, Wanted};
 use std::alloc::AllocError;
@@ -161,12 +161,14 @@ impl Room {
         ensures unchanged { self.new ≡ self.old }
     {
         let (rendition, form) = (wanted.rendition, wanted.form);
+        let before = self.pieces.get(rendition);
         if let Some(written) = &mut self.written {
-            return written.page(self.alloc, rendition, form);
+            return written.page(self.alloc, rendition, form, before);
         }
-        let shown = Shown::of(self.alloc, &self.settings, &self.renditions, self.count)?;
+        let renditions = Rendition::copy_all(self.alloc, &self.renditions)?;
+        let shown = Shown::new(self.alloc, &self.settings, renditions, self.count)?;
         let mut written = Written::new(self.alloc, shown);
-        let page = written.page(self.alloc, rendition, form)?;
+        let page = written.page(self.alloc, rendition, form, before)?;
         self.written = Some(written);
         Ok(page)
     }

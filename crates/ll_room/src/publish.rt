@@ -14,10 +14,10 @@ ghost use Rattle.ll_room.specs.declared.stamped.Stamp.TheVariants as stamp;
 
 use crate::room::{EVENT_END, Room};
 use crate::stamped::{Stamp, Stamped};
-use crate::written::Written;
+use crate::written::{Written, replace};
 use ll_book::{Holders, Pages, Release};
 use ll_item::Item;
-use ll_page::{Rendition, Shown};
+use ll_page::{Pieces, Rendition, Shown};
 use ll_rendition::{accept, first_release, holders, release, second_release, takes_any, test};
 use ll_verdict::PublishFault;
 use std::alloc::AllocError;
@@ -118,7 +118,7 @@ impl Room {
         ensures unchanged { OnErr result (self.new ≡ self.old) }
     {
         accept_at(&mut self.renditions, item)?;
-        self.written = None;
+        replace(&mut self.written, None, &mut self.pieces, &self.renditions);
         self.count += 1;
         self.events += 1;
         Ok(())
@@ -156,11 +156,11 @@ impl Room {
     {
         let rendition = item.rendition();
         let (renditions, shown) = self.with_item(item)?;
-        let mut pages = Pages::new(shown.again()?, rendition).unwrap();
+        let before = self.rendered(rendition);
+        let mut pages = Pages::new(self.alloc, shown.again()?, rendition, before)?.unwrap();
         let first = holders(&self.book, self.alloc, first, &mut pages)?;
         let second = holders(&self.book, self.alloc, second, &mut pages)?;
-        let mut written = Written::new(self.alloc, shown);
-        written.add(pages)?;
+        let written = Written::of(self.alloc, shown, pages)?;
         Ok(Coming {
             rendition,
             renditions,
@@ -168,6 +168,15 @@ impl Room {
             first,
             second,
         })
+    }
+
+    /// What is rendered of the segments of a rendition, as it was last, where something is.
+    fn rendered(&self, rendition: usize) -> Option<&Pieces> {
+        let now = self
+            .written
+            .as_ref()
+            .and_then(|written| written.pieces(rendition));
+        now.or_else(|| self.pieces.get(rendition))
     }
 
     /// What will be kept of each rendition with an item, and the channel with it, as a copy to share.
@@ -179,7 +188,8 @@ impl Room {
     {
         let mut renditions = Rendition::copy_all(self.alloc, &self.renditions)?;
         accept_at(&mut renditions, item)?;
-        let shown = Shown::of(self.alloc, &self.settings, &renditions, self.count + 1)?;
+        let copies = Rendition::copy_all(self.alloc, &renditions)?;
+        let shown = Shown::new(self.alloc, &self.settings, copies, self.count + 1)?;
         Ok((renditions, shown))
     }
 
@@ -191,7 +201,13 @@ impl Room {
         ensures { self.new ≡ changed self.old first second coming }
     {
         self.renditions = coming.renditions;
-        self.written = Some(coming.written);
+        let written = Some(coming.written);
+        replace(
+            &mut self.written,
+            written,
+            &mut self.pieces,
+            &self.renditions,
+        );
         self.count += 1;
         self.events += 1;
         release(&mut self.book, first, coming.first);

@@ -1,21 +1,24 @@
 //! What a room keeps of its channel, and what it tells of it.
 ghost use Rattle.std.specs.Prelude.{◌≡◌, ◌≤◌, ◌^◌, ◌++◌, [], IfOk, filter, find, length, option_map};
+ghost use Rattle.std.specs.Arc.{arc_value};
 ghost use Rattle.ll_page.specs.View as view;
 ghost use Rattle.ll_verdict.specs.Waiting as waiting;
 ghost use Rattle.ll_verdict.specs.State.{state_of};
 ghost use Rattle.ll_room.specs.Answers.{is_open};
 ghost use Rattle.ll_verdict.specs.Full.{is_full};
 ghost use Rattle.ll_room.specs.Home.{home};
+ghost use Rattle.ll_room.specs.Stored.{AreFew};
 
 use crate::written::Written;
 use ll_book::Book;
 use ll_item::Settings;
-use ll_page::Rendition;
+use ll_page::{Pieces, Rendition};
 use ll_range::Ranges;
 use ll_verdict::Entry;
 use ll_window::Window;
 use std::alloc::{AllocError, Global};
 use std::marker::Model;
+use std::sync::Arc;
 
 /// How many events a channel takes.
 pub(crate) const EVENT_END: u64 = 1 << 60;
@@ -26,10 +29,12 @@ pub(crate) const EVENT_END: u64 = 1 << 60;
 pub struct Room {
     pub(crate) alloc: Global,
     pub(crate) channel: u64,
-    pub(crate) settings: Settings,
+    pub(crate) settings: Arc<Settings>,
     pub(crate) renditions: Vec<Rendition>,
     /// The channel as it is now, and its playlists that were written, since one was asked for.
     pub(crate) written: Option<Written>,
+    /// What is rendered of the segments of each rendition, for its next playlist.
+    pub(crate) pieces: Vec<Pieces>,
     pub(crate) count: u64,
     pub(crate) time: u64,
     pub(crate) asks: u64,
@@ -38,6 +43,7 @@ pub struct Room {
 }
 
 impl Model for Room {
+    ghost use Rattle.std.specs.Arc.{arc_value};
     ghost use Rattle.ll_room.specs.Home.{Home};
     ghost use Rattle.ll_room.specs.Kept.{IsKept};
 
@@ -45,7 +51,7 @@ impl Model for Room {
 
     ghost view = { λ r. record {
       channel = r.channel;
-      settings = r.settings;
+      settings = arc_value r.settings;
       renditions = r.renditions.items;
       count = r.count;
       time = r.time;
@@ -56,14 +62,14 @@ impl Model for Room {
 
     ghost invariant = { λ r. IsKept (record {
       channel = r.channel;
-      settings = r.settings;
+      settings = arc_value r.settings;
       renditions = r.renditions.items;
       count = r.count;
       time = r.time;
       asks = r.asks;
       slots = r.book;
       events = r.events;
-    }) r.written };
+    }) r.written r.pieces.items };
 }
 
 impl Room {
@@ -73,13 +79,16 @@ impl Room {
     {
         // so that no request is due when it is made
         prove!(settings.target() >= 1);
+        let settings = Arc::new(alloc, settings)?;
         let renditions = no_items(alloc, &settings)?;
+        let pieces = no_pieces(alloc, &renditions)?;
         Ok(Room {
             alloc,
             channel,
             settings,
             renditions,
             written: None,
+            pieces,
             count: 0,
             time: 0,
             asks: 0,
@@ -177,15 +186,26 @@ impl Room {
     }
 }
 
+/// What is rendered of each of these renditions: nothing yet.
+fn no_pieces(alloc: Global, renditions: &[Rendition]) -> Result<Vec<Pieces>, AllocError>
+    ensures { IfOk result (λ pieces. AreFew pieces.items renditions.now) }
+{
+    let mut pieces = Vec::with_capacity(alloc, renditions.len())?;
+    for _ in 0..renditions.len() {
+        pieces.push(Pieces::new(alloc))?;
+    }
+    Ok(pieces)
+}
+
 /// What is kept of the renditions of a channel with no items, in the order of the settings.
-fn no_items(alloc: Global, settings: &Settings) -> Result<Vec<Rendition>, AllocError>
-    ensures { IfOk result (λ kept. kept.items ≡ view.renditions settings.now []) }
+fn no_items(alloc: Global, settings: &Arc<Settings>) -> Result<Vec<Rendition>, AllocError>
+    ensures { IfOk result (λ kept. kept.items ≡ view.renditions (arc_value settings.now) []) }
 {
     let names = settings.renditions();
     let mut renditions = Vec::with_capacity(alloc, names.len())?;
     for name in names {
         renditions.push(Rendition {
-            window: Window::new(alloc, settings)?,
+            window: Window::of(alloc, Arc::try_clone(settings)?),
             ranges: Ranges::new(alloc, settings),
         })?;
     }
