@@ -1,1 +1,2 @@
+pub mod InwardLemmas
 pub mod WriteLemmas

@@ -1,2 +1,3 @@
+pub mod Inward
 pub mod Uses
 pub mod Written

@@ -1,5 +1,6 @@
-ghost use Rattle.std.specs.Prelude.{◌≡◌, ◌<◌, ◌≤◌, ◌+◌, [], ℕ, List, Option, IfOk, OnOk, OnErr, take, length};
+ghost use Rattle.std.specs.Prelude.{◌≡◌, ◌<◌, ◌≤◌, ◌+◌, [], ℕ, List, None, Option, IfOk, OnOk, OnErr, take, length};
 ghost use Rattle.std.specs.Io.KnownBytes.{Appends, Consumes, IsAtEnd, Keeps};
+ghost use Rattle.ll_device.specs.Inward.{Inward};
 ghost use Rattle.ll_device.specs.Written.{AppendsPrefix};
 
 /// A device failed in a read or a write.
@@ -36,6 +37,9 @@ pub trait Writer {
     /// How often a write failed.
     ghost failures: { Self → ℕ };
 
+    /// How it was read, where it is a device that is read too and tells it.
+    ghost inward: { Self → Option Inward } = { λ _. None };
+
     /// One write: how many bytes it took of `text`, from its first on; 0 only of an empty text.
     fn write(&mut self, text: &[u8]) -> Result<usize, Failed>
         ensures count { IfOk result (λ n. n ≤ length text.now) }
@@ -43,7 +47,8 @@ pub trait Writer {
         ensures bytes { IfOk result (λ n. Appends (written self.old) (written self.new) (take n text.now)) }
         ensures kept { OnErr result (Keeps (written self.old) (written self.new)) }
         ensures steady { OnOk result (failures self.new ≡ failures self.old) }
-        ensures failed { OnErr result (failures self.old < failures self.new) };
+        ensures failed { OnErr result (failures self.old < failures self.new) }
+        ensures unread { inward self.new ≡ inward self.old };
 }
 
 /// Writes a whole text, in as many writes as the writer takes.
@@ -52,6 +57,7 @@ pub fn write_all<W: Writer>(writer: &mut W, text: &[u8]) -> Result<(), Failed>
     ensures cut { OnErr result (AppendsPrefix (W.written writer.old) (W.written writer.new) text.now) }
     ensures steady { OnOk result (W.failures writer.new ≡ W.failures writer.old) }
     ensures failed { OnErr result (W.failures writer.old < W.failures writer.new) }
+    ensures unread { W.inward writer.new ≡ W.inward writer.old }
 {
     let mut taken = 0;
     while taken < text.len() {

@@ -1,1 +1,3 @@
+pub mod AnswerLemmas
+pub mod ReadLemmas
 pub mod SendLemmas

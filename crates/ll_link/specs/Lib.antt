@@ -1,1 +1,3 @@
+pub mod Answers
 pub mod Faults
+pub mod Reads

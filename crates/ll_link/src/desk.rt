@@ -1,4 +1,4 @@
-ghost use Rattle.std.specs.Prelude.{ℕ};
+ghost use Rattle.std.specs.Prelude.{◌≢◌, ℕ, IfErr};
 ghost use Rattle.ll_link.specs.Faults.{IsTrue};
 
 use crate::fault::LinkFault;
@@ -21,7 +21,8 @@ pub(crate) struct Desk<'a, L: Ledgers, C, G, K, R> {
 impl<L: Ledgers, C, G, K: Sink, R: Wait> Desk<'_, L, C, G, K, R> {
     /// Hands the record of the channel at this place to the sink.
     pub(crate) fn hand_out(&self, channel: usize) -> Result<(), LinkFault>
-        ensures { (failures : ℕ) → IsTrue result failures failures }
+        ensures faults { (failures : ℕ) → IsTrue result failures failures }
+        ensures other { IfErr result (λ fault. fault ≢ LinkFault.Endless) }
     {
         match self.hub.rotate_to(self.rt, channel, self.sink) {
             Ok(()) => Ok(()),

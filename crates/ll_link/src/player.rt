@@ -1,8 +1,12 @@
 //! A player's connection.
-ghost use Rattle.std.specs.Prelude.{◌≡◌, [], ℕ, OnOk};
+ghost use Rattle.std.specs.Prelude.{◌≡◌, ◌≢◌, [], ℕ, IfErr, IfOk, IsErrOf, None, Ok, OnErr, OnOk, Some, false, is_some};
 ghost use Rattle.std.specs.Io.KnownBytes.{Appends};
 ghost use Rattle.std.specs.List.{concat};
+ghost use Rattle.ll_channels.specs.Channels.{channel_of_name};
+ghost use Rattle.ll_device.specs.Inward.{looked_at};
+ghost use Rattle.ll_link.specs.Answers.{unavailable_by};
 ghost use Rattle.ll_link.specs.Faults.{IsTrue};
+ghost use Rattle.ll_link.specs.Reads.{HasEnded, IsReadWithin, stays_or_ends};
 
 use crate::desk::Desk;
 use crate::fault::LinkFault;
@@ -28,7 +32,9 @@ pub(crate) fn serve<L: Ledgers, P: Link, C: Clock, G: Gate, K: Sink, R: Wait + t
     link: &mut P,
     pass: &mut Pass<L>,
 ) -> Result<u64, LinkFault>
-    ensures { IsTrue result (P.failures link.old) (P.failures link.new) }
+    ensures faults { IsTrue result (P.failures link.old) (P.failures link.new) }
+    ensures few { IsReadWithin (P.inward link.old) (P.inward link.new) desk.now.reads }
+    ensures endless { IsErrOf result LinkFault.Endless → P.inward link.new ≡ looked_at desk.now.reads 0 (P.inward link.old) }
 {
     let mut session = Session::new(desk.alloc);
     let served = converse(desk, link, pass, &mut session);
@@ -43,7 +49,10 @@ fn converse<L: Ledgers, P: Link, C: Clock, G: Gate, K: Sink, R: Wait + time::Clo
     pass: &mut Pass<L>,
     session: &mut Session,
 ) -> Result<u64, LinkFault>
-    ensures { IsTrue result (P.failures link.old) (P.failures link.new) }
+    ensures faults { IsTrue result (P.failures link.old) (P.failures link.new) }
+    ensures few { IsReadWithin (P.inward link.old) (P.inward link.new) desk.now.reads }
+    ensures endless { IsErrOf result LinkFault.Endless → P.inward link.new ≡ looked_at desk.now.reads 0 (P.inward link.old) }
+    ensures ended { OnOk result (session.new.shut ≡ false → HasEnded (P.inward link.old) (P.inward link.new)) }
 {
     let mut answers = 0;
     let mut piece = [0; PIECE];
@@ -71,7 +80,10 @@ fn answer<L: Ledgers, P: Link, C: Clock, G: Gate, K: Sink, R: Wait + time::Clock
     session: &mut Session,
     answers: &mut u64,
 ) -> Result<bool, LinkFault>
-    ensures { IsTrue result (P.failures link.old) (P.failures link.new) }
+    ensures faults { IsTrue result (P.failures link.old) (P.failures link.new) }
+    ensures looked { IfOk result (λ stays. P.inward link.new ≡ stays_or_ends stays (P.inward link.old)) }
+    ensures unread { OnErr result (P.inward link.new ≡ P.inward link.old) }
+    ensures other { IfErr result (λ fault. fault ≢ LinkFault.Endless) }
 {
     for _ in desk.rt.forever() {
         let want = session.next_want()?;
@@ -98,6 +110,8 @@ fn send<L: Ledgers, P: Link, C, G: Gate, K, R>(
     answers: &mut u64,
 ) -> Result<(), LinkFault>
     ensures faults { IsTrue result (P.failures link.old) (P.failures link.new) }
+    ensures unread { P.inward link.new ≡ P.inward link.old }
+    ensures other { IfErr result (λ fault. fault ≢ LinkFault.Endless) }
     ensures sent { OnOk result (Appends (P.written link.old) (P.written link.new) (concat session.old.answers)) }
     ensures emptied { OnOk result (session.new ≡ record session.old { answers = [] }) }
 {
@@ -121,7 +135,11 @@ fn ask<L: Ledgers, P: Link, C: Clock, G, K: Sink, R: Wait + time::Clock>(
     session: &mut Session,
     want: Want,
 ) -> Result<Option<Answer>, LinkFault>
-    ensures { IsTrue result (P.failures link.old) (P.failures link.new) }
+    ensures faults { IsTrue result (P.failures link.old) (P.failures link.new) }
+    ensures looked { IfOk result (λ answer. P.inward link.new ≡ stays_or_ends (is_some answer) (P.inward link.old)) }
+    ensures unread { OnErr result (P.inward link.new ≡ P.inward link.old) }
+    ensures other { IfErr result (λ fault. fault ≢ LinkFault.Endless) }
+    ensures unknown { channel_of_name desk.now.hub.now 0 want.channel ≡ None → result ≡ Ok (Some (Answer.Target TargetFault.NotFound)) }
 {
     let Some((channel, _)) = desk.hub.find(want.channel()) else {
         return Ok(Some(Answer::Target(TargetFault::NotFound)));
@@ -147,7 +165,10 @@ fn ask_once<L: Ledgers, P: Link, C: Clock, G, K: Sink, R: Wait + time::Clock>(
     channel: usize,
     want: Want,
 ) -> Result<Option<Answer>, LinkFault>
-    ensures { IsTrue result (P.failures link.old) (P.failures link.new) }
+    ensures faults { IsTrue result (P.failures link.old) (P.failures link.new) }
+    ensures looked { IfOk result (λ answer. P.inward link.new ≡ stays_or_ends (is_some answer) (P.inward link.old)) }
+    ensures unread { OnErr result (P.inward link.new ≡ P.inward link.old) }
+    ensures other { IfErr result (λ fault. fault ≢ LinkFault.Endless) }
 {
     match desk.hub.ask(desk.rt, desk.clock, pass, channel, want) {
         Ok(HubAsked::Now(reply)) => Ok(Some(Answer::Reply(reply.into_inner()))),
@@ -164,7 +185,10 @@ fn hold<L: Ledgers, P: Link, C, G, K: Sink, R: Wait + time::Clock>(
     session: &mut Session,
     claim: Claim,
 ) -> Result<Option<Answer>, LinkFault>
-    ensures { IsTrue result (P.failures link.old) (P.failures link.new) }
+    ensures faults { IsTrue result (P.failures link.old) (P.failures link.new) }
+    ensures looked { IfOk result (λ answer. P.inward link.new ≡ stays_or_ends (is_some answer) (P.inward link.old)) }
+    ensures unread { OnErr result (P.inward link.new ≡ P.inward link.old) }
+    ensures other { IfErr result (λ fault. fault ≢ LinkFault.Endless) }
 {
     let fed = session.feed(&[]);
     if fed.is_err() || session.shut() {
@@ -182,7 +206,10 @@ fn wait<L: Ledgers, P: Link, C, G, K: Sink, R: Wait + time::Clock>(
     pass: &mut Pass<L>,
     claim: Claim,
 ) -> Result<Option<Answer>, LinkFault>
-    ensures { IsTrue result (P.failures link.old) (P.failures link.new) }
+    ensures faults { IsTrue result (P.failures link.old) (P.failures link.new) }
+    ensures looked { IfOk result (λ answer. P.inward link.new ≡ stays_or_ends (is_some answer) (P.inward link.old)) }
+    ensures unread { OnErr result (P.inward link.new ≡ P.inward link.old) }
+    ensures other { IfErr result (λ fault. fault ≢ LinkFault.Endless) }
 {
     let limit = Duration::from_secs(LOOK);
     let mut held = claim;
@@ -203,7 +230,9 @@ fn wait<L: Ledgers, P: Link, C, G, K: Sink, R: Wait + time::Clock>(
 
 /// What a request is answered that its channel can't take now.
 fn unavailable(fault: HubFault) -> Result<Answer, LinkFault>
-    ensures { (failures : ℕ) → IsTrue result failures failures }
+    ensures faults { (failures : ℕ) → IsTrue result failures failures }
+    ensures other { IfErr result (λ fault. fault ≢ LinkFault.Endless) }
+    ensures answer { result ≡ unavailable_by fault }
 {
     match fault {
         HubFault::Room {

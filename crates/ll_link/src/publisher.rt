@@ -1,8 +1,13 @@
 //! A publisher's connection.
-ghost use Rattle.std.specs.Prelude.{ℕ, OnOk};
+ghost use Rattle.std.specs.Prelude.{◌≡◌, ◌≢◌, ℕ, Err, IfErr, IsErrOf, Ok, OnOk, Some, true};
 ghost use Rattle.std.specs.Io.KnownBytes.{Appends};
-ghost use Rattle.ll_publish.specs.Refusals.{reply_line};
+ghost use Rattle.ll_device.specs.Inward.{looked_at};
+ghost use Rattle.ll_item.specs.Items.{item_in};
+ghost use Rattle.ll_publish.specs.Meaning.{meant};
+ghost use Rattle.ll_publish.specs.Refusals.{item_refusal, reply_line};
+ghost use Rattle.ll_link.specs.Answers.{refused_before, refused_by};
 ghost use Rattle.ll_link.specs.Faults.{IsTrue};
+ghost use Rattle.ll_link.specs.Reads.{HasEnded, IsReadWithin};
 
 use crate::desk::Desk;
 use crate::fault::LinkFault;
@@ -10,7 +15,7 @@ use crate::gate::Gate;
 use crate::workers::PIECE;
 use ll_device::write_all;
 use ll_hub::{HubFault, Ledgers, Pass, RoomFault, Sink};
-use ll_item::{Item, Settings};
+use ll_item::{Item, ItemFault, Settings};
 use ll_peer::Link;
 use ll_publish::{Feed, Line, Refusal, reply_text};
 use std::sync::Wait;
@@ -21,7 +26,10 @@ pub(crate) fn serve<L: Ledgers, P: Link, C, G: Gate, K: Sink, R: Wait>(
     link: &mut P,
     pass: &mut Pass<L>,
 ) -> Result<u64, LinkFault>
-    ensures { IsTrue result (P.failures link.old) (P.failures link.new) }
+    ensures faults { IsTrue result (P.failures link.old) (P.failures link.new) }
+    ensures few { IsReadWithin (P.inward link.old) (P.inward link.new) desk.now.reads }
+    ensures endless { IsErrOf result LinkFault.Endless → P.inward link.new ≡ looked_at desk.now.reads 0 (P.inward link.old) }
+    ensures ended { OnOk result (HasEnded (P.inward link.old) (P.inward link.new)) }
 {
     let mut feed = Feed::new(desk.alloc);
     let mut answers = 0;
@@ -47,7 +55,9 @@ fn answer<L: Ledgers, P: Link, C, G: Gate, K: Sink, R: Wait>(
     feed: &mut Feed,
     answers: &mut u64,
 ) -> Result<(), LinkFault>
-    ensures { IsTrue result (P.failures link.old) (P.failures link.new) }
+    ensures faults { IsTrue result (P.failures link.old) (P.failures link.new) }
+    ensures unread { P.inward link.new ≡ P.inward link.old }
+    ensures other { IfErr result (λ fault. fault ≢ LinkFault.Endless) }
 {
     for _ in desk.rt.forever() {
         let Some(line) = feed.next() else {
@@ -68,6 +78,8 @@ fn tell<L: Ledgers, P: Link, C, G, K, R>(
     reply: &Result<u64, Refusal>,
 ) -> Result<(), LinkFault>
     ensures faults { IsTrue result (P.failures link.old) (P.failures link.new) }
+    ensures unread { P.inward link.new ≡ P.inward link.old }
+    ensures other { IfErr result (λ fault. fault ≢ LinkFault.Endless) }
     ensures sent { OnOk result (Appends (P.written link.old) (P.written link.new) (reply_line reply.now)) }
 {
     let text = reply_text(desk.alloc, reply)?;
@@ -77,14 +89,15 @@ fn tell<L: Ledgers, P: Link, C, G, K, R>(
     }
 }
 
-/// Publishes what a line announces: how many items its channel has accepted with it, or why it is refused. Where the record of its
-/// channel is full, that is handed out and the item published once more.
+/// Publishes what a line announces: how many items its channel has accepted with it, or why it is refused.
 fn publish<L: Ledgers, C, G, K: Sink, R: Wait>(
     desk: &Desk<'_, L, C, G, K, R>,
     pass: &mut Pass<L>,
     line: Line<'_>,
 ) -> Result<Result<u64, Refusal>, LinkFault>
-    ensures { (failures : ℕ) → IsTrue result failures failures }
+    ensures faults { (failures : ℕ) → IsTrue result failures failures }
+    ensures other { IfErr result (λ fault. fault ≢ LinkFault.Endless) }
+    ensures refused { (reason : Refusal) → refused_before desk.now.hub.now (meant line.entry) ≡ Some reason → result ≡ Ok (Err reason) }
 {
     let (name, text) = match line {
         Line::Item(name, text) => (name, text),
@@ -94,13 +107,35 @@ fn publish<L: Ledgers, C, G, K: Sink, R: Wait>(
     let Some((channel, settings)) = desk.hub.find(name) else {
         return Ok(Err(Refusal::UnknownChannel));
     };
-    match publish_once(desk, pass, channel, settings, text)? {
-        Err(Refusal::RecordFull) => {
-            desk.hand_out(channel)?;
-            publish_once(desk, pass, channel, settings, text)
-        }
-        answer => Ok(answer),
+    publish_to(desk, pass, channel, settings, text)
+}
+
+/// Publishes an item that is spelled so, in the channel at this place. Where the record of the channel is full, that is handed out and the
+/// item published once more.
+fn publish_to<L: Ledgers, C, G, K: Sink, R: Wait>(
+    desk: &Desk<'_, L, C, G, K, R>,
+    pass: &mut Pass<L>,
+    channel: usize,
+    settings: &Settings,
+    text: &str,
+) -> Result<Result<u64, Refusal>, LinkFault>
+    ensures faults { (failures : ℕ) → IsTrue result failures failures }
+    ensures other { IfErr result (λ fault. fault ≢ LinkFault.Endless) }
+    ensures refused { (fault : ItemFault) → item_in settings.now text.now ≡ Err fault → result ≡ Ok (Err (item_refusal fault)) }
+{
+    let answer = publish_once(desk, pass, channel, settings, text)?;
+    if !is_full(&answer) {
+        return Ok(answer);
     }
+    desk.hand_out(channel)?;
+    publish_once(desk, pass, channel, settings, text)
+}
+
+/// Whether an item was refused since the record of its channel is full.
+fn is_full(answer: &Result<u64, Refusal>) -> bool
+    ensures { result ≡ true → answer.now ≡ Err Refusal.RecordFull }
+{
+    matches!(answer, Err(Refusal::RecordFull))
 }
 
 /// Publishes an item that is spelled so, in the channel at this place.
@@ -111,7 +146,9 @@ fn publish_once<L: Ledgers, C, G, K, R: Wait>(
     settings: &Settings,
     text: &str,
 ) -> Result<Result<u64, Refusal>, LinkFault>
-    ensures { (failures : ℕ) → IsTrue result failures failures }
+    ensures faults { (failures : ℕ) → IsTrue result failures failures }
+    ensures other { IfErr result (λ fault. fault ≢ LinkFault.Endless) }
+    ensures refused { (fault : ItemFault) → item_in settings.now text.now ≡ Err fault → result ≡ Ok (Err (item_refusal fault)) }
 {
     let item = match Item::read(desk.alloc, settings, text) {
         Ok(item) => item,
@@ -119,12 +156,21 @@ fn publish_once<L: Ledgers, C, G, K, R: Wait>(
     };
     match desk.hub.publish(desk.rt, pass, channel, item) {
         Ok(count) => Ok(Ok(count.into_inner())),
-        Err(
-            HubFault::Room {
-                fault: RoomFault::Publish(fault),
-                ..
-            },
-        ) => Ok(Err(Refusal::from(fault))),
-        Err(_) => Err(LinkFault::Hub),
+        Err(fault) => Ok(Err(refusal(fault)?)),
+    }
+}
+
+/// What an item is answered that the hub refuses.
+fn refusal(fault: HubFault) -> Result<Refusal, LinkFault>
+    ensures faults { (failures : ℕ) → IsTrue result failures failures }
+    ensures other { IfErr result (λ fault. fault ≢ LinkFault.Endless) }
+    ensures answer { result ≡ refused_by fault }
+{
+    match fault {
+        HubFault::Room {
+            fault: RoomFault::Publish(fault),
+            ..
+        } => Ok(Refusal::from(fault)),
+        _ => Err(LinkFault::Hub),
     }
 }

@@ -1,6 +1,8 @@
 //! Workers, each of which serves one connection at a time.
-ghost use Rattle.std.specs.Prelude.{◌≡◌, ◌<◌, ◌≤◌, ◌^◌, Err, IfOk, length};
+ghost use Rattle.std.specs.Prelude.{◌≡◌, ◌<◌, ◌≤◌, ◌^◌, Err, IfOk, IsErrOf, OnOk, length, min};
+ghost use Rattle.ll_device.specs.Inward.{looked_at};
 ghost use Rattle.ll_link.specs.Faults.{IsTrue};
+ghost use Rattle.ll_link.specs.Reads.{HasEnded, IsReadWithin};
 
 use crate::desk::Desk;
 use crate::fault::LinkFault;
@@ -8,9 +10,11 @@ use crate::gate::Gate;
 use crate::{player, publisher};
 use crossbeam_channel::{Receiver, Sender};
 use ll_hub::{Clock, Hub, HubFault, Ledgers, Pass, Sink};
-use ll_peer::{Link, Role, Source};
+use ll_peer::{CountedLink, Link, Role, Source};
 use std::alloc::Global;
+use std::marker::Brand;
 use std::sync::Wait;
+use std::sync::ledger::{Blank, Ledger};
 use std::thread::Threads;
 use std::{thread, time};
 
@@ -34,7 +38,10 @@ pub fn serve_link<L: Ledgers, P: Link, C: Clock, G: Gate, K: Sink, R: Wait + tim
     hub: &Hub<L>,
     pass: &mut Pass<L>,
 ) -> Result<u64, LinkFault>
-    ensures { IsTrue result (P.failures link.old) (P.failures link.new) }
+    ensures faults { IsTrue result (P.failures link.old) (P.failures link.new) }
+    ensures few { IsReadWithin (P.inward link.old) (P.inward link.new) (2 ^ 32) }
+    ensures endless { IsErrOf result LinkFault.Endless → P.inward link.new ≡ looked_at (2 ^ 32) 0 (P.inward link.old) }
+    ensures ended { role ≡ Role.Publisher → OnOk result (HasEnded (P.inward link.old) (P.inward link.new)) }
 {
     serve_link_within(rt, alloc, role, link, clock, gate, sink, hub, pass, READS)
 }
@@ -52,7 +59,10 @@ pub fn serve_link_within<L: Ledgers, P: Link, C: Clock, G: Gate, K: Sink, R: Wai
     pass: &mut Pass<L>,
     reads: u64,
 ) -> Result<u64, LinkFault>
-    ensures { IsTrue result (P.failures link.old) (P.failures link.new) }
+    ensures faults { IsTrue result (P.failures link.old) (P.failures link.new) }
+    ensures few { IsReadWithin (P.inward link.old) (P.inward link.new) (min reads (2 ^ 32)) }
+    ensures endless { IsErrOf result LinkFault.Endless → P.inward link.new ≡ looked_at (min reads (2 ^ 32)) 0 (P.inward link.old) }
+    ensures ended { role ≡ Role.Publisher → OnOk result (HasEnded (P.inward link.old) (P.inward link.new)) }
 {
     let desk = Desk {
         rt,
@@ -157,14 +167,46 @@ fn work<L: Ledgers, P: Link, C: Clock, G: Gate, K: Sink, R: Wait + time::Clock>(
 ) -> Result<Pass<L>, HubFault> {
     let mut pass = hub.seat(rt)?;
     for _ in rt.forever() {
-        let Ok(mut link) = links.recv(rt) else {
+        let Ok(link) = links.recv(rt) else {
             return Ok(pass);
         };
-        let _ = serve_link(
-            rt, alloc, role, &mut link, clock, gate, sink, hub, &mut pass,
+        serve_counted::<L, Brand, P, C, G, K, R>(
+            rt,
+            alloc,
+            role,
+            link,
+            clock,
+            gate,
+            sink,
+            hub,
+            &mut pass,
+            Blank::new(2),
         );
     }
     unreachable!()
+}
+
+/// Serves one connection to its end, as one that tells how it is read. Nobody is told of its fault.
+// (A frame of its own: so a worker that waits for a connection, or that has started others, has touched little of its stack.)
+#[inline(never)]
+fn serve_counted<L: Ledgers, M: Ledger, P: Link, C: Clock, G: Gate, K: Sink, R: Wait + time::Clock>(
+    rt: &R,
+    alloc: Global,
+    role: Role,
+    link: P,
+    clock: &C,
+    gate: &G,
+    sink: &K,
+    hub: &Hub<L>,
+    pass: &mut Pass<L>,
+    blank: Blank,
+)
+    requires name { blank.name ≡ M.name }
+    requires parts { blank.parts ≡ M.parts }
+    requires two { blank.parts ≡ 2 }
+{
+    let mut counted: CountedLink<P, M> = CountedLink::new(link, blank);
+    let _ = serve_link(rt, alloc, role, &mut counted, clock, gate, sink, hub, pass);
 }
 
 /// Hands out the source's connections, and then lets go of the sender. A connection that no memory is found for is closed.

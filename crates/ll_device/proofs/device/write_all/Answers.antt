@@ -12,4 +12,5 @@ loop-taken-preserved g c = record {
   within = taken_within c.args.text.now c.loop-taken.taken c.in_ok-taken.field-0 c.loop-taken.invariant.within c.in_ok-taken.ensures.count;
   wrote = Appends-taken _ _ _ c.args.text.now c.loop-taken.taken c.in_ok-taken.field-0 c.loop-taken.invariant.wrote c.in_ok-taken.ensures.bytes;
   steady = c.in_ok-taken.ensures.steady ∙ c.loop-taken.invariant.steady;
+  unread = c.in_ok-taken.ensures.unread ∙ c.loop-taken.invariant.unread;
 }

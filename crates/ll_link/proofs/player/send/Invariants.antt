@@ -1,4 +1,4 @@
--- The answers so far were sent, and no write has failed.
+-- The answers so far were sent, no write has failed, and nothing was read.
 use Rattle.std.specs.Prelude.{◌≡◌, length}
 use Rattle.ll_link.proofs.SendLemmas.{IsSent}
 use Rattle.ll_link.proofs.player.send.Given as goal
@@ -6,6 +6,7 @@ use Rattle.ll_link.proofs.player.send.Given as goal
 abbrev pub invariant-loop-length : goal.invariant-loop-length
 invariant-loop-length g l = record {
   steady : g.P.Writer.failures l.link ≡ g.P.Writer.failures l.fn.link;
+  unread : g.P.Writer.inward l.link ≡ g.P.Writer.inward l.fn.link;
   sent : IsSent (g.P.Writer.written l.fn.link) (g.P.Writer.written l.link) l.fn.session.answers l.session.answers;
   rest : l.session ≡ record l.fn.session { answers = l.session.answers };
 }

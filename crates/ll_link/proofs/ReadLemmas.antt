@@ -1,0 +1,31 @@
+-- How a connection was read, read by read.
+use Rattle.std.proofs.Common.{◌≡◌, ◌∙◌, ℕ, ◌+◌, ◌≤◌, Bool, true, false, Option, ap, arith}
+use Rattle.ll_device.proofs.InwardLemmas.{looked_at-on}
+use Rattle.ll_device.specs.Inward.{Inward, looked_at}
+use Rattle.ll_link.specs.Reads.{HasEnded, IsReadWithin, stays_or_ends}
+
+-- so many reads that gave bytes, and then so many more, which showed so many ends
+pub read-then : (before mid after : Option Inward) (n more ends : ℕ)
+    → mid ≡ looked_at n 0 before → after ≡ looked_at more ends mid → after ≡ looked_at (n + more) ends before
+read-then before mid after n more ends p q =
+    let first : 0 + ends ≡ ends = omega arith in
+    looked_at-on before mid after n 0 more ends p q ∙ ap (λ e. looked_at (n + more) e before) first
+
+pub IsReadWithin-then : (before mid after : Option Inward) (n more ends most : ℕ)
+    → mid ≡ looked_at n 0 before → after ≡ looked_at more ends mid → n + more ≤ most → IsReadWithin before after most
+IsReadWithin-then before mid after n more ends most p q h = (n + more, ends, h, read-then before mid after n more ends p q)
+
+pub HasEnded-then : (before mid after : Option Inward) (n more : ℕ) → mid ≡ looked_at n 0 before → after ≡ looked_at more 1 mid → HasEnded before after
+HasEnded-then before mid after n more p q = (n + more, read-then before mid after n more 1 p q)
+
+-- so many reads that gave bytes, and then perhaps a look at the other end
+pub IsReadWithin-stays : (stays : Bool) (before mid after : Option Inward) (n most : ℕ)
+    → mid ≡ looked_at n 0 before → after ≡ stays_or_ends stays mid → n ≤ most → IsReadWithin before after most
+IsReadWithin-stays true before mid after n most p q h = (n, 0, h, q ∙ p)
+IsReadWithin-stays false before mid after n most p q h = IsReadWithin-then before mid after n 0 1 most p q (omega (arith, h))
+
+-- a look at one that stays adds nothing
+pub stayed : (stays : Bool) (before mid after : Option Inward) (n : ℕ)
+    → stays ≡ true → mid ≡ looked_at n 0 before → after ≡ stays_or_ends stays mid → after ≡ looked_at n 0 before
+stayed true before mid after n h p q = q ∙ p
+stayed false before mid after n h p q = absurd (cc)

@@ -1,0 +1,53 @@
+-- What is answered where no verdict of a channel stands behind it.
+use Rattle.std.specs.Prelude.{ℕ, List, Option, Some, None, Result, Ok, Err}
+use Rattle.ll_item.specs.Items.{item_in}
+use Rattle.ll_item.specs.Settings.{Configuration}
+use Rattle.ll_item.specs.declared.item.Item.{Item}
+use Rattle.ll_item.specs.declared.item.ItemFault.{ItemFault}
+use Rattle.ll_channels.specs.Channels.{channel_of_name}
+use Rattle.ll_publish.specs.Line as says
+use Rattle.ll_publish.specs.Refusals.{item_refusal, refusal_of}
+use Rattle.ll_publish.specs.declared.refusal.Refusal.{Refusal}
+use Rattle.ll_publish.specs.declared.refusal.Refusal.TheVariants.{BadLine, UnknownChannel, LineTooLong}
+use Rattle.ll_locked.specs.declared.fault.HubFault.{HubFault}
+use Rattle.ll_locked.specs.declared.fault.HubFault.TheVariants as hub
+use Rattle.ll_locked.specs.declared.fault.RoomFault.TheVariants as room
+use Rattle.ll_room.specs.declared.fault.AskFault.TheVariants as unasked
+use Rattle.ll_record.specs.declared.fault.ReadingFault.TheVariants as reading
+use Rattle.ll_wire.specs.declared.answer.Answer.{Answer}
+use Rattle.ll_wire.specs.declared.answer.Answer.TheVariants.{Unavailable}
+use Rattle.ll_wire.specs.declared.answer.Unavailable.TheVariants.{RecordFull, Memory}
+use Rattle.ll_link.specs.declared.fault.LinkFault.{LinkFault}
+use Rattle.ll_link.specs.declared.fault.LinkFault.TheVariants.{Hub}
+
+-- ---- a publisher's line
+
+abbrev pub refused_item : Result Item ItemFault → Option Refusal
+refused_item (Ok item) = None
+refused_item (Err fault) = Some (item_refusal fault)
+
+abbrev pub refused_in : Option (ℕ × Configuration) → List ℕ → Option Refusal
+refused_in None text = Some UnknownChannel
+refused_in (Some found) text = refused_item (item_in found.1 text)
+
+-- why a line is refused before the room of a channel is asked; none where it announces an item of one of the hub's channels
+abbrev pub refused_before : List Configuration → says.Line → Option Refusal
+refused_before channels (says.Item name text) = refused_in (channel_of_name channels 0 name) text
+refused_before channels says.Bad = Some BadLine
+refused_before channels says.TooLong = Some LineTooLong
+
+-- what is answered to an item that the hub refuses; no refusal of the channel's room ends the connection with Hub
+abbrev pub refused_by : HubFault → Result Refusal LinkFault
+refused_by (hub.Room place (room.Publish fault)) = Ok (refusal_of fault)
+refused_by other = Err Hub
+
+-- ---- a player's request
+
+-- what is answered to a request that the hub refuses; one that isn't refused for a full record or for memory ends the connection with Hub
+abbrev pub unavailable_by : HubFault → Result Answer LinkFault
+unavailable_by (hub.Room place (room.Ask unasked.RecordFull)) = Ok (Unavailable RecordFull)
+unavailable_by (hub.Room place (room.Ask unasked.Memory)) = Ok (Unavailable Memory)
+unavailable_by (hub.Room place (room.Clock reading.RecordFull)) = Ok (Unavailable RecordFull)
+unavailable_by (hub.Room place (room.Clock reading.Memory)) = Ok (Unavailable Memory)
+unavailable_by hub.Memory = Ok (Unavailable Memory)
+unavailable_by other = Err Hub
