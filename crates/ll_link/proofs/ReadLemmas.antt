@@ -1,5 +1,6 @@
 -- How a connection was read, read by read.
-use Rattle.std.proofs.Common.{◌≡◌, ◌∙◌, ℕ, ◌+◌, ◌≤◌, Bool, true, false, Option, ap, arith}
+use Rattle.std.proofs.Common.{◌≡◌, ◌∙◌, ℕ, ◌+◌, ◌≤◌, Bool, true, false, Option, Some, None, ap, arith}
+use Rattle.std.specs.Prelude.{is_some}
 use Rattle.ll_device.proofs.InwardLemmas.{looked_at-on}
 use Rattle.ll_device.specs.Inward.{Inward, looked_at}
 use Rattle.ll_link.specs.Reads.{HasEnded, IsReadWithin, stays_or_ends}
@@ -29,3 +30,9 @@ pub stayed : (stays : Bool) (before mid after : Option Inward) (n : ℕ)
     → stays ≡ true → mid ≡ looked_at n 0 before → after ≡ stays_or_ends stays mid → after ≡ looked_at n 0 before
 stayed true before mid after n h p q = q ∙ p
 stayed false before mid after n h p q = absurd (cc)
+
+-- one who gets an answer stays
+pub stays-if-some : {A : Type 0} (answer : Option A) (a : A) (before after : Option Inward)
+    → answer ≡ Some a → after ≡ stays_or_ends (is_some answer) before → after ≡ before
+stays-if-some None a before after h q = absurd (cc)
+stays-if-some (Some b) a before after h q = q
