@@ -1,3 +1,3 @@
+pub mod Counts
 pub mod Inward
-pub mod Uses
 pub mod Written

@@ -2,7 +2,9 @@
 #![tactic(auto)]
 
 mod counted;
+mod counts;
 mod device;
 
-pub use counted::{CountedReader, CountedWriter, Uses};
-pub use device::{Failed, Reader, Writer, write_all};
+pub use counted::{CountedReader, CountedWriter};
+pub use counts::TwoCounts;
+pub use device::{Failed, Reader, Writer, write_all, write_both};

@@ -1,7 +1,7 @@
 //! Scripts and what they write, over devices that give and take a few bytes at a time, and that fail.
-ghost use Rattle.std.specs.Prelude.{◌≡◌, Some};
+ghost use Rattle.std.specs.Prelude.{◌≡◌, ◌+◌, Some};
 
-use ll_device::{Failed, Reader, Uses, Writer};
+use ll_device::{Failed, Reader, TwoCounts, Writer};
 use ll_replay::{Refusal, RunFault, Summary, run, run_within};
 use std::alloc::{AllocError, Global};
 use std::marker::Brand;
@@ -43,24 +43,25 @@ struct Source<'a, L: Ledger> {
     rest: &'a [u8],
     step: usize,
     reads: usize,
-    uses: Uses<L>,
+    /// Uses that went well, and uses that failed.
+    uses: TwoCounts<L>,
 }
 
 impl<L: Ledger> Reader for Source<'_, L> {
     ghost left = { λ s. Some s.rest.now };
 
-    ghost reads = { λ s. s.uses.uses };
+    ghost reads = { λ s. s.uses.first + s.uses.second };
 
-    ghost failures = { λ s. s.uses.failures };
+    ghost failures = { λ s. s.uses.second };
 
     fn read(&mut self, buf: &mut [u8]) -> Result<usize, Failed> {
         let count = self.step.min(buf.len()).min(self.rest.len());
         if self.reads == 0 || (count == 0 && !self.rest.is_empty()) {
-            self.uses.add_failure();
+            self.uses.add_second();
             return Err(Failed);
         }
         self.reads -= 1;
-        self.uses.add_use();
+        self.uses.add_first();
         let (front, rest) = self.rest.split_at(count);
         buf[..count].copy_from_slice(front);
         self.rest = rest;
@@ -74,28 +75,29 @@ struct Sink<L: Ledger> {
     text: Vec<u8>,
     step: usize,
     writes: usize,
-    uses: Uses<L>,
+    /// Uses that went well, and uses that failed.
+    uses: TwoCounts<L>,
 }
 
 impl<L: Ledger> Writer for Sink<L> {
     ghost written = { λ s. Some s.text.items };
 
-    ghost failures = { λ s. s.uses.failures };
+    ghost failures = { λ s. s.uses.second };
 
     fn write(&mut self, text: &[u8]) -> Result<usize, Failed> {
         let count = self.step.min(text.len());
         if self.writes == 0 || (count == 0 && !text.is_empty()) {
-            self.uses.add_failure();
+            self.uses.add_second();
             return Err(Failed);
         }
         match self.text.extend_from_slice(&text[..count]) {
             Ok(()) => {
                 self.writes -= 1;
-                self.uses.add_use();
+                self.uses.add_first();
                 Ok(count)
             }
             Err(_) => {
-                self.uses.add_failure();
+                self.uses.add_second();
                 Err(Failed)
             }
         }
@@ -137,13 +139,13 @@ fn run_by<L: Ledger, M: Ledger>(
         rest: script,
         step: from.step,
         reads: from.times,
-        uses: Uses::new(reads),
+        uses: TwoCounts::new(reads),
     };
     let mut sink: Sink<M> = Sink {
         text: Vec::new(alloc),
         step: to.step,
         writes: to.times,
-        uses: Uses::new(writes),
+        uses: TwoCounts::new(writes),
     };
     let result = match most {
         Some(most) => run_within(alloc, &mut source, &mut sink, most),
