@@ -2,7 +2,7 @@ use libc::net::{POLLRDHUP, SO_KEEPALIVE, SOL_SOCKET};
 use libc::types::pollfd;
 use ll_device::{Failed, Writer};
 use ll_peer::{Link, Role, Source};
-use std::io::{Read, Write};
+use std::io::{IoSlice, Read, Write};
 use std::net::{Net, SocketAddr, SocketAddrV4, TcpListener, TcpStream};
 use std::os::fd::AsRawFd;
 use std::thread;
@@ -38,6 +38,21 @@ impl Writer for Socket {
         let mut stream = &self.stream;
         match stream.write(text) {
             Ok(count) if count > 0 || text.is_empty() => Ok(count),
+            _ => {
+                self.failed = true;
+                Err(Failed)
+            }
+        }
+    }
+
+    /// One system call for both.
+    fn write_two(&mut self, first: &[u8], second: &[u8]) -> Result<usize, Failed> {
+        if self.failed {
+            return Ok(first.len() + second.len());
+        }
+        let both = [IoSlice::new(first), IoSlice::new(second)];
+        match self.stream.write_vectored(&both) {
+            Ok(count) if count > 0 || (first.is_empty() && second.is_empty()) => Ok(count),
             _ => {
                 self.failed = true;
                 Err(Failed)
