@@ -1,4 +1,5 @@
 pub mod Response
+pub mod Parts
 pub mod Reading
 pub mod Heads
 pub mod Places

@@ -2,6 +2,7 @@
 #![tactic(auto)]
 
 mod answer;
+mod body;
 mod fault;
 mod fields;
 mod head;
@@ -10,6 +11,7 @@ mod message;
 mod place;
 
 pub use answer::{Answer, Unavailable};
+pub use body::{Body, Message};
 pub use fault::HeadFault;
 pub use head::{Head, Request, next_head};
 pub use laws::{grammar_law, heads_stay_law};

@@ -1,31 +1,34 @@
 //! The bytes of an answer.
 ghost use Rattle.std.specs.Prelude.{◌≡◌, ◌++◌, IfOk, OnOk, string_bytes};
+ghost use Rattle.ll_page.specs.Page.{page_text};
+ghost use Rattle.ll_wire.specs.Parts.{bytes_of};
 ghost use Rattle.ll_wire.specs.Response as spec;
 
 use crate::answer::Answer;
+use crate::body::{Body, Message};
+use ll_page::Page;
 use ll_verdict::Reply;
 use std::alloc::{AllocError, Global};
 
-/// The response with this answer (RFC 9112, section 4), which tells whether the connection is kept. Its body is the playlist, or
-/// the name of the refusal and LF. It fails only where no memory is found.
-pub fn response(alloc: Global, answer: &Answer, keep: bool) -> Result<Vec<u8>, AllocError>
-    ensures { IfOk result (λ bytes. bytes.items ≡ spec.response_bytes answer.now keep) }
+/// The response with this answer (RFC 9112, section 4), which tells whether the connection is kept. Its body is the playlist, which
+/// it shares with the answer, or the name of the refusal and LF. It fails only where no memory is found.
+pub fn response(alloc: Global, answer: &Answer, keep: bool) -> Result<Message, AllocError>
+    ensures { IfOk result (λ message. bytes_of message ≡ spec.response_bytes answer.now keep) }
 {
-    let text = match answer {
-        Answer::Reply(reply) => reply_response(alloc, reply, keep)?,
-        Answer::Unavailable(reason) => refusal(alloc, 503, reason.name(), keep)?,
-        Answer::Target(fault) => refusal(alloc, fault.status(), fault.name(), keep)?,
-        Answer::Head(fault) => refusal(alloc, fault.status(), fault.name(), keep)?,
-    };
-    Ok(text.into_bytes())
+    match answer {
+        Answer::Reply(reply) => reply_response(alloc, reply, keep),
+        Answer::Unavailable(reason) => refusal(alloc, 503, reason.name(), keep),
+        Answer::Target(fault) => refusal(alloc, fault.status(), fault.name(), keep),
+        Answer::Head(fault) => refusal(alloc, fault.status(), fault.name(), keep),
+    }
 }
 
 /// The response with what a channel gives.
-fn reply_response(alloc: Global, reply: &Reply, keep: bool) -> Result<String, AllocError>
-    ensures { IfOk result (λ text. string_bytes text ≡ spec.message (spec.reply_status reply.now) (spec.reply_body reply.now) keep) }
+fn reply_response(alloc: Global, reply: &Reply, keep: bool) -> Result<Message, AllocError>
+    ensures { IfOk result (λ message. bytes_of message ≡ spec.message (spec.reply_status reply.now) (spec.reply_body reply.now) keep) }
 {
     match reply {
-        Reply::Text(page) => playlist(alloc, page.text(), keep),
+        Reply::Text(page) => playlist(alloc, page, keep),
         Reply::NotFound => refusal(alloc, 404, "NotFound", keep),
         Reply::TooFar => refusal(alloc, 400, "TooFar", keep),
         Reply::Busy => refusal(alloc, 503, "Busy", keep),
@@ -33,23 +36,28 @@ fn reply_response(alloc: Global, reply: &Reply, keep: bool) -> Result<String, Al
     }
 }
 
-/// The response with a playlist.
-fn playlist(alloc: Global, text: &str, keep: bool) -> Result<String, AllocError>
-    ensures { IfOk result (λ bytes. string_bytes bytes ≡ spec.message 200 text.now keep) }
+/// The response with a playlist, whose text it shares.
+fn playlist(alloc: Global, page: &Page, keep: bool) -> Result<Message, AllocError>
+    ensures { IfOk result (λ message. bytes_of message ≡ spec.message 200 (page_text page.now) keep) }
 {
-    let mut message = head(alloc, 200, text.len(), keep)?;
-    message.push_str(text)?;
-    Ok(message)
+    let head = head(alloc, 200, page.text().len(), keep)?;
+    Ok(Message {
+        head: head.into_bytes(),
+        body: Body::Playlist(page.again()?),
+    })
 }
 
 /// The response with a refusal of this name.
-fn refusal(alloc: Global, status: u16, name: &str, keep: bool) -> Result<String, AllocError>
-    ensures { IfOk result (λ bytes. string_bytes bytes ≡ spec.message status (spec.named name.now) keep) }
+fn refusal(alloc: Global, status: u16, name: &str, keep: bool) -> Result<Message, AllocError>
+    ensures { IfOk result (λ message. bytes_of message ≡ spec.message status (spec.named name.now) keep) }
 {
-    let mut message = head(alloc, status, name.len() + 1, keep)?;
-    message.push_str(name)?;
-    message.push_str("\n")?;
-    Ok(message)
+    let mut text = head(alloc, status, name.len() + 1, keep)?;
+    text.push_str(name)?;
+    text.push_str("\n")?;
+    Ok(Message {
+        head: text.into_bytes(),
+        body: Body::Nothing,
+    })
 }
 
 /// All that stands before a body of this length.
