@@ -1,6 +1,5 @@
 pub mod Requests
 pub mod Output
-pub mod Pieces
 pub mod Talk
 pub mod Told
 pub mod Past

@@ -3,6 +3,7 @@
 #![tactic(auto)]
 
 mod laws;
+mod left;
 mod output;
 mod session;
 mod taken;

@@ -1,12 +1,11 @@
 //! One connection's session.
-ghost use Rattle.std.specs.Prelude.{◌≡◌, ◌≢◌, ◌++◌, [], IfOk, IsSome, OnErr, OnOk, drop, false, is_some, length, nat_lt};
+ghost use Rattle.std.specs.Prelude.{◌≡◌, ◌≢◌, ◌++◌, ◌≤◌, ◌∷◌, [], IfOk, IsSome, MatchOption, OnErr, OnOk, drop, false, is_some, length, nat_lt};
 ghost use Rattle.std.specs.List.{concat};
 ghost use Rattle.ll_wire.specs.Response.{response_bytes};
-ghost use Rattle.ll_session.specs.Output.{first_length};
 ghost use Rattle.ll_session.specs.Past as past;
 ghost use Rattle.ll_session.specs.Talk as talk;
 
-use crate::output::{Output, drop_front};
+use crate::output::Output;
 use crate::taken::{Taken, is_unfinished, take_front};
 use ll_directive::Want;
 use ll_wire::{Answer, HeadFault, response};
@@ -99,7 +98,7 @@ impl Session {
             want,
             ends,
         } = take_front(self.alloc, &self.unread)?;
-        self.output.append(&told)?;
+        self.output.append(told)?;
         drop_front(&mut self.unread, at);
         self.shut = ends;
         match want {
@@ -121,8 +120,7 @@ impl Session {
         if self.out == Some(false) {
             return self.put_last(answer);
         }
-        let text = response(self.alloc, answer, true)?;
-        self.output.push(&text)?;
+        self.output.push(response(self.alloc, answer, true)?)?;
         self.out = None;
         Ok(())
     }
@@ -132,8 +130,7 @@ impl Session {
         ensures ok { OnOk result (self.new ≡ talk.shuts self.old (response_bytes answer.now false)) }
         ensures err { OnErr result (self.new ≡ self.old) }
     {
-        let text = response(self.alloc, answer, false)?;
-        self.output.push(&text)?;
+        self.output.push(response(self.alloc, answer, false)?)?;
         self.unread.clear();
         self.out = None;
         self.shut = true;
@@ -149,16 +146,16 @@ impl Session {
         self.shut = true;
     }
 
-    /// The bytes that were put out and not sent.
-    pub fn output(&self) -> &[u8]
-        ensures { result.now ≡ concat self.now.answers }
+    /// A copy of the bytes that were put out and not sent. It fails only where no memory is found.
+    pub fn output(&self) -> Result<Vec<u8>, AllocError>
+        ensures { IfOk result (λ bytes. bytes.items ≡ concat self.now.answers) }
     {
-        self.output.bytes()
+        self.output.copy(self.alloc)
     }
 
-    /// How many bytes of the output are left of its first answer; nothing, where all is sent.
-    pub fn first_answer(&self) -> Option<usize>
-        ensures { result ≡ first_length self.now.answers }
+    /// What is left of the first answer that was put out and not sent, in two pieces that lie apart; nothing, where all is sent.
+    pub fn first_answer(&self) -> Option<(&[u8], &[u8])>
+        ensures { MatchOption result (self.now.answers ≡ []) (λ first. self.now.answers ≡ (first.0.now ++ first.1.now) ∷ drop 1 self.now.answers) }
     {
         self.output.first()
     }
@@ -204,4 +201,12 @@ fn are_too_many(unread: &[u8], piece: &[u8]) -> bool
     ensures { result ≡ nat_lt 16384 (length (unread.now ++ piece.now)) }
 {
     unread.len() > MOST_WAITING || piece.len() > MOST_WAITING - unread.len()
+}
+
+/// Drops the first bytes.
+fn drop_front(bytes: &mut Vec<u8>, n: usize)
+    requires { n ≤ length bytes.old.items }
+    ensures { bytes.new.items ≡ drop n bytes.old.items }
+{
+    let _front = bytes.drain(..n);
 }

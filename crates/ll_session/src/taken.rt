@@ -118,8 +118,7 @@ fn read_want(alloc: Global, target: &[u8]) -> Result<Result<Want, TargetFault>, 
 fn tell(alloc: Global, told: &mut Output, answer: &Answer, keep: bool) -> Result<(), AllocError>
     ensures { OnOk result (told.new ≡ told.old ++ response_bytes answer.now keep ∷ []) }
 {
-    let text = response(alloc, answer, keep)?;
-    told.push(&text)
+    told.push(response(alloc, answer, keep)?)
 }
 
 /// The bytes from this place on.
