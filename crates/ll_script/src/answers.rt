@@ -45,16 +45,22 @@ pub fn unasked_line(alloc: Global, id: u64, refusal: AskRefusal) -> Result<Strin
     named_reply(alloc, id, 503, refusal.name())
 }
 
-/// An answer of a connection, after the text so far. Where no memory is found, the text may have got some of it.
-pub fn push_sent(text: &mut Vec<u8>, number: u64, bytes: &[u8]) -> Result<(), AllocError>
-    ensures { OnOk result (text.new.items ≡ text.old.items ++ spec.sent_line number bytes.now) }
+/// An answer of a connection, in two pieces, after the text so far. Where no memory is found, the text may have got some of it.
+pub fn push_sent(
+    text: &mut Vec<u8>,
+    number: u64,
+    head: &[u8],
+    body: &[u8],
+) -> Result<(), AllocError>
+    ensures { OnOk result (text.new.items ≡ text.old.items ++ spec.sent_line number (head.now ++ body.now)) }
 {
     text.extend_from_slice(b"sent ")?;
     push_number(text, number)?;
     text.extend_from_slice(b" ")?;
-    push_number(text, bytes.len() as u64)?;
+    push_number(text, (head.len() + body.len()) as u64)?;
     text.extend_from_slice(b"\n")?;
-    text.extend_from_slice(bytes)
+    text.extend_from_slice(head)?;
+    text.extend_from_slice(body)
 }
 
 /// A connection has shut by itself.
