@@ -4,6 +4,8 @@
 #[cfg(test)]
 mod feed_tests;
 #[cfg(test)]
+mod pages;
+#[cfg(test)]
 mod reply_tests;
 #[cfg(test)]
 mod session_tests;

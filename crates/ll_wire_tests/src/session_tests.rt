@@ -1,3 +1,5 @@
+use crate::pages::page_of_one_part;
+use ll_page::Page;
 use ll_session::Session;
 use ll_verdict::Reply;
 use ll_wire::Answer;
@@ -21,10 +23,11 @@ fn answer_wants(session: &mut Session, notes: &mut String) -> Result<(), AllocEr
 /// Sends one answer after another, and notes the status of each and whether the connection is kept after it.
 fn send_answers(session: &mut Session, notes: &mut String) -> Result<(), AllocError> {
     for _ in 0..9 {
-        let Some(n) = session.first_answer() else {
+        let Some((head, body)) = session.first_answer() else {
             return Ok(());
         };
-        note_answer(session.output().get(..n).unwrap_or(b""), notes)?;
+        note_answer(head, notes)?;
+        let n = head.len() + body.len();
         session.sent(n);
     }
     Ok(())
@@ -36,8 +39,9 @@ fn send_all(session: &mut Session, notes: &mut String) -> Result<(), AllocError>
     notes.push_str(if session.shut() { "shut" } else { "open" })
 }
 
-fn note_answer(answer: &[u8], notes: &mut String) -> Result<(), AllocError> {
-    let text = str::from_utf8(answer).unwrap_or("");
+/// Notes what its head tells of an answer.
+fn note_answer(head: &[u8], notes: &mut String) -> Result<(), AllocError> {
+    let text = str::from_utf8(head).unwrap_or("");
     notes.push_str(text.get(9..12).unwrap_or(""))?;
     notes.push_str(if text.contains("keep-alive") {
         "+ "
@@ -186,6 +190,56 @@ fn few_bytes_may_wait(rt: HostRuntime) -> Result<(), Fail> {
     ] {
         let notes = held(rt.alloc(), head, counts)?;
         assert!(rt; notes.as_str() == expected, "at {head} {notes}");
+    }
+    Ok(())
+}
+
+/// Sends all that is put out, so many bytes at a time, and gives what was sent.
+fn sent_by(alloc: Global, session: &mut Session, step: usize) -> Result<Vec<u8>, AllocError> {
+    let mut text = Vec::new(alloc);
+    for _ in 0..999 {
+        let Some((head, body)) = session.first_answer() else {
+            return Ok(text);
+        };
+        let n = step.min(head.len() + body.len());
+        let front = n.min(head.len());
+        text.extend_from_slice(&head[..front])?;
+        text.extend_from_slice(&body[..n - front])?;
+        session.sent(n);
+    }
+    Ok(text)
+}
+
+/// Answers one request with this playlist and the next one with NotFound. Gives what is put out, and what is sent of it.
+fn put_out_and_sent(
+    alloc: Global,
+    session: &mut Session,
+    page: &Page,
+    step: usize,
+) -> Result<(Vec<u8>, Vec<u8>), AllocError> {
+    session.feed(b"GET /a/v/live.m3u8 HTTP/1.1\nHost:\n\nGET /a/v/live.m3u8 HTTP/1.1\nHost:\n\n")?;
+    for answer in [
+        Answer::Reply(Reply::Text(page.again()?)),
+        Answer::Reply(Reply::NotFound),
+    ] {
+        session.next_want()?;
+        if session.waiting() {
+            session.answered(&answer)?;
+        }
+    }
+    Ok((session.output()?, sent_by(alloc, session, step)?))
+}
+
+#[test]
+fn answers_are_sent_in_pieces(rt: HostRuntime) -> Result<(), Fail> {
+    let page = page_of_one_part(rt.alloc())?;
+    for step in [1, 100, 133, 134, 135, 534, 535, 999] {
+        let mut session = Session::new(rt.alloc());
+        let both = put_out_and_sent(rt.alloc(), &mut session, &page, step);
+        session.end();
+        let (put_out, sent) = both?;
+        assert_eq!(rt; put_out.len(), 535 + 129);
+        assert!(rt; put_out == sent, "at {step}");
     }
     Ok(())
 }

@@ -1,9 +1,6 @@
+use crate::pages::page_of_one_part;
 use ll_directive::TargetFault;
-use ll_item::{Item, Settings};
-use ll_page::{Form, Page, Rendition, Shown};
-use ll_range::Ranges;
 use ll_verdict::Reply;
-use ll_window::Window;
 use ll_wire::{Answer, Head, HeadFault, Request, Unavailable, next_head, response};
 use std::test::Fail;
 
@@ -257,12 +254,13 @@ fn answers_are_written(rt: HostRuntime) -> Result<(), Fail> {
         (Answer::Reply(Reply::Busy), false, 130),
         (Answer::Unavailable(Unavailable::RecordFull), false, 137),
     ] {
-        let bytes = response(rt.alloc(), &answer, keep)?;
-        assert_eq!(rt; bytes.len(), length);
+        let message = response(rt.alloc(), &answer, keep)?;
+        assert_eq!(rt; message.head.len(), length);
+        assert!(rt; message.body.bytes().is_empty());
     }
-    let bytes = response(rt.alloc(), &Answer::Head(HeadFault::BadMethod), true)?;
+    let message = response(rt.alloc(), &Answer::Head(HeadFault::BadMethod), true)?;
     assert!(rt;
-        bytes.as_slice()
+        message.head.as_slice()
             == b"HTTP/1.1 405 Method Not Allowed\r\nContent-Type: text/plain\r\nContent-Length: 10\r\nCache-Control: no-cache\r\nAllow: GET\r\nConnection: keep-alive\r\n\r\nBadMethod\n".as_slice()
     );
     Ok(())
@@ -270,21 +268,13 @@ fn answers_are_written(rt: HostRuntime) -> Result<(), Fail> {
 
 #[test]
 fn playlists_are_answered(rt: HostRuntime) -> Result<(), Fail> {
-    let line = "channel cam target=4 part=1000000 skip=24 window=36 renditions=hi first=0 start=0";
-    let settings = Settings::read(rt.alloc(), line)?;
-    let mut window = Window::new(rt.alloc(), &settings)?;
-    window.push(Item::read(rt.alloc(), &settings, "part hi 1000000 -")?)?;
-    let ranges = Ranges::new(rt.alloc(), &settings);
-    let mut renditions = Vec::new(rt.alloc());
-    renditions.push(Rendition { window, ranges })?;
-    let shown = Shown::of(rt.alloc(), &settings, &renditions, 1)?;
-    let page = Page::make(rt.alloc(), &shown, 0, Form::Full)?.ok_or("the rendition")?;
+    let page = page_of_one_part(rt.alloc())?;
     assert_eq!(rt; page.text().len(), 401);
     let again = page.again()?;
-    let bytes = response(rt.alloc(), &Answer::Reply(Reply::Text(page)), true)?;
-    assert_eq!(rt; bytes.len(), 535);
+    let message = response(rt.alloc(), &Answer::Reply(Reply::Text(page)), true)?;
     let head =
         b"HTTP/1.1 200 OK\r\nContent-Type: application/vnd.apple.mpegurl\r\nContent-Length: 401\r\nCache-Control: no-cache\r\nConnection: keep-alive\r\n\r\n".as_slice();
-    assert!(rt; bytes.starts_with(head) && bytes.ends_with(again.text().as_bytes()));
+    assert!(rt; message.head.as_slice() == head);
+    assert!(rt; message.body.bytes() == again.text().as_bytes());
     Ok(())
 }
