@@ -1,9 +1,7 @@
 -- One connection: a request that is made, a step, and the answers that are written.
 use Rattle.std.proofs.Common.{◌≡◌, ◌≢◌, ℕ, ◌+◌, List, [], ◌∷◌, ◌++◌, Option, Bool, Some, None, true, false, refl, ap, ◌∙◌, sym, subst, arith, min, length, length-append, take, drop, append_assoc, append-nil}
 use Rattle.std.specs.Prelude.{flat_map}
-use Rattle.std.specs.List.{concat}
 use Rattle.std.proofs.lemmas.Grind.{flat_map-append}
-use Rattle.std.proofs.Math.Seq.{take-append_seam}
 use Rattle.ll_directive.specs.Targets.{WantValue}
 use Rattle.ll_directive.specs.declared.fault.TargetFault.TheVariants.{NotFound}
 use Rattle.ll_held.specs.declared.owner.Owner.{Owner}
@@ -11,7 +9,6 @@ use Rattle.ll_held.specs.declared.owner.Owner.TheVariants.{Connection}
 use Rattle.ll_item.specs.Settings.{Configuration}
 use Rattle.ll_script.specs.Answers.{sent_line}
 use Rattle.ll_channels.specs.Channels.{channel_of_name}
-use Rattle.ll_session.specs.Output.{first_length}
 use Rattle.ll_session.specs.Past.{next_entries}
 use Rattle.ll_session.specs.Requests.{Entry}
 use Rattle.ll_session.specs.Talk.{SessionValue, fed, muted, next_want, pulled}
@@ -120,22 +117,17 @@ module _ (n : ℕ) where
   }
 
   -- no answer is there
-  pub told_none : (answers : List (List ℕ)) (sent : Sent) → first_length answers ≡ None → AreTold n answers sent sent
-  told_none [] sent e = record { text = sym (append-nil sent.text.items); replies = λ le. omega arith }
-  told_none (a ∷ answers) sent e = cc
+  pub told_none : (answers : List (List ℕ)) (sent : Sent) → answers ≡ [] → AreTold n answers sent sent
+  told_none answers sent none = rw none (record { text = sym (append-nil sent.text.items); replies = λ le. omega arith })
 
   -- one answer, and then the others
-  pub told_one : (answers : List (List ℕ)) (len : ℕ) (now new after : Sent) → first_length answers ≡ Some len
-      → new.text.items ≡ now.text.items ++ sent_line n (take len (concat answers)) → new.replies ≡ min (now.replies + 1) count_end
+  pub told_one : (answers : List (List ℕ)) (first : List ℕ) (now new after : Sent) → answers ≡ first ∷ drop 1 answers
+      → new.text.items ≡ now.text.items ++ sent_line n first → new.replies ≡ min (now.replies + 1) count_end
       → AreTold n (drop 1 answers) new after → AreTold n answers now after
-  told_one [] len now new after e text replies t = cc
-  told_one (a ∷ answers) len now new after e text replies t =
-      let whole : take len (a ++ concat answers) ≡ a = let same : len ≡ length a = cc in rw same (take-append_seam a (concat answers)) in
-      told_then (a ∷ []) answers now new after
-      (record {
-        text = text ∙ ap (λ x. now.text.items ++ sent_line n x) whole ∙ ap (λ x. now.text.items ++ x) (sym (append-nil (sent_line n a)));
-        replies = λ le. replies;
-      }) t
+  told_one answers first now new after is text replies t =
+      subst (λ (x : List (List ℕ)). AreTold n x now after) (sym is)
+      (told_then (first ∷ []) (drop 1 answers) now new after
+      (record { text = text ∙ ap (λ x. now.text.items ++ x) (sym (append-nil (sent_line n first))); replies = λ le. replies }) t)
 
 -- the first answer is gone
 pub one_less : (first s t : SessionValue) → t ≡ record s { answers = drop 1 s.answers } → s ≡ record first { answers = s.answers }
