@@ -12,7 +12,7 @@ use crate::desk::Desk;
 use crate::fault::LinkFault;
 use crate::gate::Gate;
 use crate::workers::PIECE;
-use ll_device::write_all;
+use ll_device::write_both;
 use ll_directive::{TargetFault, Want};
 use ll_hub::{Claim, Clock, HubAsked, HubFault, Ledgers, Pass, RoomFault, Sink, Waited};
 use ll_peer::Link;
@@ -115,10 +115,10 @@ fn send<L: Ledgers, P: Link, C, G: Gate, K, R>(
     ensures sent { OnOk result (Appends (P.written link.old) (P.written link.new) (concat session.old.answers)) }
     ensures emptied { OnOk result (session.new ≡ record session.old { answers = [] }) }
 {
-    while let Some(length) = session.first_answer() {
+    while let Some((head, body)) = session.first_answer() {
         *answers = answers.saturating_add(1);
         desk.gate.pass(*answers);
-        match write_all(link, &session.output()[..length]) {
+        match write_both(link, head, body) {
             Ok(()) => session.first_sent(),
             Err(_) => return Err(LinkFault::Write),
         }
