@@ -1,11 +1,11 @@
 //! Connections in memory.
-ghost use Rattle.std.specs.Prelude.{◌≤◌, None, if◌then◌else◌};
+ghost use Rattle.std.specs.Prelude.{◌+◌, ◌≤◌, None, if◌then◌else◌, length};
 
 use ll_device::{Failed, Writer};
 use ll_hub::Sink;
 use ll_link::{Gate, Link};
 use ll_record::Chunk;
-use std::alloc::Global;
+use std::alloc::{AllocError, Global};
 use std::str;
 
 /// What a publisher announces: a segment of one part.
@@ -123,12 +123,18 @@ impl Writer for Wire<'_> {
     ghost failures = { λ w. if w.failed then 1 else 0 };
 
     fn write(&mut self, text: &[u8]) -> Result<usize, Failed> {
+        self.write_two(text, &[])
+    }
+
+    /// Both are one write.
+    fn write_two(&mut self, first: &[u8], second: &[u8]) -> Result<usize, Failed> {
+        let all = first.len() + second.len();
         if self.failed {
-            return Ok(text.len());
+            return Ok(all);
         }
-        let count = self.taken(text.len());
-        let stuck = self.plan.writes == 0 || (count == 0 && !text.is_empty());
-        if stuck || self.sent.extend_from_slice(&text[..count]).is_err() {
+        let count = self.taken(all);
+        let stuck = self.plan.writes == 0 || (count == 0 && all > 0);
+        if stuck || keep(&mut self.sent, first, second, count).is_err() {
             self.failed = true;
             return Err(Failed);
         }
@@ -136,6 +142,15 @@ impl Writer for Wire<'_> {
         self.plan.whole = self.plan.whole.checked_sub(1).unwrap_or(100_000);
         Ok(count)
     }
+}
+
+/// Keeps so many bytes of both.
+fn keep(sent: &mut Vec<u8>, first: &[u8], second: &[u8], count: usize) -> Result<(), AllocError>
+    requires { count ≤ length first.now + length second.now }
+{
+    let front = count.min(first.len());
+    sent.extend_from_slice(&first[..front])?;
+    sent.extend_from_slice(&second[..count - front])
 }
 
 impl Link for Wire<'_> {
