@@ -1,4 +1,5 @@
 //! Workers, each of which serves one connection at a time.
+ghost use denote.Param.Send.{IsSend, IsSync};
 ghost use Rattle.std.specs.Prelude.{◌≡◌, ◌<◌, ◌≤◌, ◌^◌, Err, IfOk, IsErrOf, OnOk, length, min};
 ghost use Rattle.ll_device.specs.Inward.{looked_at};
 ghost use Rattle.ll_link.specs.Faults.{IsTrue};
@@ -13,8 +14,10 @@ use ll_hub::{Clock, Hub, HubFault, Ledgers, Pass, Sink};
 use ll_peer::{CountedLink, Link, Role, Source};
 use std::alloc::Global;
 use std::marker::Brand;
-use std::sync::Wait;
+use std::slice::IterMut;
+use std::sync::atomic::{AtomicU64, Ordering};
 use std::sync::ledger::{Blank, Ledger};
+use std::sync::{Mutex, Wait};
 use std::thread::Threads;
 use std::{thread, time};
 
@@ -82,7 +85,11 @@ pub fn serve_link_within<L: Ledgers, P: Link, C: Clock, G: Gate, K: Sink, R: Wai
 /// Serves the connections of a source by so many workers, each of which serves one at a time, until the source gives no more and all
 /// are served. A connection's fault ends that connection alone. It gives the workers' passes back, which [`Hub::finish`] takes.
 ///
-/// Where it fails, it gives those that there are, and why another isn't there:
+/// All passes are taken before the first connection. A worker is started when a connection comes while each of those that were started
+/// has one to serve, until all are; it stays to the end. Where the system starts no thread, that connection is served by the next worker
+/// that is free, or is closed where there are none, and the next such connection tries to start one again.
+///
+/// Where it fails, it has taken no connection; it gives those passes that there are, and why another isn't there:
 ///
 /// 1. The hub has no more: Short.
 /// 2. No memory is found for the workers: Memory.
@@ -111,93 +118,165 @@ pub fn serve_links<
     let Ok((to, from)) = crossbeam_channel::unbounded::<S::Peer, Global>(alloc) else {
         return Err((Vec::new(alloc), HubFault::Memory));
     };
-    let links = &from;
-    let (_fed, served) = thread::join(
+    let passes = seats(rt, alloc, workers, hub)?;
+    let shift = Shift {
         rt,
-        || feed(rt, to, source),
-        || {
-            thread::map_indices(
-                rt,
-                alloc,
-                workers,
-                &|_place| { work(rt, alloc, role, links, clock, gate, sink, hub) },
-            )
-        },
-    );
-    match served {
-        Ok(served) => gather(alloc, served),
-        Err(_) => Err((Vec::new(alloc), HubFault::Memory)),
-    }
+        alloc,
+        role,
+        clock,
+        gate,
+        sink,
+        hub,
+        links: from,
+        open: AtomicU64::new(0),
+    };
+    Ok(share_out(&shift, to, source, passes))
 }
 
-/// The passes of workers that have ended; or those that there are, and why another isn't there.
-fn gather<L: Ledgers>(
-    alloc: Global,
-    served: Vec<Result<Pass<L>, HubFault>>,
-) -> Result<Vec<Pass<L>>, (Vec<Pass<L>>, HubFault)>
-    ensures { IfOk result (λ passes. length passes.items ≡ length served.items) }
-{
-    let mut passes = Vec::new(alloc);
-    let mut lacking = None;
-    for one in served {
-        let kept = match one {
-            Ok(pass) => passes.push(pass).map_err(|_| HubFault::Memory),
-            Err(fault) => Err(fault),
-        };
-        if let Err(fault) = kept {
-            lacking = Some(fault);
-        }
-    }
-    match lacking {
-        None => Ok(passes),
-        Some(fault) => Err((passes, fault)),
-    }
-}
-
-/// Serves one connection after another, until no more come, and gives the pass back.
-fn work<L: Ledgers, P: Link, C: Clock, G: Gate, K: Sink, R: Wait + time::Clock>(
+/// So many passes of the hub; or those that there are, and why another isn't there.
+fn seats<L: Ledgers, R: Wait>(
     rt: &R,
     alloc: Global,
-    role: Role,
-    links: &Receiver<P>,
-    clock: &C,
-    gate: &G,
-    sink: &K,
+    workers: usize,
     hub: &Hub<L>,
-) -> Result<Pass<L>, HubFault> {
-    let mut pass = hub.seat(rt)?;
-    for _ in rt.forever() {
-        let Ok(link) = links.recv(rt) else {
-            return Ok(pass);
+) -> Result<Vec<Pass<L>>, (Vec<Pass<L>>, HubFault)>
+    ensures { IfOk result (λ passes. length passes.items ≡ workers) }
+{
+    let mut passes = Vec::new(alloc);
+    for _ in 0..workers {
+        let pass = match hub.seat(rt) {
+            Ok(pass) => pass,
+            Err(fault) => return Err((passes, fault)),
         };
-        serve_counted::<L, Brand, P, C, G, K, R>(
-            rt,
-            alloc,
-            role,
-            link,
-            clock,
-            gate,
-            sink,
-            hub,
-            &mut pass,
-            Blank::new(2),
-        );
+        if passes.push(pass).is_err() {
+            return Err((passes, HubFault::Memory));
+        }
+    }
+    Ok(passes)
+}
+
+/// What the workers of a source share.
+#[derive(Drop)]
+struct Shift<'a, L: Ledgers, P: Drop, C, G, K, R> {
+    rt: &'a R,
+    alloc: Global,
+    role: Role,
+    clock: &'a C,
+    gate: &'a G,
+    sink: &'a K,
+    hub: &'a Hub<L>,
+    links: Receiver<P>,
+    /// How many connections were handed out that aren't served to their end.
+    open: AtomicU64,
+}
+
+impl<L: Ledgers, P: Link, C, G, K, R: Wait> Shift<'_, L, P, C, G, K, R> {
+    /// Whether each of so many workers has a connection to serve, or has one waiting for it.
+    fn is_busy(&self, started: u64) -> bool {
+        self.open.load(Ordering::SeqCst) >= started
+    }
+
+    /// Hands a connection to so many workers. It is closed where there are none, or no memory is found for it.
+    fn hand_over(&self, to: &Sender<P>, link: P, started: u64) {
+        if started == 0 {
+            return;
+        }
+        self.open.fetch_add(1, Ordering::SeqCst);
+        if to.send(self.rt, link).is_err() {
+            self.open.fetch_sub(1, Ordering::SeqCst);
+        }
+    }
+}
+
+/// Serves the source's connections by a worker for each of these passes at most, and gives the passes back.
+fn share_out<
+    L: Ledgers + Send + Sync,
+    S: Source,
+    C: Clock + Sync,
+    G: Gate + Sync,
+    K: Sink + Sync,
+    R: Threads + Wait + time::Clock + Sync,
+>(
+    shift: &Shift<'_, L, S::Peer, C, G, K, R>,
+    to: Sender<S::Peer>,
+    source: &mut S,
+    given: Vec<Pass<L>>,
+) -> Vec<Pass<L>>
+    ensures { length result.items ≡ length given.items }
+{
+    let mut passes = given;
+    let workers = passes.len() as u64;
+    let seats = Mutex::new(passes.iter_mut());
+    feed(shift, to, source, &seats, workers);
+    drop(seats);
+    passes
+}
+
+/// Hands out the source's connections, and starts workers for them, so many at most. Then it lets go of the sender, and returns when all
+/// workers have ended.
+fn feed<
+    L: Ledgers + Send + Sync,
+    S: Source,
+    C: Clock + Sync,
+    G: Gate + Sync,
+    K: Sink + Sync,
+    R: Threads + Wait + time::Clock + Sync,
+>(
+    shift: &Shift<'_, L, S::Peer, C, G, K, R>,
+    to: Sender<S::Peer>,
+    source: &mut S,
+    seats: &Mutex<IterMut<'_, Pass<L>>>,
+    workers: u64,
+) {
+    thread::scope(
+        thread::scope_env(),
+        shift.rt,
+        |scope|
+            requires { IsSync R.row × IsSync C.row × IsSync G.row × IsSync K.row × IsSync L.row × IsSend L.row × IsSend S.Peer.row }
+        {
+            let to = to;
+            let mut started = 0;
+            for _ in shift.rt.forever() {
+                let Some(link) = source.next() else {
+                    return;
+                };
+                let lacks = started < workers && shift.is_busy(started);
+                if lacks && scope.spawn(move || work(shift, seats)).is_ok() {
+                    started = started.saturating_add(1);
+                }
+                shift.hand_over(&to, link, started);
+            }
+            unreachable!()
+        },
+    );
+}
+
+/// Takes a pass, and serves one connection after another, until no more come.
+// (A pass that stood in the closure of a thread would be lost to the others where the thread isn't started.)
+fn work<L: Ledgers, P: Link, C: Clock, G: Gate, K: Sink, R: Wait + time::Clock>(
+    shift: &Shift<'_, L, P, C, G, K, R>,
+    seats: &Mutex<IterMut<'_, Pass<L>>>,
+) {
+    let seat = seats.lock(shift.rt).next();
+    let Some(pass) = seat else {
+        return;
+    };
+    for _ in shift.rt.forever() {
+        let Ok(link) = shift.links.recv(shift.rt) else {
+            return;
+        };
+        serve_counted::<L, Brand, P, C, G, K, R>(shift, link, pass, Blank::new(2));
+        shift.open.fetch_sub(1, Ordering::SeqCst);
     }
     unreachable!()
 }
 
 /// Serves one connection to its end, as one that tells how it is read. Nobody is told of its fault.
-// (A frame of its own: so a worker that waits for a connection, or that has started others, has touched little of its stack.)
+// (A frame of its own: so a worker has touched little of its stack until it has a connection.)
 #[inline(never)]
 fn serve_counted<L: Ledgers, M: Ledger, P: Link, C: Clock, G: Gate, K: Sink, R: Wait + time::Clock>(
-    rt: &R,
-    alloc: Global,
-    role: Role,
+    shift: &Shift<'_, L, P, C, G, K, R>,
     link: P,
-    clock: &C,
-    gate: &G,
-    sink: &K,
-    hub: &Hub<L>,
     pass: &mut Pass<L>,
     blank: Blank,
 )
@@ -206,16 +285,15 @@ fn serve_counted<L: Ledgers, M: Ledger, P: Link, C: Clock, G: Gate, K: Sink, R: 
     requires two { blank.parts ≡ 2 }
 {
     let mut counted: CountedLink<P, M> = CountedLink::new(link, blank);
-    let _ = serve_link(rt, alloc, role, &mut counted, clock, gate, sink, hub, pass);
-}
-
-/// Hands out the source's connections, and then lets go of the sender. A connection that no memory is found for is closed.
-fn feed<S: Source, R: Wait>(rt: &R, to: Sender<S::Peer>, source: &mut S) {
-    for _ in rt.forever() {
-        let Some(link) = source.next() else {
-            return;
-        };
-        let _ = to.send(rt, link);
-    }
-    unreachable!()
+    let _ = serve_link(
+        shift.rt,
+        shift.alloc,
+        shift.role,
+        &mut counted,
+        shift.clock,
+        shift.gate,
+        shift.sink,
+        shift.hub,
+        pass,
+    );
 }

@@ -52,12 +52,14 @@ impl<R: Wait> Link for Peer<'_, R> {
     }
 }
 
-/// A connection for each box.
+/// A connection for each box. After so many at a time it gives no more before those that it gave have been answered.
 #[derive(Drop)]
 struct Peers<'a, R> {
     rt: &'a R,
     boxes: &'a [Mutex<Vec<u8>>],
     writes: &'a AtomicU64,
+    given: u64,
+    at_a_time: u64,
 }
 
 impl<'a, R: Wait + Sync> Source for Peers<'a, R> {
@@ -66,6 +68,10 @@ impl<'a, R: Wait + Sync> Source for Peers<'a, R> {
     fn next(&mut self) -> Option<Peer<'a, R>> {
         let (sent, boxes) = self.boxes.split_first()?;
         self.boxes = boxes;
+        if self.given.checked_rem(self.at_a_time) == Some(0) {
+            comes_to(self.writes, self.given);
+        }
+        self.given = self.given.saturating_add(1);
         Some(Peer {
             rt: self.rt,
             rest: GET,
@@ -127,7 +133,7 @@ impl Gate for Latch {
     }
 }
 
-/// Serves a connection for each box by so many workers: their passes.
+/// Serves a connection for each box, so many of which come at a time, by so many workers: their passes.
 fn serve_boxes<L: Ledgers + Send + Sync, G: Gate + Sync, R: Threads + Wait + Clock + Sync>(
     rt: &R,
     alloc: Global,
@@ -136,11 +142,18 @@ fn serve_boxes<L: Ledgers + Send + Sync, G: Gate + Sync, R: Threads + Wait + Clo
     gate: &G,
     boxes: &[Mutex<Vec<u8>>],
     writes: &AtomicU64,
+    at_a_time: u64,
 ) -> Vec<Pass<L>>
     requires some { 1 ≤ workers }
     requires most { workers ≤ 4096 }
 {
-    let mut peers = Peers { rt, boxes, writes };
+    let mut peers = Peers {
+        rt,
+        boxes,
+        writes,
+        given: 0,
+        at_a_time,
+    };
     match serve_links(
         rt,
         alloc,
@@ -195,7 +208,7 @@ fn serve_by_two<L: Ledgers + Send + Sync, R: Threads + Wait + Clock + Abort + Sy
     let latch = Latch::new();
     let (mut passes, ()) = thread::join(
         rt,
-        || serve_boxes(rt, alloc, &hub, 2, &latch, &boxes, &latch.writes),
+        || serve_boxes(rt, alloc, &hub, 2, &latch, &boxes, &latch.writes, 2),
         || publish_after(rt, alloc, &hub, &latch, &mut pass),
     );
     passes.push(pass).expect(rt, "passes");
@@ -211,14 +224,15 @@ fn connections_share_no_worker(rt: HostRuntime) {
     same(&rt, "the totals", totals.as_str(), "2 2 0;");
 }
 
-/// Publishes a segment, and serves so many connections by so many workers. All their passes come back, and each connection is answered:
-/// the totals.
+/// Publishes a segment, and serves so many connections, of which so many come at a time, by so many workers. All their passes come
+/// back, and each connection is answered: the totals.
 fn serve_all<L: Ledgers + Send + Sync, R: Threads + Wait + Clock + Abort + Sync>(
     rt: &R,
     alloc: Global,
     blanks: Blanks,
     workers: usize,
     links: usize,
+    at_a_time: u64,
 ) -> String
     requires names { blanks ≡ L.names }
     requires channels { L.channels ≡ 1 }
@@ -229,25 +243,26 @@ fn serve_all<L: Ledgers + Send + Sync, R: Threads + Wait + Clock + Abort + Sync>
     let pass = publish_first(rt, alloc, &hub);
     let boxes = boxes(rt, alloc, links);
     let writes = AtomicU64::new(0);
-    let mut passes = serve_boxes(rt, alloc, &hub, workers, &Open, &boxes, &writes);
+    let mut passes = serve_boxes(rt, alloc, &hub, workers, &Open, &boxes, &writes, at_a_time);
     same_number(rt, "the passes", passes.len() as u64, workers as u64);
     passes.push(pass).expect(rt, "passes");
     check_boxes(rt, &boxes);
     finished(rt, alloc, hub, passes)
 }
 
-/// So many connections are served by so many workers.
+/// So many connections, of which so many come at a time, are served by so many workers.
 fn check_all<R: Threads + Wait + Clock + Abort + Sync>(
     rt: &R,
     alloc: Global,
     workers: usize,
     links: usize,
+    at_a_time: u64,
     totals: &str,
 )
     requires some { 1 ≤ workers }
     requires most { workers ≤ 4096 }
 {
-    let found = serve_all::<Brand, R>(rt, alloc, Blanks::new(), workers, links);
+    let found = serve_all::<Brand, R>(rt, alloc, Blanks::new(), workers, links, at_a_time);
     same(rt, "the totals", found.as_str(), totals);
 }
 
@@ -255,10 +270,36 @@ fn check_all<R: Threads + Wait + Clock + Abort + Sync>(
 #[test]
 fn drops_no_link(rt: HostRuntime) {
     let alloc = rt.alloc();
-    check_all(&rt, alloc, 1, 0, "1 0 0;");
-    check_all(&rt, alloc, 2, 0, "1 0 0;");
-    check_all(&rt, alloc, 1, 5, "1 5 0;");
-    check_all(&rt, alloc, 2, 1, "1 1 0;");
-    check_all(&rt, alloc, 2, 2, "1 2 0;");
-    check_all(&rt, alloc, 3, 20, "1 20 0;");
+    check_all(&rt, alloc, 1, 0, 20, "1 0 0;");
+    check_all(&rt, alloc, 2, 0, 20, "1 0 0;");
+    check_all(&rt, alloc, 1, 5, 20, "1 5 0;");
+    check_all(&rt, alloc, 2, 1, 20, "1 1 0;");
+    check_all(&rt, alloc, 2, 2, 20, "1 2 0;");
+    check_all(&rt, alloc, 3, 20, 20, "1 20 0;");
+}
+
+/// How many workers there are, how many connections, how many of these come at a time, and the totals.
+const COMINGS: [(usize, usize, u64, &str); 6] = [
+    (1, 5, 1, "1 5 0;"),
+    (1, 6, 3, "1 6 0;"),
+    (2, 5, 1, "1 5 0;"),
+    (2, 12, 4, "1 12 0;"),
+    (4_096, 5, 1, "1 5 0;"),
+    (4_096, 40, 20, "1 40 0;"),
+];
+
+/// Each connection is served, whether they come one after another or many at a time, and whether workers are free for them or not.
+#[test]
+fn serves_those_that_come_later(rt: HostRuntime) {
+    let alloc = rt.alloc();
+    for (workers, links, at_a_time, totals) in COMINGS {
+        check_all(
+            &rt,
+            alloc,
+            workers.clamp(1, 4_096),
+            links,
+            at_a_time,
+            totals,
+        );
+    }
 }
