@@ -1,9 +1,10 @@
-ghost use Rattle.std.specs.Prelude.{◌≢◌, ℕ, IfErr};
-ghost use Rattle.ll_link.specs.Faults.{IsTrue};
+ghost use Rattle.std.specs.Prelude.{◌≡◌, IfOk};
+ghost use Rattle.ll_link.specs.Faults.{IsOwn};
 
 use crate::fault::LinkFault;
 use ll_hub::{Hub, Ledgers, Sink};
 use std::alloc::Global;
+use std::marker::Model;
 use std::sync::Wait;
 
 /// What a worker serves its connections with.
@@ -18,14 +19,28 @@ pub(crate) struct Desk<'a, L: Ledgers, C, G, K, R> {
     pub(crate) reads: u64,
 }
 
+/// That the record of the channel at a place was handed out. Only [`Desk::hand_out`] makes one.
+#[derive(Drop)]
+pub(crate) struct HandedOut {
+    channel: usize,
+}
+
+impl Model for HandedOut {
+    ghost use Rattle.std.specs.Prelude.{ℕ};
+
+    ghost Value = { ℕ };
+
+    ghost view = { λ h. h.channel };
+}
+
 impl<L: Ledgers, C, G, K: Sink, R: Wait> Desk<'_, L, C, G, K, R> {
     /// Hands the record of the channel at this place to the sink.
-    pub(crate) fn hand_out(&self, channel: usize) -> Result<(), LinkFault>
-        ensures faults { (failures : ℕ) → IsTrue result failures failures }
-        ensures other { IfErr result (λ fault. fault ≢ LinkFault.Endless) }
+    pub(crate) fn hand_out(&self, channel: usize) -> Result<HandedOut, LinkFault>
+        ensures own { IsOwn result }
+        ensures place { IfOk result (λ handed. handed ≡ channel) }
     {
         match self.hub.rotate_to(self.rt, channel, self.sink) {
-            Ok(()) => Ok(()),
+            Ok(()) => Ok(HandedOut { channel }),
             Err(_) => Err(LinkFault::Hub),
         }
     }

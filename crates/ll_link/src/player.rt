@@ -1,14 +1,15 @@
 //! A player's connection.
-ghost use Rattle.std.specs.Prelude.{◌≡◌, ◌≢◌, [], ℕ, IfErr, IfOk, IsErrOf, None, Ok, OnErr, OnOk, Some, false, is_some};
+ghost use Rattle.std.specs.Bool.{Decides};
+ghost use Rattle.std.specs.Prelude.{◌≡◌, ◌≢◌, [], IfErr, IfOk, IsErrOf, None, Ok, OnErr, OnOk, Some, false, is_some};
 ghost use Rattle.std.specs.Io.KnownBytes.{Appends};
 ghost use Rattle.std.specs.List.{concat};
 ghost use Rattle.ll_channels.specs.Channels.{channel_of_name};
 ghost use Rattle.ll_device.specs.Inward.{looked_at};
 ghost use Rattle.ll_link.specs.Answers.{unavailable_by};
-ghost use Rattle.ll_link.specs.Faults.{IsTrue};
+ghost use Rattle.ll_link.specs.Faults.{IsOwn, IsTrue};
 ghost use Rattle.ll_link.specs.Reads.{HasEnded, IsReadWithin, stays_or_ends};
 
-use crate::desk::Desk;
+use crate::desk::{Desk, HandedOut};
 use crate::fault::LinkFault;
 use crate::gate::Gate;
 use crate::workers::PIECE;
@@ -147,13 +148,65 @@ fn ask<L: Ledgers, P: Link, C: Clock, G, K: Sink, R: Wait + time::Clock>(
     let Ok(again) = want.copy() else {
         return Ok(Some(Answer::Unavailable(Unavailable::Memory)));
     };
-    match ask_once(desk, link, pass, session, channel, want)? {
-        Some(Answer::Unavailable(Unavailable::RecordFull)) => {
-            desk.hand_out(channel)?;
-            ask_once(desk, link, pass, session, channel, again)
-        }
-        answer => Ok(answer),
+    match ask_in(desk, link, pass, session, channel, want, again) {
+        Ok((answer, _)) => Ok(answer),
+        Err(fault) => Err(fault),
     }
+}
+
+/// What a request of the channel at this place is answered, where the second is a copy of it. Where the record of the channel is full,
+/// that is handed out and the copy made in its place: the last answer, and whether it was handed out.
+fn ask_in<L: Ledgers, P: Link, C: Clock, G, K: Sink, R: Wait + time::Clock>(
+    desk: &Desk<'_, L, C, G, K, R>,
+    link: &mut P,
+    pass: &mut Pass<L>,
+    session: &mut Session,
+    channel: usize,
+    want: Want,
+    again: Want,
+) -> Result<(Option<Answer>, Option<HandedOut>), LinkFault>
+    ensures faults { IsTrue result (P.failures link.old) (P.failures link.new) }
+    ensures looked { IfOk result (λ told. P.inward link.new ≡ stays_or_ends (is_some told.0) (P.inward link.old)) }
+    ensures unread { OnErr result (P.inward link.new ≡ P.inward link.old) }
+    ensures other { IfErr result (λ fault. fault ≢ LinkFault.Endless) }
+    ensures full { IfOk result (λ told. told.0 ≡ Some (Answer.Unavailable Unavailable.RecordFull) → told.1 ≡ Some channel) }
+{
+    let Some(first) = ask_once(desk, link, pass, session, channel, want)? else {
+        return Ok((None, None));
+    };
+    ask_again(desk, link, pass, session, channel, again, first)
+}
+
+/// What a request comes to that was answered so at first: this answer, unless the record of the channel was full.
+fn ask_again<L: Ledgers, P: Link, C: Clock, G, K: Sink, R: Wait + time::Clock>(
+    desk: &Desk<'_, L, C, G, K, R>,
+    link: &mut P,
+    pass: &mut Pass<L>,
+    session: &mut Session,
+    channel: usize,
+    want: Want,
+    first: Answer,
+) -> Result<(Option<Answer>, Option<HandedOut>), LinkFault>
+    ensures faults { IsTrue result (P.failures link.old) (P.failures link.new) }
+    ensures looked { IfOk result (λ told. P.inward link.new ≡ stays_or_ends (is_some told.0) (P.inward link.old)) }
+    ensures unread { OnErr result (P.inward link.new ≡ P.inward link.old) }
+    ensures other { IfErr result (λ fault. fault ≢ LinkFault.Endless) }
+    ensures kept { first ≢ Answer.Unavailable Unavailable.RecordFull → result ≡ Ok (Some first, None) }
+    ensures full { IfOk result (λ told. told.0 ≡ Some (Answer.Unavailable Unavailable.RecordFull) → told.1 ≡ Some channel) }
+{
+    if !is_full(&first) {
+        return Ok((Some(first), None));
+    }
+    let handed = desk.hand_out(channel)?;
+    let second = ask_once(desk, link, pass, session, channel, want)?;
+    Ok((second, Some(handed)))
+}
+
+/// Whether a request is answered that the record of its channel is full.
+fn is_full(answer: &Answer) -> bool
+    ensures { Decides result (answer.now ≡ Answer.Unavailable Unavailable.RecordFull) }
+{
+    matches!(answer, Answer::Unavailable(Unavailable::RecordFull))
 }
 
 /// What a request of the channel at this place is answered. Where it has to wait, its reply is waited for.
@@ -230,8 +283,7 @@ fn wait<L: Ledgers, P: Link, C, G, K: Sink, R: Wait + time::Clock>(
 
 /// What a request is answered that its channel can't take now.
 fn unavailable(fault: HubFault) -> Result<Answer, LinkFault>
-    ensures faults { (failures : ℕ) → IsTrue result failures failures }
-    ensures other { IfErr result (λ fault. fault ≢ LinkFault.Endless) }
+    ensures own { IsOwn result }
     ensures answer { result ≡ unavailable_by fault }
 {
     match fault {

@@ -1,15 +1,16 @@
 //! A publisher's connection.
-ghost use Rattle.std.specs.Prelude.{◌≡◌, ◌≢◌, ℕ, Err, IfErr, IsErrOf, Ok, OnOk, Some, true};
+ghost use Rattle.std.specs.Bool.{Decides};
+ghost use Rattle.std.specs.Prelude.{◌≡◌, ◌≢◌, Err, IfErr, IfOk, IsErrOf, None, Ok, OnOk, Some};
 ghost use Rattle.std.specs.Io.KnownBytes.{Appends};
 ghost use Rattle.ll_device.specs.Inward.{looked_at};
 ghost use Rattle.ll_item.specs.Items.{item_in};
 ghost use Rattle.ll_publish.specs.Meaning.{meant};
 ghost use Rattle.ll_publish.specs.Refusals.{item_refusal, reply_line};
 ghost use Rattle.ll_link.specs.Answers.{refused_before, refused_by};
-ghost use Rattle.ll_link.specs.Faults.{IsTrue};
+ghost use Rattle.ll_link.specs.Faults.{IsOwn, IsTrue};
 ghost use Rattle.ll_link.specs.Reads.{HasEnded, IsReadWithin};
 
-use crate::desk::Desk;
+use crate::desk::{Desk, HandedOut};
 use crate::fault::LinkFault;
 use crate::gate::Gate;
 use crate::workers::PIECE;
@@ -95,8 +96,7 @@ fn publish<L: Ledgers, C, G, K: Sink, R: Wait>(
     pass: &mut Pass<L>,
     line: Line<'_>,
 ) -> Result<Result<u64, Refusal>, LinkFault>
-    ensures faults { (failures : ℕ) → IsTrue result failures failures }
-    ensures other { IfErr result (λ fault. fault ≢ LinkFault.Endless) }
+    ensures own { IsOwn result }
     ensures refused { (reason : Refusal) → refused_before desk.now.hub.now (meant line.entry) ≡ Some reason → result ≡ Ok (Err reason) }
 {
     let (name, text) = match line {
@@ -107,33 +107,53 @@ fn publish<L: Ledgers, C, G, K: Sink, R: Wait>(
     let Some((channel, settings)) = desk.hub.find(name) else {
         return Ok(Err(Refusal::UnknownChannel));
     };
-    publish_to(desk, pass, channel, settings, text)
+    match publish_to(desk, pass, channel, settings, text) {
+        Ok((answer, _)) => Ok(answer),
+        Err(fault) => Err(fault),
+    }
 }
 
 /// Publishes an item that is spelled so, in the channel at this place. Where the record of the channel is full, that is handed out and the
-/// item published once more.
+/// item published once more: the last answer, and whether it was handed out.
 fn publish_to<L: Ledgers, C, G, K: Sink, R: Wait>(
     desk: &Desk<'_, L, C, G, K, R>,
     pass: &mut Pass<L>,
     channel: usize,
     settings: &Settings,
     text: &str,
-) -> Result<Result<u64, Refusal>, LinkFault>
-    ensures faults { (failures : ℕ) → IsTrue result failures failures }
-    ensures other { IfErr result (λ fault. fault ≢ LinkFault.Endless) }
-    ensures refused { (fault : ItemFault) → item_in settings.now text.now ≡ Err fault → result ≡ Ok (Err (item_refusal fault)) }
+) -> Result<(Result<u64, Refusal>, Option<HandedOut>), LinkFault>
+    ensures own { IsOwn result }
+    ensures refused { (fault : ItemFault) → item_in settings.now text.now ≡ Err fault → result ≡ Ok (Err (item_refusal fault), None) }
+    ensures full { IfOk result (λ told. told.0 ≡ Err Refusal.RecordFull → told.1 ≡ Some channel) }
 {
-    let answer = publish_once(desk, pass, channel, settings, text)?;
-    if !is_full(&answer) {
-        return Ok(answer);
+    let first = publish_once(desk, pass, channel, settings, text)?;
+    publish_again(desk, pass, channel, settings, text, first)
+}
+
+/// What publishing an item comes to that was answered so at first: this answer, unless the record of the channel was full.
+fn publish_again<L: Ledgers, C, G, K: Sink, R: Wait>(
+    desk: &Desk<'_, L, C, G, K, R>,
+    pass: &mut Pass<L>,
+    channel: usize,
+    settings: &Settings,
+    text: &str,
+    first: Result<u64, Refusal>,
+) -> Result<(Result<u64, Refusal>, Option<HandedOut>), LinkFault>
+    ensures own { IsOwn result }
+    ensures kept { first ≢ Err Refusal.RecordFull → result ≡ Ok (first, None) }
+    ensures full { IfOk result (λ told. told.0 ≡ Err Refusal.RecordFull → told.1 ≡ Some channel) }
+{
+    if !is_full(&first) {
+        return Ok((first, None));
     }
-    desk.hand_out(channel)?;
-    publish_once(desk, pass, channel, settings, text)
+    let handed = desk.hand_out(channel)?;
+    let second = publish_once(desk, pass, channel, settings, text)?;
+    Ok((second, Some(handed)))
 }
 
 /// Whether an item was refused since the record of its channel is full.
 fn is_full(answer: &Result<u64, Refusal>) -> bool
-    ensures { result ≡ true → answer.now ≡ Err Refusal.RecordFull }
+    ensures { Decides result (answer.now ≡ Err Refusal.RecordFull) }
 {
     matches!(answer, Err(Refusal::RecordFull))
 }
@@ -146,8 +166,7 @@ fn publish_once<L: Ledgers, C, G, K, R: Wait>(
     settings: &Settings,
     text: &str,
 ) -> Result<Result<u64, Refusal>, LinkFault>
-    ensures faults { (failures : ℕ) → IsTrue result failures failures }
-    ensures other { IfErr result (λ fault. fault ≢ LinkFault.Endless) }
+    ensures own { IsOwn result }
     ensures refused { (fault : ItemFault) → item_in settings.now text.now ≡ Err fault → result ≡ Ok (Err (item_refusal fault)) }
 {
     let item = match Item::read(desk.alloc, settings, text) {
@@ -162,8 +181,7 @@ fn publish_once<L: Ledgers, C, G, K, R: Wait>(
 
 /// What an item is answered that the hub refuses.
 fn refusal(fault: HubFault) -> Result<Refusal, LinkFault>
-    ensures faults { (failures : ℕ) → IsTrue result failures failures }
-    ensures other { IfErr result (λ fault. fault ≢ LinkFault.Endless) }
+    ensures own { IsOwn result }
     ensures answer { result ≡ refused_by fault }
 {
     match fault {

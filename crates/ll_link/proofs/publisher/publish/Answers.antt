@@ -1,8 +1,16 @@
 -- An item of a known channel that is refused is refused by what reads it.
-use Rattle.ll_link.proofs.AnswerLemmas.{told_once}
+use Rattle.std.proofs.Common.{ap, sym, ◌∙◌}
+use Rattle.ll_link.proofs.AnswerLemmas.{told_answer, told_once}
 use Rattle.ll_link.proofs.publisher.publish.Goals as goal
 
-pub returns-clause-refused : goal.returns-clause-refused
-returns-clause-refused g c reason e =
-    told_once c.args.desk.now.hub.now c.in-Item.name.now c.in-Item.text.now c.in-Some.channel c.in-Some.settings.now c.publish_to.result reason
+pub returns-in-Ok-clause-refused : goal.returns-in-Ok-clause-refused
+returns-in-Ok-clause-refused g c reason e =
+    sym (ap told_answer c.in-Ok.is)
+    ∙ told_once c.args.desk.now.hub.now c.in-Item.name.now c.in-Item.text.now c.in-Some.channel c.in-Some.settings.now c.publish_to.result reason
+    c.in-Some.ensures c.publish_to.ensures.refused (rw c.in-Item.is at e)
+
+pub returns-in-Err-clause-refused : goal.returns-in-Err-clause-refused
+returns-in-Err-clause-refused g c reason e =
+    sym (ap told_answer c.in-Err.is)
+    ∙ told_once c.args.desk.now.hub.now c.in-Item.name.now c.in-Item.text.now c.in-Some.channel c.in-Some.settings.now c.publish_to.result reason
     c.in-Some.ensures c.publish_to.ensures.refused (rw c.in-Item.is at e)
