@@ -1,3 +1,4 @@
 pub mod Orders
 pub mod Pages
 pub mod Release
+pub mod Releases

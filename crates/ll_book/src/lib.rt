@@ -3,6 +3,7 @@
 #![tactic(auto)]
 
 mod book;
+mod by_item;
 mod holders;
 mod laws;
 mod pages;
@@ -12,6 +13,7 @@ mod release;
 mod slots;
 
 pub use book::{Book, ParkFault, Released};
+pub use by_item::{first_release, holders_for, release_with, second_release, takes_any};
 pub use holders::Holders;
 pub use laws::release_law;
 pub use pages::Pages;

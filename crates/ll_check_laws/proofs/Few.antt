@@ -14,13 +14,14 @@ use Rattle.ll_record_laws.specs.Told.{entry_of}
 use Rattle.ll_room.proofs.KeptLemmas.{short-filter}
 use Rattle.ll_verdict.specs.Full.{full_by, is_full}
 use Rattle.ll_verdict.proofs.StateLemmas.{state-snoc}
-use Rattle.ll_verdict.specs.Accepted.{first_refusal, refusal}
+use Rattle.ll_verdict.specs.Accepted.{refusal}
+use Rattle.ll_rendition.specs.Refusal.{first_refusal}
 use Rattle.ll_verdict.specs.Events.{Event, Publish, Ask, Collect, Close, Clock, asks, items, later, steps_from, taken, time}
 use Rattle.ll_verdict.specs.Outcome.{outcome_of}
 use Rattle.ll_verdict.specs.State.{State, answer_of, new_slots, settle, slot_by, state_of, stays}
 use Rattle.ll_verdict.specs.Verdict.{at_once, held, wanted_of}
 use Rattle.ll_verdict.specs.declared.entry.Slot.{Slot}
-use Rattle.ll_verdict.specs.declared.fault.PublishFault.{PublishFault}
+use Rattle.ll_rendition.specs.declared.fault.PublishFault.{PublishFault}
 use Rattle.ll_verdict.specs.declared.reply.Reply.{Reply}
 use Rattle.ll_verdict.specs.declared.wanted.Wanted.{Wanted}
 

@@ -10,7 +10,7 @@ use Rattle.ll_verdict.specs.Events.{Event, Publish, Ask, Clock, Collect, Close, 
 use Rattle.ll_verdict.specs.Outcome.{outcome_of}
 use Rattle.ll_verdict.specs.State.{state_of}
 use Rattle.ll_verdict.specs.Verdict.{at_once, held, reply_of}
-use Rattle.ll_verdict.specs.declared.fault.PublishFault.{PublishFault}
+use Rattle.ll_rendition.specs.declared.fault.PublishFault.{PublishFault}
 use Rattle.ll_verdict.specs.declared.reply.Outcome.{Outcome}
 use Rattle.ll_verdict.specs.declared.reply.Outcome.TheVariants.{Text, NotFound, TooFar, Busy, Timeout}
 use Rattle.ll_verdict.specs.declared.reply.Settled.{Settled}

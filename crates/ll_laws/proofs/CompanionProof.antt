@@ -11,7 +11,8 @@ use Rattle.ll_window.specs.Window.{window_limit, near_limit, window, listed, ski
 use Rattle.ll_page.specs.Playlist.{Playlist}
 use Rattle.ll_page.specs.Full.{printed, full_playlist, sequence_of}
 use Rattle.ll_page.specs.Delta.{update_of, delta_by}
-use Rattle.ll_page.specs.View.{Seen, seen, asked, kept}
+use Rattle.ll_page.specs.View.{Seen, seen, asked}
+use Rattle.ll_rendition.specs.Kept.{kept}
 use Rattle.ll_apply.specs.Applied as spec
 use Rattle.ll_apply.specs.Applied.{applied, missing, mapped, in_force, without_parts, unless_missing, updated}
 use Rattle.ll_laws.specs.Laws.{CompanionLaw}

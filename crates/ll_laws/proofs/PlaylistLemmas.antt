@@ -9,9 +9,10 @@ use Rattle.ll_window.specs.Rows.{Row, row, rows, one_if, is_broken, lasting}
 use Rattle.ll_window.specs.Segments.{own, segments, open_segment, duration}
 use Rattle.ll_window.specs.Window.{window_limit, near_limit, window, listed, shown_by}
 use Rattle.ll_window.proofs.WindowLemmas.{length_listed}
-use Rattle.ll_page.specs.declared.rendition.Rendition.{Rendition}
+use Rattle.ll_rendition.specs.declared.rendition.Rendition.{Rendition}
 use Rattle.ll_page.specs.Full.{printed, sequence_of}
-use Rattle.ll_page.specs.View.{kept, renditions_from, at_place}
+use Rattle.ll_page.specs.View.{renditions_from, at_place}
+use Rattle.ll_rendition.specs.Kept.{kept}
 use Rattle.ll_laws.proofs.RowLemmas.{left, left-le, window-drop}
 
 pub length-rows : (n m t : ℕ) (gs : List (List Part)) → length (rows n m t gs) ≡ length gs

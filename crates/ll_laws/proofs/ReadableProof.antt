@@ -14,12 +14,13 @@ use Rattle.ll_window.specs.Compact.{compact, unfinished, skip_count}
 use Rattle.ll_window.specs.Rows.{Row}
 use Rattle.ll_item.specs.Told.{end_time}
 use Rattle.ll_window.specs.Segments.{own}
-use Rattle.ll_page.specs.declared.rendition.Rendition.{Rendition}
+use Rattle.ll_rendition.specs.declared.rendition.Rendition.{Rendition}
 use Rattle.ll_page.specs.Delta.{skip_of, delta_by}
 use Rattle.ll_page.specs.Full.{printed, open_of, sequence_of, hint_of, range_line, reports_from, reports_of, playlist_of}
 use Rattle.ll_page.specs.Playlist.{Playlist}
 use Rattle.ll_page.specs.Spelling.{skip_lines, segment_lines, open_lines, last_line, lines_of, spelling}
-use Rattle.ll_page.specs.View.{Seen, seen, asked, kept, renditions}
+use Rattle.ll_page.specs.View.{Seen, seen, asked, renditions}
+use Rattle.ll_rendition.specs.Kept.{kept}
 use Rattle.ll_read.specs.Readable.{Each, IsReadable, IsReadableOpen, leads, may_end}
 use Rattle.ll_read.specs.Reading.{is_empty}
 use Rattle.ll_laws.specs.Published.{ArePublished}

@@ -7,8 +7,9 @@ use Rattle.ll_item.specs.declared.item.Item.{Item}
 use Rattle.ll_record.specs.Recording.{IsRecorded, Recording, is_record_full, record_refusal}
 use Rattle.ll_verdict.specs.Full.{full_by, is_full, refusal_after}
 use Rattle.ll_room.specs.Home.{Home, IsSame, Stands}
-use Rattle.ll_verdict.specs.Accepted.{first_refusal, refusal}
-use Rattle.ll_verdict.specs.declared.fault.PublishFault.{PublishFault}
+use Rattle.ll_verdict.specs.Accepted.{refusal}
+use Rattle.ll_rendition.specs.Refusal.{first_refusal}
+use Rattle.ll_rendition.specs.declared.fault.PublishFault.{PublishFault}
 use Rattle.ll_verdict.proofs.StepLemmas.{asks-snoc, items-snoc}
 use Rattle.ll_verdict.specs.Events.{Event, Ask, Publish, asks, counted, items, taken}
 use Rattle.ll_locked.specs.Section.{HasAsked, HasPublished, IsAsCounted}

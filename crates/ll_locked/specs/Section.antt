@@ -13,8 +13,8 @@ use Rattle.ll_room.specs.declared.stamped.Stamp.TheVariants as stamp
 use Rattle.ll_verdict.specs.Events.{Event, Ask, Clock, Close, Collect, asks}
 use Rattle.ll_verdict.specs.Verdict.{at_once, held}
 use Rattle.ll_verdict.specs.declared.entry.Entry.{Entry}
-use Rattle.ll_verdict.specs.declared.fault.PublishFault.{PublishFault}
-use Rattle.ll_verdict.specs.declared.fault.PublishFault.TheVariants as refused
+use Rattle.ll_rendition.specs.declared.fault.PublishFault.{PublishFault}
+use Rattle.ll_rendition.specs.declared.fault.PublishFault.TheVariants as refused
 use Rattle.ll_locked.specs.Told.{HasToWait, IsAnswered, IsDecided, IsDecidedIn, IsHeld, IsRefused, is_filled}
 use Rattle.ll_locked.specs.declared.channel.Answer.{Answer}
 use Rattle.ll_locked.specs.declared.channel.Answer.TheVariants.{Now, Held}

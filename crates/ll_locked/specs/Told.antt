@@ -14,7 +14,7 @@ use Rattle.ll_verdict.specs.State.{open_requests, slot_of}
 use Rattle.ll_verdict.specs.Verdict as verdict
 use Rattle.ll_verdict.specs.Verdict.{Request, at_once, held, reply_of, wanted_of}
 use Rattle.ll_verdict.specs.declared.entry.Entry.{Entry}
-use Rattle.ll_verdict.specs.declared.fault.PublishFault.{PublishFault}
+use Rattle.ll_rendition.specs.declared.fault.PublishFault.{PublishFault}
 use Rattle.ll_verdict.specs.declared.reply.Reply.{Reply}
 use Rattle.ll_verdict.specs.declared.reply.Settled.{Settled}
 use Rattle.ll_locked.specs.declared.fault.HubFault.{HubFault}

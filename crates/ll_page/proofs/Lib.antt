@@ -4,5 +4,6 @@ pub mod PlaceLemmas
 pub mod RangeLemmas
 pub mod RangeTexts
 pub mod RenditionLemmas
+pub mod ShownLemmas
 pub mod Texts
 pub mod WorkedExamples

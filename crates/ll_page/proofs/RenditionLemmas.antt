@@ -6,8 +6,9 @@ use Rattle.std.proofs.lemmas.List.Elements.{filter-append}
 use Rattle.ll_item.specs.Items.{rendition_of}
 use Rattle.ll_item.specs.Settings.{Configuration}
 use Rattle.ll_item.specs.declared.item.Item.{Item}
-use Rattle.ll_page.specs.View.{kept, renditions, renditions_from}
-use Rattle.ll_page.specs.declared.rendition.Rendition.{Rendition}
+use Rattle.ll_page.specs.View.{renditions, renditions_from}
+use Rattle.ll_rendition.specs.Kept.{kept}
+use Rattle.ll_rendition.specs.declared.rendition.Rendition.{Rendition}
 use Rattle.ll_window.specs.Segments.{own}
 
 pub own-same : (r : ℕ) (items : List Item) (i : Item) → rendition_of i ≡ r → own r (items ++ i ∷ []) ≡ own r items ++ i ∷ []

@@ -9,7 +9,7 @@ use Rattle.ll_window.specs.Compact.{Compact, unfinished}
 use Rattle.ll_window.specs.Rows.{Row}
 use Rattle.ll_item.specs.Told.{Listed}
 use Rattle.ll_range.specs.Announced.{Announced}
-use Rattle.ll_page.specs.declared.rendition.Rendition.{Rendition}
+use Rattle.ll_rendition.specs.declared.rendition.Rendition.{Rendition}
 use Rattle.ll_line.specs.Line.{DateRangeLine, PartLine, Report}
 use Rattle.ll_page.specs.Playlist.{Block, Finished, Header, Playlist}
 use Rattle.ll_page.specs.Spelling.{spelling}

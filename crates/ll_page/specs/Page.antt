@@ -6,7 +6,7 @@ use Rattle.ll_page.specs.Full.{full_text}
 use Rattle.ll_page.specs.View.{Seen}
 use Rattle.ll_page.specs.declared.form.Form.{Form}
 use Rattle.ll_page.specs.declared.form.Form.TheVariants.{Full, Delta}
-use Rattle.ll_page.specs.declared.rendition.Rendition.{Rendition}
+use Rattle.ll_rendition.specs.declared.rendition.Rendition.{Rendition}
 
 -- what is kept of all renditions of a channel at one moment
 pub record Moment : Type 0 where

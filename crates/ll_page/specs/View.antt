@@ -1,15 +1,10 @@
 -- What a playlist is made of.
-use Rattle.std.specs.Prelude.{ℕ, ◌+◌, zero, suc, List, [], ◌∷◌, length}
+use Rattle.std.specs.Prelude.{◌≡◌, ℕ, ◌+◌, zero, suc, List, [], ◌∷◌, ◌++◌, length}
 use Rattle.ll_item.specs.Settings.{Configuration}
 use Rattle.ll_item.specs.declared.item.Item.{Item}
-use Rattle.ll_window.specs.Compact.{compact}
 use Rattle.ll_window.specs.Segments.{own}
-use Rattle.ll_range.specs.Announced.{announced}
-use Rattle.ll_page.specs.declared.rendition.Rendition.{Rendition}
-
--- what of all items of a rendition is kept
-abbrev pub kept : Configuration → List Item → Rendition
-kept c items = record { window = compact c items; ranges = announced c items }
+use Rattle.ll_rendition.specs.Kept.{kept}
+use Rattle.ll_rendition.specs.declared.rendition.Rendition.{Rendition}
 
 -- of all items of a channel, one for each of these renditions, the first of which has this index
 abbrev pub renditions_from : Configuration → List Item → ℕ → List (List ℕ) → List Rendition
@@ -19,6 +14,10 @@ renditions_from c items rendition (name ∷ more) = kept c (own rendition items)
 -- of all items of a channel, one for each of its renditions
 abbrev pub renditions : Configuration → List Item → List Rendition
 renditions c items = renditions_from c items 0 c.renditions
+
+-- what is kept goes on to what is kept of the items before it and of this item
+abbrev pub GoOn : List Rendition → List Rendition → Item → Type 0
+GoOn old new i = (c : Configuration) (before : List Item) → old ≡ renditions c before → new ≡ renditions c (before ++ i ∷ [])
 
 -- what is kept of all renditions of a channel, and which of them is asked for
 pub record Seen : Type 0 where

@@ -1,10 +1,13 @@
-ghost use Rattle.std.specs.Prelude.{◌≡◌, ◌<◌, ◌≤◌, IfOk, MatchOption, length};
+ghost use Rattle.std.specs.Prelude.{◌≡◌, ◌+◌, ◌<◌, ◌≤◌, ◌^◌, IfOk, MatchOption, None, OnErr, OnOk, length, slice_get};
 ghost use Rattle.std.specs.Arc.{arc_value};
+ghost use Rattle.ll_item.specs.Items.{rendition_of};
 ghost use Rattle.ll_page.specs.Page.{seen_of};
+ghost use Rattle.ll_page.specs.View.{GoOn};
+ghost use Rattle.ll_rendition.specs.Refusal.{refusal_at};
 
-use crate::rendition::Rendition;
 use crate::view::View;
-use ll_item::Settings;
+use ll_item::{Item, Settings};
+use ll_rendition::Rendition;
 use std::alloc::{AllocError, Global};
 use std::marker::Model;
 use std::sync::Arc;
@@ -18,10 +21,20 @@ pub struct Shown {
 
 /// What is shared.
 #[derive(Drop)]
-pub(crate) struct Kept {
-    pub(crate) settings: Arc<Settings>,
-    pub(crate) renditions: Vec<Rendition>,
-    pub(crate) count: u64,
+struct Kept {
+    alloc: Global,
+    settings: Arc<Settings>,
+    renditions: Vec<Rendition>,
+    count: u64,
+}
+
+impl Model for Kept {
+    ghost use Rattle.std.specs.Arc.{arc_value};
+    ghost use Rattle.ll_page.specs.Page.{Moment};
+
+    ghost Value = { Moment };
+
+    ghost view = { λ k. record { settings = arc_value k.settings; renditions = k.renditions.items; count = k.count } };
 }
 
 impl Model for Shown {
@@ -30,11 +43,38 @@ impl Model for Shown {
 
     ghost Value = { Moment };
 
-    ghost view = { λ s. record {
-      settings = arc_value (arc_value s.kept).settings;
-      renditions = (arc_value s.kept).renditions.items;
-      count = (arc_value s.kept).count;
-    } };
+    ghost view = { λ s. arc_value s.kept };
+}
+
+impl Clone for Kept {
+    ghost use Rattle.std.specs.Prelude.{◌≡◌};
+
+    ghost is_clone = { λ k l. l ≡ k };
+
+    fn clone(&self) -> Result<Kept, AllocError> {
+        Ok(Kept {
+            alloc: self.alloc,
+            settings: Arc::try_clone(&self.settings)?,
+            renditions: Rendition::copy_all(self.alloc, &self.renditions)?,
+            count: self.count,
+        })
+    }
+}
+
+impl Kept {
+    /// Takes one more item into what is kept of its rendition.
+    fn accept(&mut self, item: Item) -> Result<(), AllocError>
+        requires allowed { refusal_at (slice_get self.old.renditions (rendition_of item)) item ≡ None }
+        requires few { self.old.count < 2 ^ 60 }
+        ensures goes_on { OnOk result (GoOn self.old.renditions self.new.renditions item) }
+        ensures many { length self.new.renditions ≡ length self.old.renditions }
+        ensures accepted { OnOk result (self.new ≡ record self.old { renditions = self.new.renditions; count = self.old.count + 1 }) }
+        ensures unchanged { OnErr result (self.new ≡ self.old) }
+    {
+        accept_at(&mut self.renditions, item)?;
+        self.count += 1;
+        Ok(())
+    }
 }
 
 impl Shown {
@@ -49,6 +89,7 @@ impl Shown {
         ensures { IfOk result (λ s. s ≡ record { settings = arc_value settings.now; renditions = renditions.items; count = count }) }
     {
         let kept = Kept {
+            alloc,
             settings: Arc::try_clone(settings)?,
             renditions,
             count,
@@ -77,6 +118,27 @@ impl Shown {
         )
     }
 
+    /// The settings of the channel.
+    pub fn settings(&self) -> &Settings
+        ensures { result.now ≡ self.now.settings }
+    {
+        &self.kept.settings
+    }
+
+    /// What is kept of each rendition, in the order of the settings.
+    pub fn renditions(&self) -> &[Rendition]
+        ensures { result.now ≡ self.now.renditions }
+    {
+        &self.kept.renditions
+    }
+
+    /// How many items the channel has accepted.
+    pub fn count(&self) -> u64
+        ensures { result ≡ self.now.count }
+    {
+        self.kept.count
+    }
+
     /// The view of the rendition with this index, where there is one.
     pub fn view(&self, rendition: usize) -> Option<View<'_>>
         ensures { MatchOption result (length self.now.renditions ≤ rendition)
@@ -93,5 +155,31 @@ impl Shown {
         Ok(Shown {
             kept: Arc::try_clone(&self.kept)?,
         })
+    }
+
+    /// Takes in one more item of the channel, which nothing refuses. Where others share what is kept, it is copied first, and they go on to
+    /// share what was. It fails only where no memory is found, and then changes nothing.
+    pub fn accept(&mut self, item: Item) -> Result<(), AllocError>
+        requires allowed { refusal_at (slice_get self.old.renditions (rendition_of item)) item ≡ None }
+        requires few { self.old.count < 2 ^ 60 }
+        ensures goes_on { OnOk result (GoOn self.old.renditions self.new.renditions item) }
+        ensures many { length self.new.renditions ≡ length self.old.renditions }
+        ensures accepted { OnOk result (self.new ≡ record self.old { renditions = self.new.renditions; count = self.old.count + 1 }) }
+        ensures unchanged { OnErr result (self.new ≡ self.old) }
+    {
+        Arc::make_mut(&mut self.kept)?.accept(item)
+    }
+}
+
+/// Takes one more item into what is kept of its rendition.
+fn accept_at(renditions: &mut Vec<Rendition>, item: Item) -> Result<(), AllocError>
+    requires { refusal_at (slice_get renditions.old.items (rendition_of item)) item ≡ None }
+    ensures goes_on { OnOk result (GoOn renditions.old.items renditions.new.items item) }
+    ensures many { length renditions.new.items ≡ length renditions.old.items }
+    ensures unchanged { OnErr result (renditions.new.items ≡ renditions.old.items) }
+{
+    match renditions.get_mut(item.rendition()) {
+        Some(kept) => kept.accept(item),
+        None => Ok(()),
     }
 }

@@ -1,9 +1,9 @@
 ghost use Rattle.std.specs.Prelude.{◌≡◌, ◌<◌, ◌≤◌, MatchOption, length};
 ghost use Rattle.ll_page.specs.View.{asked};
 
-use crate::rendition::Rendition;
 use ll_item::Settings;
 use ll_range::Ranges;
+use ll_rendition::Rendition;
 use ll_window::Window;
 use std::marker::Model;
 

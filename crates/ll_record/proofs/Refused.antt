@@ -5,10 +5,10 @@ use Rattle.ll_item.specs.declared.item.Item.{Item}
 use Rattle.ll_room.proofs.AcceptLemmas.{refusal-told}
 use Rattle.ll_verdict.specs.Full.{full_by, refusal_after}
 use Rattle.ll_room.specs.Full.{refusal_by}
-use Rattle.ll_verdict.specs.Accepted.{first_refusal}
+use Rattle.ll_rendition.specs.Refusal.{first_refusal}
 use Rattle.ll_verdict.specs.Events.{Event}
-use Rattle.ll_verdict.specs.declared.fault.PublishFault.{PublishFault}
-use Rattle.ll_verdict.specs.declared.fault.PublishFault.TheVariants.{RecordFull}
+use Rattle.ll_rendition.specs.declared.fault.PublishFault.{PublishFault}
+use Rattle.ll_rendition.specs.declared.fault.PublishFault.TheVariants.{RecordFull}
 use Rattle.ll_record.specs.Recording.{IsRecorded, Recording, record_end, record_refusal}
 
 told : (r : Recording) (events : List Event) (item : Item) → IsRecorded r events → refusal_after r.room.settings events item ≡ refusal_by r.room item

@@ -8,9 +8,9 @@ use Rattle.ll_record_laws.specs.Leads.{IsLed}
 use Rattle.ll_record_laws.specs.Told.{can_happen, line_of}
 use Rattle.ll_verdict.specs.Full.{full_by, refusal_after}
 use Rattle.ll_room.specs.Home.{Home, IsSame, Stands}
-use Rattle.ll_verdict.specs.Accepted.{first_refusal}
+use Rattle.ll_rendition.specs.Refusal.{first_refusal}
 use Rattle.ll_verdict.specs.Events.{Event, Publish, Ask, Collect, Close, Clock, steps}
-use Rattle.ll_verdict.specs.declared.fault.PublishFault.{PublishFault}
+use Rattle.ll_rendition.specs.declared.fault.PublishFault.{PublishFault}
 
 pub record Recording : Type 0 where
   -- what is kept of the channel

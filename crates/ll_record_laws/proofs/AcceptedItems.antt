@@ -19,10 +19,11 @@ use Rattle.ll_range.specs.Announced.{Announced, add_refusal, announced, is_liste
 use Rattle.ll_range.specs.Attributes.{are_allowed, is_id, is_id_byte}
 use Rattle.ll_range.specs.declared.ranges.RangeFault.TheVariants.{BadAttribute, IdTaken, IdUnknown}
 use Rattle.ll_verdict.specs.Full.{full_by, is_full, refusal_after}
-use Rattle.ll_verdict.specs.Accepted.{first_refusal, of_push, of_range, refusal, rendition_refusal}
+use Rattle.ll_verdict.specs.Accepted.{refusal}
+use Rattle.ll_rendition.specs.Refusal.{first_refusal, of_push, of_range, rendition_refusal}
 use Rattle.ll_verdict.specs.Events.{Event, Ask, Clock, Close, Collect, Publish, items, taken}
-use Rattle.ll_verdict.specs.declared.fault.PublishFault.{PublishFault}
-use Rattle.ll_verdict.specs.declared.fault.PublishFault.TheVariants.{NoRendition}
+use Rattle.ll_rendition.specs.declared.fault.PublishFault.{PublishFault}
+use Rattle.ll_rendition.specs.declared.fault.PublishFault.TheVariants.{NoRendition}
 use Rattle.ll_window.specs.Refusal as window
 use Rattle.ll_item.specs.Told.{end_time, Listed, Told, start, step, told}
 use Rattle.ll_window.specs.Segments.{own}

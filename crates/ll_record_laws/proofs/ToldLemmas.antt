@@ -15,7 +15,7 @@ use Rattle.ll_verdict.specs.Events.{Event, Publish, Ask, Collect, Close, Clock, 
 use Rattle.ll_verdict.specs.Outcome.{outcome_of}
 use Rattle.ll_verdict.specs.State.{open_requests, slot_of, state_of}
 use Rattle.ll_verdict.specs.Verdict.{Request, at_once, held, reply, reply_of}
-use Rattle.ll_verdict.specs.declared.fault.PublishFault.{PublishFault}
+use Rattle.ll_rendition.specs.declared.fault.PublishFault.{PublishFault}
 use Rattle.ll_verdict.specs.declared.reply.Outcome.{Outcome}
 use Rattle.ll_verdict.specs.declared.reply.Outcome.TheVariants.{Text, NotFound, TooFar, Busy, Timeout}
 use Rattle.ll_verdict.specs.declared.reply.Settled.{Settled}

@@ -4,15 +4,15 @@ use Rattle.std.specs.Prelude.{Result, Ok, Err, OnOk, option_map}
 use Rattle.ll_item.specs.Items.{is_about_ranges}
 use Rattle.ll_item.specs.Settings.{Configuration}
 use Rattle.ll_item.specs.declared.item.Item.{Item}
-use Rattle.ll_page.specs.View.{kept}
-use Rattle.ll_page.specs.declared.rendition.Rendition.{Rendition}
+use Rattle.ll_rendition.specs.Kept.{kept}
+use Rattle.ll_rendition.specs.declared.rendition.Rendition.{Rendition}
 use Rattle.ll_range.specs.Announced as range
 use Rattle.ll_range.specs.Announced.{Announced, announced}
 use Rattle.ll_window.specs.Compact.{Compact, compact}
 use Rattle.ll_window.specs.Refusal as window
 use Rattle.ll_item.specs.Told.{end_time}
 use Rattle.ll_window.proofs.StepLemmas.{refusal_told, silent}
-use Rattle.ll_verdict.specs.Accepted.{first_refusal, of_push, of_range, rendition_refusal}
+use Rattle.ll_rendition.specs.Refusal.{first_refusal, of_push, of_range, rendition_refusal}
 use Rattle.ll_rendition.specs.Refusal.{refusal_of}
 
 -- why an item is refused

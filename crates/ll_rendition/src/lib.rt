@@ -1,11 +1,8 @@
-//! What is told by what is kept of one rendition: whether one more item may follow in it, whether what a request awaits of it is there, and
-//! which requests an item releases; and an item is taken in. Sections are those of draft-pantos-hls-rfc8216bis.
+//! What is kept of one rendition of a channel, and which items may follow in it. Sections are those of draft-pantos-hls-rfc8216bis.
 #![tactic(auto)]
 
-mod awaited;
-mod next_item;
-mod releases;
+mod fault;
+mod rendition;
 
-pub use awaited::{is_far, is_there};
-pub use next_item::{accept, test};
-pub use releases::{first_release, holders, release, second_release, takes_any};
+pub use fault::PublishFault;
+pub use rendition::Rendition;

@@ -11,7 +11,7 @@ use Rattle.ll_line.specs.Text.{line_text}
 use Rattle.ll_line.specs.Uris.{segment_uri, part_uri, map_uri, report_uri}
 use Rattle.ll_publish.specs.Refusals.{ok_line, refusal_line}
 use Rattle.ll_script.specs.Answers.{named_reply, text_reply}
-use Rattle.ll_verdict.specs.Accepted.{rendition_refusal}
+use Rattle.ll_rendition.specs.Refusal.{rendition_refusal}
 use Rattle.ll_verdict.specs.Verdict.{is_there}
 use Rattle.form_urlencoded.specs.Form.{raw_pairs, split}
 use Rattle.percent_encoding.specs.Percent.{percent_decode}

@@ -5,28 +5,28 @@ use Rattle.std.proofs.lemmas.Bool.Decides.{nat_tests}
 use Rattle.ll_item.specs.Items.{rendition_of}
 use Rattle.ll_item.specs.Settings.{Configuration}
 use Rattle.ll_item.specs.declared.item.Item.{Item}
-use Rattle.ll_page.specs.View.{renditions}
-use Rattle.ll_page.specs.declared.rendition.Rendition.{Rendition}
+use Rattle.ll_page.specs.View.{GoOn, renditions}
+use Rattle.ll_rendition.specs.declared.rendition.Rendition.{Rendition}
 use Rattle.ll_page.proofs.RenditionLemmas.{length-renditions, rendition-got}
 use Rattle.ll_window.specs.Compact.{compact}
 use Rattle.ll_window.specs.Refusal as window
 use Rattle.ll_window.specs.Segments.{ended, own}
 use Rattle.ll_window.specs.declared.window.PushFault.{PushFault}
-use Rattle.ll_verdict.specs.Accepted.{first_refusal, of_push, refusal, rendition_refusal}
+use Rattle.ll_verdict.specs.Accepted.{refusal}
+use Rattle.ll_rendition.specs.Refusal.{first_refusal, of_push, refusal_at, refusal_of, rendition_refusal}
 use Rattle.ll_verdict.specs.Events.{Event, Publish, items, time, taken}
 use Rattle.ll_verdict.specs.State.{State, state_of, settle, stays, next}
 use Rattle.ll_verdict.specs.Verdict.{page_of}
 use Rattle.ll_verdict.specs.declared.entry.Slot.{Slot}
-use Rattle.ll_verdict.specs.declared.fault.PublishFault.{PublishFault}
-use Rattle.ll_verdict.specs.declared.fault.PublishFault.TheVariants.{NoRendition}
+use Rattle.ll_rendition.specs.declared.fault.PublishFault.{PublishFault}
+use Rattle.ll_rendition.specs.declared.fault.PublishFault.TheVariants.{NoRendition}
 use Rattle.ll_verdict.specs.declared.wanted.Wanted.{Wanted}
 use Rattle.ll_book.specs.Pages.{PagesOf, page_in}
-use Rattle.ll_rendition.specs.Refusal.{refusal_of}
-use Rattle.ll_rendition.specs.Releases.{first_release, second_release}
+use Rattle.ll_book.specs.Releases.{first_release, second_release}
 use Rattle.ll_rendition.proofs.ItemLemmas.{its_refusal}
-use Rattle.ll_room.specs.Freed.{GoOn, freed_slots, releases_at, with_item}
+use Rattle.ll_room.specs.Freed.{freed_slots, releases_at, with_item}
 use Rattle.ll_verdict.specs.Full.{full_by, is_full, refusal_after}
-use Rattle.ll_room.specs.Full.{refusal_at, refusal_by}
+use Rattle.ll_room.specs.Full.{refusal_by}
 use Rattle.ll_room.specs.Home.{Home, Stands, home}
 use Rattle.ll_room.proofs.FreedLemmas.{each_freed}
 use Rattle.ll_room.proofs.IdleLemmas.{idle}

@@ -7,7 +7,7 @@ use Rattle.ll_item.specs.Settings.{Configuration}
 use Rattle.ll_item.specs.declared.item.Item.{Item}
 use Rattle.ll_directive.specs.Targets.{WantValue}
 use Rattle.ll_page.specs.Page.{Paged}
-use Rattle.ll_page.specs.declared.rendition.Rendition.{Rendition}
+use Rattle.ll_rendition.specs.declared.rendition.Rendition.{Rendition}
 use Rattle.ll_page.proofs.RenditionLemmas.{rendition-got}
 use Rattle.ll_window.specs.Compact.{Compact, compact}
 use Rattle.ll_window.specs.Segments.{own, ended}

@@ -27,7 +27,7 @@ use Rattle.ll_verdict.proofs.ListLemmas.{Each}
 use Rattle.ll_book.specs.Pages.{PagesOf, page_in}
 use Rattle.ll_book.specs.Release.{frees, given_if, part_comes, segment_comes}
 use Rattle.ll_book.specs.declared.release.Release.{Release}
-use Rattle.ll_rendition.specs.Releases.{first_release, second_release}
+use Rattle.ll_book.specs.Releases.{first_release, second_release}
 use Rattle.ll_room.specs.Freed.{freed}
 use Rattle.ll_room.proofs.IdleLemmas.{Idle}
 

@@ -1,19 +1,20 @@
 -- What a room keeps true of itself.
 use Rattle.std.proofs.Common.{◌≡◌, not, ◌||◌, ◌==◌, true≢false, ◌≤◌, ◌<◌, ℕ, ◌+◌, ◌^◌, List, [], ◌∷◌, Bool, true, false, cond, Option, length, filter, map, refl, ap, ◌∙◌, sym, subst, suc, arith, ◌++◌, None, length-append}
 use Rattle.std.specs.List.{list_any}
-use Rattle.ll_page.specs.Page.{Moment}
 use Rattle.ll_verdict.specs.declared.entry.Slot.{Slot}
 use Rattle.ll_book.specs.Release.{expired, is_over, over_if}
 use Rattle.ll_verdict.specs.Waiting.{AreBelow, without, has_ticket, ticket_in}
+use Rattle.ll_page.specs.Page.{Moment}
 use Rattle.ll_room.specs.Home.{Home, less}
 use Rattle.ll_room.specs.Kept.{IsKept, with_answer}
 use Rattle.ll_room.specs.Stored.{AreFew}
+use Rattle.ll_room.specs.Written.{WrittenOf}
+use Rattle.ll_room.proofs.WrittenLemmas.{none-written}
 use Rattle.std.proofs.lemmas.Bool.Decides.{nat_tests}
 use Rattle.ll_item.specs.Settings.{Configuration}
-use Rattle.ll_page.specs.Pieces.{PiecesOf}
 use Rattle.ll_page.specs.View.{renditions}
 use Rattle.ll_page.proofs.RenditionLemmas.{length-renditions}
-use Rattle.ll_page.specs.declared.rendition.Rendition.{Rendition}
+use Rattle.ll_rendition.specs.declared.rendition.Rendition.{Rendition}
 use Rattle.ll_verdict.specs.declared.entry.Entry.{Entry}
 use Rattle.ll_verdict.specs.Full.{event_end}
 
@@ -28,8 +29,8 @@ below-new a s [] h r = (h, tt)
 below-new a s (t ∷ ss) h r = (r.0, below-new a s ss h r.1)
 
 -- a request that is answered at once
-pub kept-answer : (h : Home) (written : Option Moment) (pieces : List PiecesOf) → h.events < event_end → IsKept h written pieces → IsKept (with_answer h) written pieces
-kept-answer h written pieces few k = record {
+pub kept-answer : (h : Home) (w : WrittenOf) → h.events < event_end → IsKept h w → IsKept (with_answer h) w
+kept-answer h w few k = record {
   current = k.current;
   stored = k.stored;
   target = k.target;
@@ -43,10 +44,10 @@ kept-answer h written pieces few k = record {
 }
 
 -- a request that is held
-pub kept-held : (h : Home) (written : Option Moment) (pieces : List PiecesOf) (e : Entry) (ss : List Slot) → h.events < event_end → e.ticket ≡ h.asks + 1
-    → ss ≡ h.slots ++ (record { entry = e; settled = None }) ∷ [] → IsKept h written pieces
-    → IsKept (record h { asks = h.asks + 1; slots = ss; events = h.events + 1 }) written pieces
-kept-held h written pieces e ss few t is k =
+pub kept-held : (h : Home) (w : WrittenOf) (e : Entry) (ss : List Slot) → h.events < event_end → e.ticket ≡ h.asks + 1
+    → ss ≡ h.slots ++ (record { entry = e; settled = None }) ∷ [] → IsKept h w
+    → IsKept (record h { asks = h.asks + 1; slots = ss; events = h.events + 1 }) w
+kept-held h w e ss few t is k =
     let many : length ss ≡ length h.slots + 1 = ap length is ∙ length-append h.slots ((record { entry = e; settled = None }) ∷ []) in record {
       current = k.current;
       stored = k.stored;
@@ -62,10 +63,10 @@ kept-held h written pieces e ss few t is k =
       counted = omega (arith, few, k.few, k.asked, many);
     }
 
-pub kept-new : (channel : ℕ) (c : Configuration) (kept : List Rendition) (pieces : List PiecesOf) (ss : List Slot) → 1 ≤ c.target → kept ≡ renditions c [] → AreFew pieces kept → ss ≡ []
-    → IsKept (record { channel = channel; settings = c; renditions = kept; count = 0; time = 0; asks = 0; slots = ss; events = 0 }) None pieces
-kept-new channel c kept pieces ss low is few none = record {
-  current = tt;
+new_kept : (channel : ℕ) (c : Configuration) (kept : List Rendition) (w : WrittenOf) (ss : List Slot) → 1 ≤ c.target → kept ≡ renditions c [] → w.pages ≡ [] → AreFew w.pieces kept → ss ≡ []
+    → IsKept (record { channel = channel; settings = c; renditions = kept; count = 0; time = 0; asks = 0; slots = ss; events = 0 }) w
+new_kept channel c kept w ss low is unwritten few none = record {
+  current = none-written _ w.pages unwritten;
   stored = few;
   target = low;
   each = ap length is ∙ length-renditions c [];
@@ -76,6 +77,15 @@ kept-new channel c kept pieces ss low is few none = record {
   few = omega (arith, ap length none);
   counted = omega (arith, ap length none);
 }
+
+-- nothing has happened
+pub kept-new : (channel : ℕ) (c : Configuration) (m : Moment) (kept : List Rendition) (w : WrittenOf) (ss : List Slot)
+    → m ≡ record { settings = c; renditions = kept; count = 0 } → 1 ≤ c.target → kept ≡ renditions c [] → w.pages ≡ [] → AreFew w.pieces kept → ss ≡ []
+    → IsKept (record { channel = channel; settings = m.settings; renditions = m.renditions; count = m.count; time = 0; asks = 0; slots = ss; events = 0 }) w
+kept-new channel c m kept w ss made low is unwritten few none =
+    subst
+    (λ (n : Moment). IsKept (record { channel = channel; settings = n.settings; renditions = n.renditions; count = n.count; time = 0; asks = 0; slots = ss; events = 0 }) w)
+    (sym made) (new_kept channel c kept w ss low is unwritten few none)
 
 -- the newest ticket is above all others
 left_by : (t : ℕ) (s : Slot) (ss : List Slot) → s.entry.ticket < t → filter (λ n. not (n == t)) (map ticket_in ss ++ t ∷ []) ≡ map ticket_in ss
@@ -127,10 +137,10 @@ clock_counted : (events slots : ℕ) → events < 2 ^ 60 → slots ≤ events �
 clock_counted events slots h k = omega (arith, h, k)
 
 -- the clock
-pub clock-kept : (h : Home) (written : Option Moment) (pieces : List PiecesOf) (time : ℕ) (slots : List Slot) → IsKept h written pieces
+pub clock-kept : (h : Home) (w : WrittenOf) (time : ℕ) (slots : List Slot) → IsKept h w
     → h.events < 2 ^ 60 → time ≤ 2 ^ 60 → slots ≡ map (expired time) h.slots
-    → IsKept (record h { time = time; slots = slots; events = h.events + 1 }) written pieces
-clock-kept h written pieces time slots k room early e =
+    → IsKept (record h { time = time; slots = slots; events = h.events + 1 }) w
+clock-kept h w time slots k room early e =
     let long : length slots ≡ length h.slots = ap length e ∙ long_expired time h.slots in
     record {
       current = k.current;
@@ -159,9 +169,9 @@ lost t (s ∷ ss) h = lost_by s (without t ss) ss (s.entry.ticket == t) (list_an
 abbrev with_left : Home → List Slot → Home
 with_left h slots = record h { slots = slots; events = h.events + 1 }
 
-pub leave-kept : (h : Home) (written : Option Moment) (pieces : List PiecesOf) (t : ℕ) (slots : List Slot) → IsKept h written pieces
-    → slots ≡ without t h.slots → list_any (has_ticket t) h.slots ≡ true → IsKept (with_left h slots) written pieces
-leave-kept h written pieces t slots k e there =
+pub leave-kept : (h : Home) (w : WrittenOf) (t : ℕ) (slots : List Slot) → IsKept h w
+    → slots ≡ without t h.slots → list_any (has_ticket t) h.slots ≡ true → IsKept (with_left h slots) w
+leave-kept h w t slots k e there =
     let fewer : length slots < length h.slots = subst (λ ss. length ss < length h.slots) (sym e) (lost t h.slots there) in
     record {
       current = k.current;
@@ -177,5 +187,5 @@ leave-kept h written pieces t slots k e there =
     }
 
 -- where none leaves
-pub same-kept : (h : Home) (written : Option Moment) (pieces : List PiecesOf) (slots : List Slot) → IsKept h written pieces → slots ≡ h.slots → IsKept (record h { slots = slots }) written pieces
-same-kept h written pieces slots k e = subst (λ ss. IsKept (record h { slots = ss }) written pieces) (sym e) k
+pub same-kept : (h : Home) (w : WrittenOf) (slots : List Slot) → IsKept h w → slots ≡ h.slots → IsKept (record h { slots = slots }) w
+same-kept h w slots k e = subst (λ ss. IsKept (record h { slots = ss }) w) (sym e) k

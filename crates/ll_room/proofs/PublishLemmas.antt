@@ -4,18 +4,13 @@ use Rattle.std.specs.Prelude.{Result, Ok, Err, OnOk, slice_get, slice_set}
 use Rattle.std.specs.List.{list_any}
 use Rattle.std.proofs.lemmas.Bool.Decides.{nat_tests}
 use Rattle.ll_item.specs.Items.{rendition_of}
-use Rattle.ll_item.specs.Settings.{Configuration}
 use Rattle.ll_item.specs.declared.item.Item.{Item}
 use Rattle.ll_item.specs.declared.item.Item.TheVariants as item
 use Rattle.ll_directive.specs.declared.want.Awaited.{Awaited}
 use Rattle.ll_directive.specs.declared.want.Awaited.TheVariants.{Nothing, Segment, Part}
 use Rattle.ll_page.specs.Page.{Moment}
-use Rattle.ll_page.specs.Pieces.{PiecesOf}
-use Rattle.ll_page.specs.View.{kept, renditions}
-use Rattle.ll_page.specs.declared.rendition.Rendition.{Rendition}
-use Rattle.ll_page.proofs.RenditionLemmas.{rendition-got, renditions-snoc}
+use Rattle.ll_rendition.specs.declared.rendition.Rendition.{Rendition}
 use Rattle.ll_window.specs.Compact.{Compact}
-use Rattle.ll_window.specs.Segments.{own}
 use Rattle.ll_verdict.specs.State.{is_waiting}
 use Rattle.ll_verdict.specs.declared.entry.Slot.{Slot}
 use Rattle.ll_book.specs.Pages.{PagesOf}
@@ -24,50 +19,16 @@ use Rattle.ll_verdict.specs.Waiting.{AreBelow, ticket_in}
 use Rattle.ll_book.specs.declared.release.Release.{Release}
 use Rattle.ll_book.specs.declared.release.Release.TheVariants as release
 use Rattle.ll_book.proofs.Holding.{release-law}
-use Rattle.ll_rendition.specs.Releases.{HasHolders, HasThose, released_with, takes_any}
-use Rattle.ll_room.specs.Coming.{IsComing, changed, pages}
-use Rattle.ll_room.specs.Freed.{AreApart, GoOn, freed, freed_slots, new_pages, releases, releases_at, with_item}
+use Rattle.ll_book.specs.Releases.{HasHolders, HasThose, released_with, takes_any}
+use Rattle.ll_room.specs.Coming.{IsComing, changed, pages_in}
+use Rattle.ll_room.specs.Freed.{AreApart, freed, freed_slots, new_pages, releases, releases_at, with_item}
 use Rattle.ll_verdict.specs.Full.{event_end}
-use Rattle.ll_room.specs.Full.{refusal_at}
 use Rattle.ll_room.specs.Home.{Home}
-use Rattle.ll_room.specs.Kept.{IsCurrent, IsKept}
+use Rattle.ll_room.specs.Kept.{IsKept}
 use Rattle.ll_room.specs.Stored.{AreFew}
+use Rattle.ll_room.specs.Written.{AreWritten, WrittenOf}
+use Rattle.ll_room.proofs.WrittenLemmas.{none-written, one-written}
 use Rattle.ll_room.specs.declared.publish.Coming.{Coming}
-
--- one more item for its rendition
-pub goes-on : {E : Type 0} (c : Configuration) (before : List Item) (i : Item) (rs : List Rendition) (at : ℕ) (old new : Rendition) (r : Result Unit E)
-    → rs ≡ renditions c before → at ≡ rendition_of i → slice_get rs at ≡ Some old
-    → ((d : Configuration) (its : List Item) → old ≡ kept d its → OnOk r (new ≡ kept d (its ++ i ∷ [])))
-    → OnOk r (slice_set rs at new ≡ renditions c (before ++ i ∷ []))
-goes-on c before i rs at old new (Err e) whole place stands h = tt
-goes-on c before i rs at old new (Ok x) whole place stands h =
-    let got = rendition-got c before (rendition_of i) old (ap₂ slice_get (sym whole) (sym place) ∙ stands) in
-    let is = h c (own (rendition_of i) before) got.1 in
-    let within : rendition_of i < length c.renditions = (let e = got.0 in grind (arith, nat_tests)) in
-    ap₂ (λ xs q. slice_set xs q new) whole place ∙ ap (slice_set (renditions c before) (rendition_of i)) is ∙ sym (renditions-snoc c before i within)
-
--- the same for any items before it
-pub goes-on-all : {E : Type 0} (i : Item) (rs : List Rendition) (at : ℕ) (old new : Rendition) (r : Result Unit E) → at ≡ rendition_of i → slice_get rs at ≡ Some old
-    → ((d : Configuration) (its : List Item) → old ≡ kept d its → OnOk r (new ≡ kept d (its ++ i ∷ [])))
-    → OnOk r (GoOn rs (slice_set rs at new) i)
-goes-on-all {E} i rs at old new (Err e) place stands h = tt
-goes-on-all {E} i rs at old new (Ok x) place stands h = λ c before whole. goes-on {E = E} c before i rs at old new (Ok x) whole place stands h
-
-within-got : (rs : List Rendition) (r : ℕ) (k : Rendition) → slice_get rs r ≡ Some k → r < length rs
-within-got [] r k e = absurd (cc)
-within-got (x ∷ rs) zero k e = omega arith
-within-got (x ∷ rs) (suc r) k e = let h = within-got rs r k e in omega (arith, h)
-
-nowhere_by : (rs : List Rendition) (i : Item) (o : Option Rendition) → slice_get rs (rendition_of i) ≡ o → (rendition_of i < length rs → false ≡ true)
-    → refusal_at o i ≡ None → ⊥
-nowhere_by rs i None e past free = true≢false (sym (ap is_none free))
-nowhere_by rs i (Some k) e past free = true≢false (sym (past (within-got rs (rendition_of i) k e)))
-
--- an item that nothing refuses is of a rendition that is kept
-pub nowhere : (rs : List Rendition) (n at : ℕ) (i : Item) → at ≡ rendition_of i → n ≡ length rs → (at < n → false ≡ true)
-    → refusal_at (slice_get rs (rendition_of i)) i ≡ None → ⊥
-nowhere rs n at i place many past free =
-    nowhere_by rs i (slice_get rs (rendition_of i)) refl (λ h. past (omega (arith, h, place, many))) free
 
 -- the releases take none of these
 
@@ -218,13 +179,13 @@ length_tickets : (ss : List Slot) → length (map ticket_in ss) ≡ length ss
 length_tickets [] = refl
 length_tickets (s ∷ ss) = ap suc (length_tickets ss)
 
-pub kept-item : (h : Home) (written now : Option Moment) (old pieces : List PiecesOf) (kept : List Rendition) (ss : List Slot) (moment_now : Moment) → h.events < event_end → IsKept h written old → AreFew pieces kept
-    → length kept ≡ length h.renditions → map ticket_in ss ≡ map ticket_in h.slots → moment_now ≡ record { settings = h.settings; renditions = kept; count = h.count + 1 }
-    → IsCurrent moment_now now
-    → IsKept (record h { renditions = kept; count = h.count + 1; slots = ss; events = h.events + 1 }) now pieces
-kept-item h written now old pieces kept ss moment_now few k stored many same is current =
+pub kept-item : (h : Home) (w now : WrittenOf) (kept : List Rendition) (ss : List Slot) → h.events < event_end → IsKept h w
+    → AreWritten (record { settings = h.settings; renditions = kept; count = h.count + 1 }) now.pages → AreFew now.pieces kept
+    → length kept ≡ length h.renditions → map ticket_in ss ≡ map ticket_in h.slots
+    → IsKept (record h { renditions = kept; count = h.count + 1; slots = ss; events = h.events + 1 }) now
+kept-item h w now kept ss few k current stored many same =
     let long : length ss ≡ length h.slots = sym (length_tickets ss) ∙ ap length same ∙ length_tickets h.slots in record {
-      current = subst (λ m. IsCurrent m now) is current;
+      current = current;
       stored = stored;
       target = k.target;
       each = many ∙ k.each;
@@ -240,6 +201,14 @@ kept-item h written now old pieces kept ss moment_now few k stored many same is 
 abbrev pub item_on : List Rendition → List Slot → Home → Home
 item_on kept ss h = record h { renditions = kept; count = h.count + 1; slots = ss; events = h.events + 1 }
 
+-- the room in which the channel is shown so
+abbrev pub shown_on : Moment → List Slot → Home → Home
+shown_on m ss h = record h { settings = m.settings; renditions = m.renditions; count = m.count; slots = ss; events = h.events + 1 }
+
+pub shown-item : (m : Moment) (ss : List Slot) (h : Home) → m ≡ record { settings = h.settings; renditions = m.renditions; count = h.count + 1 }
+    → shown_on m ss h ≡ item_on m.renditions ss h
+shown-item m ss h e = ap (λ (n : Moment). shown_on n ss h) e
+
 pub silent-item : (h now : Home) (kept : List Rendition) (i : Item) → h ≡ now → takes_any (releases now i).0 now.slots ≡ false
     → takes_any (releases now i).1 now.slots ≡ false → item_on kept h.slots h ≡ with_item now kept i
 silent-item h now kept i e first second =
@@ -247,28 +216,48 @@ silent-item h now kept i e first second =
     ∙ ap (λ ss. item_on kept ss now) (sym (silent-slots (new_pages now kept i) (releases now i) now.slots first second))
 
 pub released-item : (h : Home) (i : Item) (first second : Option Release) (x : Coming) → (first, second) ≡ releases h i → x.rendition ≡ rendition_of i
-    → IsComing h first second x → changed h first second x ≡ with_item h x.renditions.items i
+    → IsComing h first second x → changed h first second x ≡ with_item h x.shown.renditions i
 released-item h i first second x both r is =
-    let made : Moment = record { settings = h.settings; renditions = x.renditions.items; count = h.count + 1 } in
-    let pages_are : pages x ≡ new_pages h x.renditions.items i = ap₂ (λ m q. record { moment = m; rendition = q }) is.written r in
-    ap₂ (λ p q. item_on x.renditions.items (freed_slots p q h.slots) h) pages_are both
+    let pages_are : pages_in x ≡ new_pages h x.shown.renditions i = ap₂ (λ m q. record { moment = m; rendition = q }) is.shown r in
+    ap₂ (λ p q. item_on x.shown.renditions (freed_slots p q h.slots) h) pages_are both
 
 -- the room that takes over what was made is kept true
-pub kept-change : (h : Home) (written : Option Moment) (old pieces : List PiecesOf) (first second : Option Release) (x : Coming) (new final : List Slot) → h.events < event_end → IsKept h written old → AreFew pieces x.renditions.items
+pub kept-change : (h : Home) (w now : WrittenOf) (first second : Option Release) (x : Coming) (new final : List Slot) → h.events < event_end → IsKept h w
+    → now.pages ≡ x.pages.items → AreFew now.pieces x.shown.renditions
     → AreApart (first, second) → IsComing h first second x → new ≡ released_with first x.first h.slots → final ≡ released_with second x.second new
-    → IsKept (item_on x.renditions.items final h) (Some x.written) pieces
-kept-change h written old pieces first second x new final few k stored apart is e f =
-    let slots : final ≡ freed_slots (pages x) (first, second) h.slots =
-    f ∙ both-released (pages x) (first, second) h.slots new x.first x.second apart is.has_first is.has_second e in
-    kept-item h written (Some x.written) old pieces x.renditions.items final x.written few k stored is.many (ap (map ticket_in) slots ∙ same-tickets (pages x) (first, second) h.slots)
-    is.written refl
+    → IsKept (item_on x.shown.renditions final h) now
+kept-change h w now first second x new final few k written stored apart is e f =
+    let slots : final ≡ freed_slots (pages_in x) (first, second) h.slots =
+    f ∙ both-released (pages_in x) (first, second) h.slots new x.first x.second apart is.has_first is.has_second e in
+    kept-item h w now x.shown.renditions final few k (one-written _ now.pages (pages_in x) (written ∙ is.pages) is.shown) stored is.many
+    (ap (map ticket_in) slots ∙ same-tickets (pages_in x) (first, second) h.slots)
+
+-- so is one after an item that releases nothing, with no page of before it
+pub kept-silent : (h : Home) (w now : WrittenOf) (kept : List Rendition) → h.events < event_end → IsKept h w → now.pages ≡ [] → AreFew now.pieces kept
+    → length kept ≡ length h.renditions → IsKept (item_on kept h.slots h) now
+kept-silent h w now kept few k none stored many = kept-item h w now kept h.slots few k (none-written _ now.pages none) stored many refl
+
+-- and one whose pages were dropped
+pub kept-dropped : (h : Home) (w now : WrittenOf) → IsKept h w → now.pages ≡ [] → AreFew now.pieces h.renditions → IsKept h now
+kept-dropped h w now k none stored = record {
+  current = none-written _ now.pages none;
+  stored = stored;
+  target = k.target;
+  each = k.each;
+  accepted = k.accepted;
+  asked = k.asked;
+  early = k.early;
+  below = k.below;
+  few = k.few;
+  counted = k.counted;
+}
 
 pub coming-of : (h now : Home) (first second : Option Release) (x : Coming) → h ≡ now → IsComing now first second x → IsComing h first second x
 coming-of h now first second x e is = subst (λ (r : Home). IsComing r first second x) (sym e) is
 
 pub changed-is : (h now : Home) (first second : Option Release) (x : Coming) (new final : List Slot) → h ≡ now → AreApart (first, second)
     → IsComing h first second x → new ≡ released_with first x.first h.slots → final ≡ released_with second x.second new
-    → item_on x.renditions.items final h ≡ changed now first second x
+    → item_on x.shown.renditions final h ≡ changed now first second x
 changed-is h now first second x new final e apart is f g =
-    ap (λ ss. item_on x.renditions.items ss h) (g ∙ both-released (pages x) (first, second) h.slots new x.first x.second apart is.has_first is.has_second f)
+    ap (λ ss. item_on x.shown.renditions ss h) (g ∙ both-released (pages_in x) (first, second) h.slots new x.first x.second apart is.has_first is.has_second f)
     ∙ ap (λ (r : Home). changed r first second x) e

@@ -64,3 +64,11 @@ written-more now ps p r true all is none =
           (distinct_more p.rendition (map rendition ps) all.apart
           (subst (λ i. among i (map rendition ps) ≡ false) (sym its) (not_there r ps (sym none))));
     }
+
+-- where none are written
+pub none-written : (now : Moment) (ps : List PagesOf) → ps ≡ [] → AreWritten now ps
+none-written now ps none = subst (AreWritten now) (sym none) (record { here = λ k d lt. absurd (omega (arith, lt)); apart = tt })
+
+-- where those of one rendition are
+pub one-written : (now : Moment) (ps : List PagesOf) (p : PagesOf) → ps ≡ p ∷ [] → p.moment ≡ now → AreWritten now ps
+one-written now ps p one here = subst (AreWritten now) (sym one) (record { here = λ k d lt. one_at now p k d here lt; apart = (refl, tt) })

@@ -1,27 +1,28 @@
 -- For private contracts: what an item and its releases need, made before anything changes.
-use Rattle.std.specs.Prelude.{◌≡◌, ◌+◌, Option, length}
+use Rattle.std.specs.Prelude.{◌≡◌, ◌+◌, [], ◌∷◌, Option, length}
 use Rattle.ll_book.specs.Pages.{PagesOf}
 use Rattle.ll_book.specs.declared.release.Release.{Release}
-use Rattle.ll_rendition.specs.Releases.{HasHolders}
+use Rattle.ll_book.specs.Releases.{HasHolders}
 use Rattle.ll_room.specs.Freed.{freed_slots}
 use Rattle.ll_room.specs.Home.{Home}
 use Rattle.ll_room.specs.declared.publish.Coming.{Coming}
 
 -- the pages of the item's rendition
-abbrev pub pages : Coming → PagesOf
-pages x = record { moment = x.written; rendition = x.rendition }
+abbrev pub pages_in : Coming → PagesOf
+pages_in x = record { moment = x.shown; rendition = x.rendition }
 
 pub record IsComing (h : Home) (first second : Option Release) (x : Coming) : Type 0 where
-  pub many : length x.renditions.items ≡ length h.renditions
-  pub written : x.written ≡ record { settings = h.settings; renditions = x.renditions.items; count = h.count + 1 }
-  pub has_first : HasHolders (pages x) first h.slots x.first
-  pub has_second : HasHolders (pages x) second h.slots x.second
+  pub many : length x.shown.renditions ≡ length h.renditions
+  pub shown : x.shown ≡ record { settings = h.settings; renditions = x.shown.renditions; count = h.count + 1 }
+  pub pages : x.pages.items ≡ pages_in x ∷ []
+  pub has_first : HasHolders (pages_in x) first h.slots x.first
+  pub has_second : HasHolders (pages_in x) second h.slots x.second
 
 -- the room with what was made
 abbrev pub changed : Home → Option Release → Option Release → Coming → Home
 changed h first second x = record h {
-  renditions = x.renditions.items;
+  renditions = x.shown.renditions;
   count = h.count + 1;
-  slots = freed_slots (pages x) (first, second) h.slots;
+  slots = freed_slots (pages_in x) (first, second) h.slots;
   events = h.events + 1;
 }

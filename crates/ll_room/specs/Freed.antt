@@ -1,15 +1,13 @@
 -- For private contracts: which releases an item brings, where what is kept of its rendition was this before it.
-use Rattle.std.specs.Prelude.{◌≡◌, ◌+◌, List, [], ◌∷◌, ◌++◌, true, false, Option, Some, None, map, slice_get}
+use Rattle.std.specs.Prelude.{◌≡◌, ◌+◌, List, true, false, Option, Some, None, map, slice_get}
 use Rattle.ll_item.specs.Items.{rendition_of}
-use Rattle.ll_item.specs.Settings.{Configuration}
 use Rattle.ll_item.specs.declared.item.Item.{Item}
-use Rattle.ll_page.specs.View.{renditions}
-use Rattle.ll_page.specs.declared.rendition.Rendition.{Rendition}
+use Rattle.ll_rendition.specs.declared.rendition.Rendition.{Rendition}
 use Rattle.ll_verdict.specs.declared.entry.Slot.{Slot}
 use Rattle.ll_book.specs.Pages.{PagesOf}
 use Rattle.ll_book.specs.Release.{given_if, takes}
 use Rattle.ll_book.specs.declared.release.Release.{Release}
-use Rattle.ll_rendition.specs.Releases.{first_release, second_release}
+use Rattle.ll_book.specs.Releases.{first_release, second_release}
 use Rattle.ll_room.specs.Home.{Home}
 
 -- the two releases that an item brings, where this is kept of its rendition
@@ -45,7 +43,3 @@ with_item h kept i = record h {
   slots = freed_slots (new_pages h kept i) (releases h i) h.slots;
   events = h.events + 1;
 }
-
--- what is kept goes on to what is kept of the items before it and of this item
-abbrev pub GoOn : List Rendition → List Rendition → Item → Type 0
-GoOn old new i = (c : Configuration) (before : List Item) → old ≡ renditions c before → new ≡ renditions c (before ++ i ∷ [])

@@ -4,7 +4,7 @@ use Rattle.std.specs.List.{list_any}
 use Rattle.ll_item.specs.Settings.{Configuration}
 use Rattle.ll_page.specs.Page.{Moment}
 use Rattle.ll_page.specs.View.{renditions}
-use Rattle.ll_page.specs.declared.rendition.Rendition.{Rendition}
+use Rattle.ll_rendition.specs.declared.rendition.Rendition.{Rendition}
 use Rattle.ll_verdict.specs.Waiting.{ticket_in}
 use Rattle.ll_verdict.specs.Events.{Event}
 use Rattle.ll_verdict.specs.State.{State, state_of}

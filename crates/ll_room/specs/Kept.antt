@@ -1,20 +1,14 @@
 -- For private contracts: what a room keeps true of itself.
-use Rattle.std.specs.Prelude.{◌≡◌, ◌≤◌, ◌+◌, ◌*◌, ◌^◌, ◌++◌, List, [], ◌∷◌, Option, Some, None, length}
-use Rattle.ll_page.specs.Page.{Moment}
-use Rattle.ll_page.specs.Pieces.{PiecesOf}
+use Rattle.std.specs.Prelude.{◌≡◌, ◌≤◌, ◌+◌, ◌*◌, ◌^◌, ◌++◌, List, [], ◌∷◌, None, length}
 use Rattle.ll_verdict.specs.Waiting.{AreBelow}
 use Rattle.ll_verdict.specs.declared.wanted.Wanted.{Wanted}
 use Rattle.ll_room.specs.Home.{Home, moment}
 use Rattle.ll_room.specs.Stored.{AreFew}
+use Rattle.ll_room.specs.Written.{AreWritten, WrittenOf}
 
--- what was written is of the channel as it is now
-abbrev pub IsCurrent : Moment → Option Moment → Type 0
-IsCurrent now None = Unit
-IsCurrent now (Some written) = written ≡ now
-
-pub record IsKept (h : Home) (written : Option Moment) (pieces : List PiecesOf) : Type 0 where
-  pub current : IsCurrent (moment h) written
-  pub stored : AreFew pieces h.renditions
+pub record IsKept (h : Home) (w : WrittenOf) : Type 0 where
+  pub current : AreWritten (moment h) w.pages
+  pub stored : AreFew w.pieces h.renditions
   -- a request that waits is not due when it is made
   pub target : 1 ≤ h.settings.target
   pub each : length h.renditions ≡ length h.settings.renditions

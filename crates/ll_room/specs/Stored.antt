@@ -1,7 +1,7 @@
 -- For private contracts: how much a room stores beside what it stands for.
 use Rattle.std.specs.Prelude.{◌≤◌, List, [], ◌∷◌, length}
 use Rattle.ll_page.specs.Pieces.{PiecesOf}
-use Rattle.ll_page.specs.declared.rendition.Rendition.{Rendition}
+use Rattle.ll_rendition.specs.declared.rendition.Rendition.{Rendition}
 
 -- of each rendition at most one piece for each segment that its playlist shows, and one for the open segment
 abbrev pub AreFew : List PiecesOf → List Rendition → Type 0

@@ -1,9 +1,15 @@
--- For private contracts: the playlists that were written of a channel at one moment.
+-- For private contracts: what was written of a channel.
 use Rattle.std.specs.Prelude.{◌≡◌, ℕ, ◌==◌, List, Bool, map}
 use Rattle.std.specs.List.{All}
 use Rattle.ll_book.specs.Pages.{PagesOf}
 use Rattle.ll_page.specs.Page.{Moment}
+use Rattle.ll_page.specs.Pieces.{PiecesOf}
 use Rattle.ll_room.specs.Home.{AreDistinct}
+
+-- the pages of each rendition that was asked for, and what was rendered of the segments of each
+pub record WrittenOf : Type 0 where
+  pub pages : List PagesOf
+  pub pieces : List PiecesOf
 
 -- all of them are of this moment
 abbrev pub AreAt : Moment → List PagesOf → Type 0
@@ -12,7 +18,7 @@ AreAt now pages = All (λ (p : PagesOf). p.moment ≡ now) pages
 abbrev pub rendition : PagesOf → ℕ
 rendition p = p.rendition
 
--- and there is at most one set of them, with a page a form, of each rendition
+-- pages of this moment, of which each rendition has at most one set, with a page a form
 pub record AreWritten (now : Moment) (pages : List PagesOf) : Type 0 where
   pub here : AreAt now pages
   pub apart : AreDistinct (map rendition pages)

@@ -19,12 +19,10 @@ use crate::fault::AskFault;
 use crate::parked::Parked;
 use crate::room::{EVENT_END, Room};
 use crate::stamped::{Stamp, Stamped};
-use crate::written::Written;
 use ll_book::ParkFault;
 use ll_directive::{Skip, Want};
-use ll_page::{Form, Page, Rendition, Shown, SkipKind};
-use ll_rendition::{is_far, is_there};
-use ll_verdict::{Entry, Outcome, Reply, Wanted};
+use ll_page::{Form, Page, SkipKind};
+use ll_verdict::{Entry, Outcome, Reply, Wanted, is_far, is_there};
 use std::alloc::AllocError;
 
 /// How long a request waits, for each second of the target duration: three target durations, in milliseconds.
@@ -62,7 +60,7 @@ impl Room {
         ensures { IsDecided self.now want.now result }
     {
         // (so that it is known that there are as many renditions as names)
-        let _ = &self.renditions;
+        let _ = &self.shown;
         let Some(wanted) = self.wanted(want) else {
             return Decision::NotFound;
         };
@@ -91,7 +89,7 @@ impl Room {
         ensures unchanged { OnErr result (self.new ≡ self.old) }
     {
         // (so that it is known that a request waits for some time)
-        let _ = &self.settings;
+        let _ = &self.shown;
         match decision {
             Decision::NotFound => Ok(self.answer(want, Reply::NotFound)),
             Decision::There(wanted) => {
@@ -115,7 +113,7 @@ impl Room {
         ensures unchanged { OnErr result (self.new ≡ self.old) }
     {
         // (so that it is known that a request waits for some time)
-        let _ = &self.settings;
+        let _ = &self.shown;
         if let Decision::Waits(wanted) = decision {
             self.hold(wanted)?.spend();
         } else {
@@ -128,7 +126,7 @@ impl Room {
     fn wanted(&self, want: &Want) -> Option<Wanted>
         ensures { result ≡ wanted_of self.now.settings want.now }
     {
-        let rendition = self.settings.rendition(want.rendition())?;
+        let rendition = self.shown.settings().rendition(want.rendition())?;
         Some(Wanted {
             rendition,
             awaited: want.awaited(),
@@ -142,7 +140,10 @@ impl Room {
         ensures { (events : List Event) → Stands self.now events
             → result ≡ verdict.is_there self.now.settings (items self.now.settings events) wanted.now }
     {
-        is_there(&self.renditions[wanted.rendition].window, wanted.awaited)
+        is_there(
+            &self.shown.renditions()[wanted.rendition].window,
+            wanted.awaited,
+        )
     }
 
     /// Whether what a request awaits is too far ahead to be waited for.
@@ -151,7 +152,10 @@ impl Room {
         ensures { (events : List Event) → Stands self.now events
             → result ≡ verdict.far self.now.settings (own wanted.now.rendition (items self.now.settings events)) wanted.now.awaited }
     {
-        is_far(&self.renditions[wanted.rendition].window, wanted.awaited)
+        is_far(
+            &self.shown.renditions()[wanted.rendition].window,
+            wanted.awaited,
+        )
     }
 
     /// The playlist or delta update as it is now. It is kept until the next item, so that whoever asks for it until then shares it.
@@ -161,16 +165,7 @@ impl Room {
         ensures unchanged { self.new ≡ self.old }
     {
         let (rendition, form) = (wanted.rendition, wanted.form);
-        let before = self.pieces.get(rendition);
-        if let Some(written) = &mut self.written {
-            return written.page(self.alloc, rendition, form, before);
-        }
-        let renditions = Rendition::copy_all(self.alloc, &self.renditions)?;
-        let shown = Shown::new(self.alloc, &self.settings, renditions, self.count)?;
-        let mut written = Written::new(self.alloc, shown);
-        let page = written.page(self.alloc, rendition, form, before)?;
-        self.written = Some(written);
-        Ok(page)
+        self.written.page(self.alloc, &self.shown, rendition, form)
     }
 
     /// Counts a request that is answered at once.
@@ -204,8 +199,8 @@ impl Room {
         let entry = Entry {
             ticket,
             wanted,
-            seen: self.count,
-            deadline: self.time + WAIT * self.settings.target(),
+            seen: self.shown.count(),
+            deadline: self.time + WAIT * self.shown.settings().target(),
         };
         match self.book.park(entry) {
             Ok(()) => {}

@@ -1,24 +1,25 @@
 //! A publisher's items: a test that tells the first rule that refuses one, and a step that memory alone can refuse.
-ghost use Rattle.std.specs.Prelude.{◌≡◌, ◌≢◌, ◌+◌, ◌<◌, ◌++◌, ◌∷◌, [], List, IfOk, IfErr, IsErrOf, OnOk, OnErr, MatchResult, None, Some, length, slice_get, false};
+ghost use Rattle.std.specs.Prelude.{◌≡◌, ◌≢◌, ◌+◌, ◌<◌, ◌++◌, ◌∷◌, [], List, IfOk, IfErr, IsErrOf, OnOk, OnErr, MatchResult, None, Some, false};
 ghost use Rattle.ll_item.specs.Items.{rendition_of};
 ghost use Rattle.ll_item.specs.declared.item.Item.{Item};
-ghost use Rattle.ll_rendition.specs.Releases.{takes_any};
+ghost use Rattle.ll_book.specs.Releases.{takes_any};
+ghost use Rattle.ll_page.specs.View.{GoOn};
 ghost use Rattle.ll_verdict.specs.Events.{Event, Publish};
-ghost use Rattle.ll_room.specs.Freed.{AreApart, GoOn, with_item};
+ghost use Rattle.ll_room.specs.Freed.{AreApart, with_item};
 ghost use Rattle.ll_room.specs.Coming.{IsComing, changed};
 ghost use Rattle.ll_room.specs.Freed as spec;
 ghost use Rattle.ll_verdict.specs.Full.{event_end, refusal_after};
-ghost use Rattle.ll_room.specs.Full.{refusal_at, refusal_by};
+ghost use Rattle.ll_room.specs.Full.{refusal_by};
 ghost use Rattle.ll_room.specs.Home.{IsSame, Stands, tickets};
 ghost use Rattle.ll_room.specs.declared.stamped.Stamp.TheVariants as stamp;
 
 use crate::room::{EVENT_END, Room};
 use crate::stamped::{Stamp, Stamped};
-use crate::written::{Written, replace};
-use ll_book::{Holders, Pages, Release};
+use ll_book::{
+    Holders, Pages, Release, first_release, holders_for, release_with, second_release, takes_any,
+};
 use ll_item::Item;
-use ll_page::{Pieces, Rendition, Shown};
-use ll_rendition::{accept, first_release, holders, release, second_release, takes_any, test};
+use ll_page::Shown;
 use ll_verdict::PublishFault;
 use std::alloc::AllocError;
 
@@ -50,8 +51,8 @@ impl Room {
     pub fn test(&self, item: &Item) -> Result<(), PublishFault>
         ensures { MatchResult result (λ u. refusal_by self.now item.now ≡ None) (λ f. refusal_by self.now item.now ≡ Some f) }
     {
-        match self.renditions.get(item.rendition()) {
-            Some(kept) => test(kept, item)?,
+        match self.shown.renditions().get(item.rendition()) {
+            Some(kept) => kept.test(item)?,
             None => return Err(PublishFault::NoRendition),
         }
         if self.events >= EVENT_END {
@@ -72,7 +73,7 @@ impl Room {
         let stamp = Stamp::Publish(item.copy()?);
         let (first, second) = self.releases(&item);
         self.take_in(item, first, second)?;
-        Ok(Stamped::new(self.channel, stamp, self.count))
+        Ok(Stamped::new(self.channel, stamp, self.shown.count()))
     }
 
     /// Takes an item in, with these releases.
@@ -99,7 +100,7 @@ impl Room {
     fn releases(&self, item: &Item) -> (Option<Release>, Option<Release>)
         ensures { result ≡ spec.releases self.now item.now }
     {
-        match self.renditions.get(item.rendition()) {
+        match self.shown.renditions().get(item.rendition()) {
             Some(kept) => (
                 first_release(&kept.window, item),
                 second_release(&kept.window, item),
@@ -108,7 +109,8 @@ impl Room {
         }
     }
 
-    /// Accepts an item that releases no request: nothing is copied.
+    /// Accepts an item that releases no request. The pages of before it are dropped first, so that nothing is copied unless a reply that is on its
+    /// way still holds one.
     fn accept_silently(&mut self, item: Item) -> Result<(), AllocError>
         requires allowed { refusal_by self.old item ≡ None }
         requires first { takes_any (spec.releases self.old item).0 self.old.slots ≡ false }
@@ -117,9 +119,9 @@ impl Room {
         ensures accepted { OnOk result (self.new ≡ with_item self.old self.new.renditions item) }
         ensures unchanged { OnErr result (self.new ≡ self.old) }
     {
-        accept_at(&mut self.renditions, item)?;
-        replace(&mut self.written, None, &mut self.pieces, &self.renditions);
-        self.count += 1;
+        self.written.drop_pages(self.shown.renditions());
+        self.shown.accept(item)?;
+        self.written.drop_pages(self.shown.renditions());
         self.events += 1;
         Ok(())
     }
@@ -150,47 +152,24 @@ impl Room {
         second: Option<Release>,
     ) -> Result<Coming, AllocError>
         requires { refusal_by self.now item ≡ None }
-        ensures goes_on { IfOk result (λ x. GoOn self.now.renditions x.renditions.items item) }
+        ensures goes_on { IfOk result (λ x. GoOn self.now.renditions x.shown.renditions item) }
         ensures rendition { IfOk result (λ x. x.rendition ≡ rendition_of item) }
         ensures coming { IfOk result (λ x. IsComing self.now first second x) }
     {
         let rendition = item.rendition();
-        let (renditions, shown) = self.with_item(item)?;
-        let before = self.rendered(rendition);
+        let mut shown = self.shown.again()?;
+        shown.accept(item)?;
+        let before = self.written.rendered(rendition);
         let mut pages = Pages::new(self.alloc, shown.again()?, rendition, before)?.unwrap();
-        let first = holders(&self.book, self.alloc, first, &mut pages)?;
-        let second = holders(&self.book, self.alloc, second, &mut pages)?;
-        let written = Written::of(self.alloc, shown, pages)?;
+        let first = holders_for(&self.book, self.alloc, first, &mut pages)?;
+        let second = holders_for(&self.book, self.alloc, second, &mut pages)?;
         Ok(Coming {
             rendition,
-            renditions,
-            written,
+            shown,
+            pages: vec![in self.alloc; pages]?,
             first,
             second,
         })
-    }
-
-    /// What is rendered of the segments of a rendition, as it was last, where something is.
-    fn rendered(&self, rendition: usize) -> Option<&Pieces> {
-        let now = self
-            .written
-            .as_ref()
-            .and_then(|written| written.pieces(rendition));
-        now.or_else(|| self.pieces.get(rendition))
-    }
-
-    /// What will be kept of each rendition with an item, and the channel with it, as a copy to share.
-    fn with_item(&self, item: Item) -> Result<(Vec<Rendition>, Shown), AllocError>
-        requires { refusal_by self.now item ≡ None }
-        ensures goes_on { IfOk result (λ x. GoOn self.now.renditions x.0.items item) }
-        ensures many { IfOk result (λ x. length x.0.items ≡ length self.now.renditions) }
-        ensures shown { IfOk result (λ x. x.1 ≡ record { settings = self.now.settings; renditions = x.0.items; count = self.now.count + 1 }) }
-    {
-        let mut renditions = Rendition::copy_all(self.alloc, &self.renditions)?;
-        accept_at(&mut renditions, item)?;
-        let copies = Rendition::copy_all(self.alloc, &renditions)?;
-        let shown = Shown::new(self.alloc, &self.settings, copies, self.count + 1)?;
-        Ok((renditions, shown))
     }
 
     /// Takes over what was made, and makes these releases. It takes no memory.
@@ -200,18 +179,11 @@ impl Room {
         requires coming { IsComing self.old first second coming }
         ensures { self.new ≡ changed self.old first second coming }
     {
-        self.renditions = coming.renditions;
-        let written = Some(coming.written);
-        replace(
-            &mut self.written,
-            written,
-            &mut self.pieces,
-            &self.renditions,
-        );
-        self.count += 1;
+        self.shown = coming.shown;
+        self.written.renew(coming.pages, self.shown.renditions());
         self.events += 1;
-        release(&mut self.book, first, coming.first);
-        release(&mut self.book, second, coming.second);
+        release_with(&mut self.book, first, coming.first);
+        release_with(&mut self.book, second, coming.second);
     }
 }
 
@@ -220,25 +192,12 @@ impl Room {
 struct Coming {
     /// The index of the item's rendition.
     rendition: usize,
-    /// What will be kept of each rendition.
-    renditions: Vec<Rendition>,
-    /// The channel with the item, and the playlists that its releases need.
-    written: Written,
+    /// The channel with the item.
+    shown: Shown,
+    /// The playlists of its rendition that the releases need.
+    pages: Vec<Pages>,
     /// The holders of the first release.
     first: Option<Holders>,
     /// The holders of the second release.
     second: Option<Holders>,
-}
-
-/// Adds an item to what is kept of its rendition.
-fn accept_at(renditions: &mut Vec<Rendition>, item: Item) -> Result<(), AllocError>
-    requires { refusal_at (slice_get renditions.old.items (rendition_of item)) item ≡ None }
-    ensures goes_on { OnOk result (GoOn renditions.old.items renditions.new.items item) }
-    ensures many { length renditions.new.items ≡ length renditions.old.items }
-    ensures unchanged { OnErr result (renditions.new.items ≡ renditions.old.items) }
-{
-    match renditions.get_mut(item.rendition()) {
-        Some(kept) => accept(kept, item),
-        None => Ok(()),
-    }
 }

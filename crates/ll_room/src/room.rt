@@ -7,12 +7,11 @@ ghost use Rattle.ll_verdict.specs.State.{state_of};
 ghost use Rattle.ll_room.specs.Answers.{is_open};
 ghost use Rattle.ll_verdict.specs.Full.{is_full};
 ghost use Rattle.ll_room.specs.Home.{home};
-ghost use Rattle.ll_room.specs.Stored.{AreFew};
 
 use crate::written::Written;
 use ll_book::Book;
 use ll_item::Settings;
-use ll_page::{Pieces, Rendition};
+use ll_page::{Rendition, Shown};
 use ll_range::Ranges;
 use ll_verdict::Entry;
 use ll_window::Window;
@@ -29,13 +28,9 @@ pub(crate) const EVENT_END: u64 = 1 << 60;
 pub struct Room {
     pub(crate) alloc: Global,
     pub(crate) channel: u64,
-    pub(crate) settings: Arc<Settings>,
-    pub(crate) renditions: Vec<Rendition>,
-    /// The channel as it is now, and its playlists that were written, since one was asked for.
-    pub(crate) written: Option<Written>,
-    /// What is rendered of the segments of each rendition, for its next playlist.
-    pub(crate) pieces: Vec<Pieces>,
-    pub(crate) count: u64,
+    /// The channel as it is now. Its pages share it.
+    pub(crate) shown: Shown,
+    pub(crate) written: Written,
     pub(crate) time: u64,
     pub(crate) asks: u64,
     pub(crate) book: Book,
@@ -43,7 +38,6 @@ pub struct Room {
 }
 
 impl Model for Room {
-    ghost use Rattle.std.specs.Arc.{arc_value};
     ghost use Rattle.ll_room.specs.Home.{Home};
     ghost use Rattle.ll_room.specs.Kept.{IsKept};
 
@@ -51,9 +45,9 @@ impl Model for Room {
 
     ghost view = { λ r. record {
       channel = r.channel;
-      settings = arc_value r.settings;
-      renditions = r.renditions.items;
-      count = r.count;
+      settings = r.shown.settings;
+      renditions = r.shown.renditions;
+      count = r.shown.count;
       time = r.time;
       asks = r.asks;
       slots = r.book;
@@ -62,14 +56,14 @@ impl Model for Room {
 
     ghost invariant = { λ r. IsKept (record {
       channel = r.channel;
-      settings = arc_value r.settings;
-      renditions = r.renditions.items;
-      count = r.count;
+      settings = r.shown.settings;
+      renditions = r.shown.renditions;
+      count = r.shown.count;
       time = r.time;
       asks = r.asks;
       slots = r.book;
       events = r.events;
-    }) r.written r.pieces.items };
+    }) r.written };
 }
 
 impl Room {
@@ -81,15 +75,12 @@ impl Room {
         prove!(settings.target() >= 1);
         let settings = Arc::new(alloc, settings)?;
         let renditions = no_items(alloc, &settings)?;
-        let pieces = no_pieces(alloc, &renditions)?;
+        let written = Written::new(alloc, &renditions)?;
         Ok(Room {
             alloc,
             channel,
-            settings,
-            renditions,
-            written: None,
-            pieces,
-            count: 0,
+            shown: Shown::new(alloc, &settings, renditions, 0)?,
+            written,
             time: 0,
             asks: 0,
             book: Book::new(alloc),
@@ -108,14 +99,14 @@ impl Room {
     pub fn settings(&self) -> &Settings
         ensures { result.now ≡ self.now.settings }
     {
-        &self.settings
+        self.shown.settings()
     }
 
     /// How many items the channel has accepted.
     pub fn count(&self) -> u64
         ensures { result ≡ self.now.count }
     {
-        self.count
+        self.shown.count()
     }
 
     /// How many requests there were.
@@ -184,17 +175,6 @@ impl Room {
     {
         self.book.find(ticket).is_some()
     }
-}
-
-/// What is rendered of each of these renditions: nothing yet.
-fn no_pieces(alloc: Global, renditions: &[Rendition]) -> Result<Vec<Pieces>, AllocError>
-    ensures { IfOk result (λ pieces. AreFew pieces.items renditions.now) }
-{
-    let mut pieces = Vec::with_capacity(alloc, renditions.len())?;
-    for _ in 0..renditions.len() {
-        pieces.push(Pieces::new(alloc))?;
-    }
-    Ok(pieces)
 }
 
 /// What is kept of the renditions of a channel with no items, in the order of the settings.

@@ -1,112 +1,109 @@
-//! A channel at one moment, and the playlists that were written of it.
-ghost use Rattle.std.specs.Prelude.{◌≡◌, ◌<◌, IfOk, OnOk, length, position};
+//! The playlists of a channel that were written, and what is rendered for its next ones.
+ghost use Rattle.std.specs.Prelude.{◌≡◌, ◌<◌, [], IfOk, length, position};
 ghost use Rattle.ll_page.specs.Page.{seen_of};
 ghost use Rattle.ll_room.specs.Stored.{AreFew};
-ghost use Rattle.ll_room.specs.Written.{is_of};
+ghost use Rattle.ll_room.specs.Written.{AreWritten, is_of};
 
 use ll_book::Pages;
 use ll_page::{Form, Page, Pieces, Rendition, Shown};
 use std::alloc::{AllocError, Global};
 use std::marker::Model;
-use std::mem;
 
-/// A channel at one moment, with the playlists that were written of it. Each form of a rendition's playlist is written once, when it is first
-/// asked for; after that its page is shared.
+/// What was written of a channel since its last item, and what was rendered before it. Each form of a rendition's playlist is written once, when
+/// it is first asked for; after that its page is shared.
 #[derive(Drop)]
 pub(crate) struct Written {
-    shown: Shown,
-    /// Those of each rendition of which a playlist was asked for.
+    /// The pages of each rendition of which a playlist was asked for.
     pages: Vec<Pages>,
+    /// What was rendered of the segments of each rendition, for its next playlist.
+    pieces: Vec<Pieces>,
 }
 
 impl Model for Written {
-    ghost use Rattle.ll_page.specs.Page.{Moment};
-    ghost use Rattle.ll_room.specs.Written.{AreWritten};
+    ghost use Rattle.ll_room.specs.Written.{WrittenOf};
 
-    ghost Value = { Moment };
+    ghost Value = { WrittenOf };
 
-    ghost view = { λ w. w.shown };
-
-    ghost invariant = { λ w. AreWritten w.shown w.pages.items };
+    ghost view = { λ w. record { pages = w.pages.items; pieces = w.pieces.items } };
 }
 
 impl Written {
-    /// The channel at this moment. No playlist of it is written yet.
-    pub(crate) fn new(alloc: Global, shown: Shown) -> Written
-        ensures { result ≡ shown }
+    /// Nothing is written of a channel with these renditions.
+    pub(crate) fn new(alloc: Global, renditions: &[Rendition]) -> Result<Written, AllocError>
+        ensures pages { IfOk result (λ w. w.pages ≡ []) }
+        ensures pieces { IfOk result (λ w. AreFew w.pieces renditions.now) }
     {
-        Written {
-            shown,
+        Ok(Written {
             pages: Vec::new(alloc),
-        }
+            pieces: no_pieces(alloc, renditions)?,
+        })
     }
 
-    /// The channel at this moment, with what is written of one rendition. It fails only where no memory is found.
-    pub(crate) fn of(alloc: Global, shown: Shown, pages: Pages) -> Result<Written, AllocError>
-        requires { pages.moment ≡ shown }
-        ensures { IfOk result (λ w. w ≡ shown) }
-    {
-        let mut all = Vec::new(alloc);
-        all.push(pages)?;
-        Ok(Written { shown, pages: all })
-    }
-
-    /// The page of a rendition in this form. What was rendered of its segments before this moment, where something was, is shared. It fails
-    /// only where no memory is found.
+    /// The page of a rendition in this form, of the channel as it is shown. What was rendered of its segments, where something was, is shared.
+    /// It fails only where no memory is found.
     pub(crate) fn page(
         &mut self,
         alloc: Global,
+        shown: &Shown,
         rendition: usize,
         form: Form,
-        before: Option<&Pieces>,
     ) -> Result<Page, AllocError>
-        requires { rendition < length self.old.renditions }
-        ensures page { IfOk result (λ p. p ≡ record { seen = seen_of self.old rendition; form = form }) }
-        ensures unchanged { self.new ≡ self.old }
+        requires there { rendition < length shown.now.renditions }
+        requires current { AreWritten shown.now self.old.pages }
+        ensures page { IfOk result (λ p. p ≡ record { seen = seen_of shown.now rendition; form = form }) }
+        ensures current { AreWritten shown.now self.new.pages }
+        ensures pieces { self.new.pieces ≡ self.old.pieces }
     {
         if let Some(place) = place_of(&self.pages, rendition) {
             return self.pages[place].page(alloc, form);
         }
-        let mut pages = Pages::new(alloc, self.shown.again()?, rendition, before)?.unwrap();
+        let before = self.pieces.get(rendition);
+        let mut pages = Pages::new(alloc, shown.again()?, rendition, before)?.unwrap();
         let page = pages.page(alloc, form)?;
         self.pages.push(pages)?;
         Ok(page)
     }
 
-    /// What is rendered of the segments of a rendition, where a playlist of it was asked for.
-    pub(crate) fn pieces(&self, rendition: usize) -> Option<&Pieces> {
-        let place = place_of(&self.pages, rendition)?;
-        Some(self.pages[place].pieces())
+    /// What is rendered of the segments of a rendition, where something is.
+    pub(crate) fn rendered(&self, rendition: usize) -> Option<&Pieces> {
+        match place_of(&self.pages, rendition) {
+            Some(place) => Some(self.pages[place].pieces()),
+            None => self.pieces.get(rendition),
+        }
     }
 
-    /// Leaves what is rendered of the segments of each rendition, for the pages of a later moment.
-    fn leave(self, pieces: &mut Vec<Pieces>)
-        ensures { length pieces.new.items ≡ length pieces.old.items }
+    /// Puts the pages of a later moment in the place of those that are there. Of these is left what is rendered of segments that these renditions
+    /// still show.
+    pub(crate) fn renew(&mut self, pages: Vec<Pages>, renditions: &[Rendition])
+        requires { length self.old.pieces ≡ length renditions.now }
+        ensures pages { self.new.pages ≡ pages.items }
+        ensures pieces { AreFew self.new.pieces renditions.now }
     {
-        for pages in self.pages {
-            if let Some(place) = pieces.get_mut(pages.rendition()) {
-                *place = pages.into_pieces();
-            }
-        }
+        self.drop_pages(renditions);
+        self.pages = pages;
+    }
+
+    /// Drops all pages. Of these is left what is rendered of segments that these renditions still show.
+    pub(crate) fn drop_pages(&mut self, renditions: &[Rendition])
+        requires { length self.old.pieces ≡ length renditions.now }
+        ensures pages { self.new.pages ≡ [] }
+        ensures pieces { AreFew self.new.pieces renditions.now }
+    {
+        leave(&mut self.pages, &mut self.pieces);
+        trim(&mut self.pieces, renditions);
     }
 }
 
-/// Puts what is written at a later moment in the place of what is there. Of that is left what is rendered of segments that these renditions
-/// still show.
-pub(crate) fn replace(
-    place: &mut Option<Written>,
-    new: Option<Written>,
-    pieces: &mut Vec<Pieces>,
-    renditions: &[Rendition],
-)
-    requires { length pieces.old.items ≡ length renditions.now }
-    ensures written { place.new ≡ new }
-    ensures pieces { AreFew pieces.new.items renditions.now }
+/// Leaves what is rendered of the segments of each rendition, for the pages of a later moment.
+fn leave(pages: &mut Vec<Pages>, pieces: &mut Vec<Pieces>)
+    ensures pages { pages.new.items ≡ [] }
+    ensures pieces { length pieces.new.items ≡ length pieces.old.items }
 {
-    if let Some(old) = mem::replace(place, new) {
-        old.leave(pieces);
+    while let Some(last) = pages.pop() {
+        if let Some(place) = pieces.get_mut(last.rendition()) {
+            *place = last.into_pieces();
+        }
     }
-    trim(pieces, renditions);
 }
 
 /// Drops what is rendered of segments that these renditions show no more.
@@ -124,4 +121,15 @@ fn place_of(pages: &[Pages], rendition: usize) -> Option<usize>
     ensures { result ≡ position (is_of rendition) pages.now }
 {
     pages.iter().position(|one| one.rendition() == rendition)
+}
+
+/// What is rendered of each of these renditions: nothing yet.
+fn no_pieces(alloc: Global, renditions: &[Rendition]) -> Result<Vec<Pieces>, AllocError>
+    ensures { IfOk result (λ pieces. AreFew pieces.items renditions.now) }
+{
+    let mut pieces = Vec::with_capacity(alloc, renditions.len())?;
+    for _ in 0..renditions.len() {
+        pieces.push(Pieces::new(alloc))?;
+    }
+    Ok(pieces)
 }

@@ -16,10 +16,11 @@ use Rattle.ll_range.specs.Announced as range
 use Rattle.ll_range.specs.Announced.{announced, is_listed, was_removed}
 use Rattle.ll_range.specs.Attributes.{is_id}
 use Rattle.ll_range.specs.declared.ranges.RangeFault.TheVariants.{BadAttribute, IdTaken}
-use Rattle.ll_verdict.specs.Accepted.{first_refusal, of_push, of_range, refusal, rendition_refusal}
+use Rattle.ll_verdict.specs.Accepted.{refusal}
+use Rattle.ll_rendition.specs.Refusal.{first_refusal, of_push, of_range, rendition_refusal}
 use Rattle.ll_verdict.specs.Events.{Event, Publish, Ask, Collect, Close, Clock, items, taken}
-use Rattle.ll_verdict.specs.declared.fault.PublishFault.{PublishFault}
-use Rattle.ll_verdict.specs.declared.fault.PublishFault.TheVariants as fault
+use Rattle.ll_rendition.specs.declared.fault.PublishFault.{PublishFault}
+use Rattle.ll_rendition.specs.declared.fault.PublishFault.TheVariants as fault
 use Rattle.ll_verdict.proofs.ListLemmas.{Each}
 use Rattle.ll_window.specs.Refusal as window
 use Rattle.ll_item.specs.Told.{end_time}

@@ -19,7 +19,7 @@ use Rattle.ll_verdict.specs.Events as event
 use Rattle.ll_verdict.specs.Verdict.{reply_of}
 use Rattle.ll_verdict.specs.State.{state_of}
 use Rattle.ll_verdict.specs.declared.entry.Slot.{Slot}
-use Rattle.ll_verdict.specs.declared.fault.PublishFault.{PublishFault}
+use Rattle.ll_rendition.specs.declared.fault.PublishFault.{PublishFault}
 use Rattle.ll_verdict.specs.declared.reply.Reply.{Reply}
 use Rattle.ll_verdict.proofs.ListLemmas.{Each, each-append}
 use Rattle.ll_world.specs.Kept.{is_in, ticket_of, tickets_at}

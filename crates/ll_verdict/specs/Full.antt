@@ -2,10 +2,11 @@
 use Rattle.std.specs.Prelude.{ℕ, ◌^◌, List, Bool, Option, Some, None, length, nat_le, if◌then◌else◌}
 use Rattle.ll_item.specs.Settings.{Configuration}
 use Rattle.ll_item.specs.declared.item.Item.{Item}
-use Rattle.ll_verdict.specs.Accepted.{first_refusal, refusal}
+use Rattle.ll_verdict.specs.Accepted.{refusal}
+use Rattle.ll_rendition.specs.Refusal.{first_refusal}
 use Rattle.ll_verdict.specs.Events.{Event, items}
-use Rattle.ll_verdict.specs.declared.fault.PublishFault.{PublishFault}
-use Rattle.ll_verdict.specs.declared.fault.PublishFault.TheVariants.{RecordFull}
+use Rattle.ll_rendition.specs.declared.fault.PublishFault.{PublishFault}
+use Rattle.ll_rendition.specs.declared.fault.PublishFault.TheVariants.{RecordFull}
 
 -- a channel takes so many events; after that requests are still collected and closed, and nothing else happens
 abbrev pub event_end : ℕ

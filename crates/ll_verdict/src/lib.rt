@@ -2,14 +2,15 @@
 //! the same one event at a time. Sections are those of draft-pantos-hls-rfc8216bis.
 #![tactic(auto)]
 
+mod awaited;
 mod entry;
-mod fault;
 mod laws;
 mod reply;
 mod wanted;
 
+pub use awaited::{is_far, is_there};
 pub use entry::{Entry, Slot};
-pub use fault::PublishFault;
 pub use laws::{first_state_law, newer_text_law, one_verdict_law, open_tickets_law, state_law};
+pub use ll_rendition::PublishFault;
 pub use reply::{Outcome, Reply, Settled};
 pub use wanted::Wanted;

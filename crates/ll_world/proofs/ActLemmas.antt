@@ -11,7 +11,7 @@ use Rattle.ll_item.specs.declared.item.Item.{Item}
 use Rattle.ll_verdict.specs.Events.{Event, Publish, Ask, Collect, Close, Clock}
 use Rattle.ll_verdict.specs.State.{slot_of, state_of}
 use Rattle.ll_verdict.specs.Verdict.{Request, at_once, held, reply_of}
-use Rattle.ll_verdict.specs.declared.fault.PublishFault.{PublishFault}
+use Rattle.ll_rendition.specs.declared.fault.PublishFault.{PublishFault}
 use Rattle.ll_verdict.specs.declared.reply.Reply.{Reply}
 use Rattle.ll_verdict.specs.declared.reply.Settled.{Settled}
 use Rattle.ll_room.specs.Answers as room

@@ -9,7 +9,7 @@ use Rattle.ll_verdict.specs.Full.{is_full, refusal_after}
 use Rattle.ll_room.specs.declared.fault.ClockFault.{ClockFault}
 use Rattle.ll_verdict.specs.Events.{Event, Publish, Ask, Collect, Close, Clock}
 use Rattle.ll_verdict.specs.Verdict.{Request, at_once, held, reply}
-use Rattle.ll_verdict.specs.declared.fault.PublishFault.{PublishFault}
+use Rattle.ll_rendition.specs.declared.fault.PublishFault.{PublishFault}
 use Rattle.ll_verdict.specs.declared.reply.Reply.{Reply}
 use Rattle.ll_verdict.specs.declared.reply.Settled.{Settled}
 use Rattle.ll_world.specs.World.{Channel, World, ask, ask_at, asked, asked_if, clock, clock_at, clock_refusal, clocked, close, close_at, close_of, first_due, happens, offer, offer_at, offered, tick, tick_at, tick_of, told, told_to, with_event}

@@ -12,7 +12,7 @@ use Rattle.ll_verdict.specs.Events.{Event, Publish, Ask, Collect, Close, Clock, 
 use Rattle.ll_verdict.specs.State.{State, gone, new_slots, next, settle, slot_by, state_of, stays}
 use Rattle.ll_verdict.specs.Verdict.{Request, at_once, held, reply, reply_by, waiting, wanted_of}
 use Rattle.ll_verdict.specs.declared.entry.Slot.{Slot}
-use Rattle.ll_verdict.specs.declared.fault.PublishFault.{PublishFault}
+use Rattle.ll_rendition.specs.declared.fault.PublishFault.{PublishFault}
 use Rattle.ll_verdict.specs.declared.reply.Reply.{Reply}
 use Rattle.ll_verdict.specs.declared.reply.Settled.{Settled}
 use Rattle.ll_verdict.specs.declared.wanted.Wanted.{Wanted}

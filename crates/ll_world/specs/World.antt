@@ -6,7 +6,7 @@ use Rattle.ll_item.specs.declared.item.Item.{Item}
 use Rattle.ll_verdict.specs.Events.{Event, Publish, Ask, Collect, Close, Clock, asks, items}
 use Rattle.ll_verdict.specs.State.{gone}
 use Rattle.ll_verdict.specs.Verdict.{Request, at_once, held, reply, reply_of}
-use Rattle.ll_verdict.specs.declared.fault.PublishFault.{PublishFault}
+use Rattle.ll_rendition.specs.declared.fault.PublishFault.{PublishFault}
 use Rattle.ll_verdict.specs.declared.reply.Reply.{Reply}
 use Rattle.ll_verdict.specs.declared.reply.Settled.{Settled}
 use Rattle.ll_verdict.specs.Full.{is_full, refusal_after}

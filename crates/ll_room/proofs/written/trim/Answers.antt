@@ -2,7 +2,7 @@
 use Rattle.std.proofs.Common.{ap, length, length-set, refl, subst, sym, ◌≤◌, ◌∙◌}
 use Rattle.std.proofs.lemmas.Option.{slice_get_read}
 use Rattle.ll_page.specs.Pieces.{PiecesOf}
-use Rattle.ll_page.specs.declared.rendition.Rendition.{Rendition}
+use Rattle.ll_rendition.specs.declared.rendition.Rendition.{Rendition}
 use Rattle.ll_room.proofs.StoredLemmas.{few-at, few-left}
 use Rattle.ll_room.proofs.written.trim.Goals as goal
 

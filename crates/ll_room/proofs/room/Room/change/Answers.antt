@@ -1,46 +1,50 @@
 -- The holders are those of just the requests that each release takes, and each of these gets its page.
 use Rattle.std.proofs.Common.{ap, length, subst, sym, ◌∙◌}
+use Rattle.ll_room.specs.Home.{Home}
 use Rattle.ll_room.specs.Kept.{IsKept}
 use Rattle.ll_room.specs.contracts.room.Room.{the_view}
 use Rattle.ll_room.specs.Stored.{AreFew}
-use Rattle.ll_room.proofs.PublishLemmas.{item_on, changed-is, coming-of, has-those, has-those-after, kept-change}
-use Rattle.ll_room.specs.Coming.{pages}
+use Rattle.ll_room.proofs.PublishLemmas.{changed-is, coming-of, has-those, has-those-after, kept-change, shown-item}
+use Rattle.ll_room.specs.Coming.{pages_in}
 use Rattle.ll_room.proofs.KeptLemmas.{few-events}
 use Rattle.ll_room.proofs.StoredLemmas.{few-length}
 use Rattle.ll_room.proofs.room.Room.change.Goals as goal
 
-pub release-requires : goal.release-requires
-release-requires c =
+pub release_with-requires : goal.release_with-requires
+release_with-requires c =
     let h = the_view c.self.inside in
     let is = coming-of h c.args.self.now c.args.first c.args.second c.args.coming c.self.view_is c.requires.coming in
-    record { those = has-those (pages c.args.coming) c.args.first h.slots c.args.coming.first is.has_first }
+    record { those = has-those (pages_in c.args.coming) c.args.first h.slots c.args.coming.first is.has_first }
 
-pub release-requires-2 : goal.release-requires-2
-release-requires-2 c =
+pub release_with-requires-2 : goal.release_with-requires-2
+release_with-requires-2 c =
     let h = the_view c.self.inside in
     let is = coming-of h c.args.self.now c.args.first c.args.second c.args.coming c.self.view_is c.requires.coming in
     record {
       those =
-          has-those-after (pages c.args.coming) (c.args.first, c.args.second) h.slots c.release.new.book c.args.coming.first c.args.coming.second c.requires.apart
-          is.has_first is.has_second c.release.ensures;
+          has-those-after (pages_in c.args.coming) (c.args.first, c.args.second) h.slots c.release_with.new.book c.args.coming.first c.args.coming.second c.requires.apart
+          is.has_first is.has_second c.release_with.ensures;
     }
 
-pub replace-requires : goal.replace-requires
-replace-requires c =
+pub renew-requires : goal.renew-requires
+renew-requires c =
     few-length _ _ c.self.invariant.stored
     ∙ sym (coming-of (the_view c.self.inside) c.args.self.now c.args.first c.args.second c.args.coming c.self.view_is c.requires.coming).many
-    ∙ ap length (sym c.deref.ensures.value)
+    ∙ ap length (sym c.renditions.ensures)
 
 pub invariant_of-self : goal.invariant_of-self
 invariant_of-self c =
     let h = the_view c.self.inside in
-    subst (λ w. IsKept (item_on c.args.coming.renditions.items c.release-2.new.book h) w c.replace.new.pieces.items) (sym c.replace.ensures.written)
-    (kept-change h c.self.inside.written c.self.inside.pieces.items c.replace.new.pieces.items c.args.first c.args.second c.args.coming c.release.new.book c.release-2.new.book
-    (few-events h c.args.self.now c.self.view_is c.requires.few) c.self.invariant (subst (AreFew _) c.deref.ensures.value c.replace.ensures.pieces) c.requires.apart
-    (coming-of h c.args.self.now c.args.first c.args.second c.args.coming c.self.view_is c.requires.coming) c.release.ensures c.release-2.ensures)
+    let is = coming-of h c.args.self.now c.args.first c.args.second c.args.coming c.self.view_is c.requires.coming in
+    subst (λ (x : Home). IsKept x c.renew.new.self) (sym (shown-item c.args.coming.shown c.release_with-2.new.book h is.shown))
+    (kept-change h c.self.inside.written c.renew.new.self c.args.first c.args.second c.args.coming c.release_with.new.book c.release_with-2.new.book
+    (few-events h c.args.self.now c.self.view_is c.requires.few) c.self.invariant c.renew.ensures.pages (subst (AreFew _) c.renditions.ensures c.renew.ensures.pieces) c.requires.apart
+    is c.release_with.ensures c.release_with-2.ensures)
 
 pub returns : goal.returns
 returns c =
     let h = the_view c.self.inside in
-    changed-is h c.args.self.now c.args.first c.args.second c.args.coming c.release.new.book c.release-2.new.book c.self.view_is c.requires.apart
-    (coming-of h c.args.self.now c.args.first c.args.second c.args.coming c.self.view_is c.requires.coming) c.release.ensures c.release-2.ensures
+    let is = coming-of h c.args.self.now c.args.first c.args.second c.args.coming c.self.view_is c.requires.coming in
+    shown-item c.args.coming.shown c.release_with-2.new.book h is.shown
+    ∙ changed-is h c.args.self.now c.args.first c.args.second c.args.coming c.release_with.new.book c.release_with-2.new.book c.self.view_is c.requires.apart
+    is c.release_with.ensures c.release_with-2.ensures

@@ -1,9 +1,21 @@
 -- What its window tells of all its items.
+use Rattle.std.proofs.Common.{◌≡◌, List, ap, subst, sym, ◌∙◌, ◌||◌}
+use Rattle.std.specs.Prelude.{slice_index_or}
+use Rattle.ll_item.specs.declared.item.Item.{Item}
+use Rattle.ll_rendition.specs.declared.rendition.Rendition.{Rendition}
+use Rattle.ll_verdict.specs.Verdict as verdict
+use Rattle.ll_window.specs.Compact.{compact}
+use Rattle.ll_window.specs.Segments.{ended}
 use Rattle.ll_room.specs.contracts.room.Room.{the_view}
 use Rattle.ll_room.proofs.AskLemmas.{got-at, told-there}
 use Rattle.ll_room.proofs.room.Room.is_there.Goals as goal
 
 pub returns : goal.returns
 returns c es stands =
-    told-there c.args.self.now es c.args.wanted.now c.index.result.now c.is_there.result stands
-    (got-at c.args.self.now (the_view c.self.inside) c.args.wanted.now.rendition c.index.result.now c.self.view_is c.requires c.index.ensures) c.is_there.ensures
+    let a = c.args.wanted.now in
+    let kept = c.index-renditions-wanted.result in
+    told-there c.args.self.now es a kept c.is_there.result stands
+    (got-at c.args.self.now (the_view c.self.inside) a.rendition kept c.self.view_is c.requires
+    (c.index-renditions-wanted.is ∙ ap (λ ks. slice_index_or ks a.rendition kept) c.renditions.ensures))
+    (subst (λ (k : Rendition). (its : List Item) → k.window ≡ compact k.window.settings its → c.is_there.result ≡ (verdict.holds k.window.settings its a.awaited || ended its)) (sym c.index-renditions-wanted.is)
+    c.is_there.ensures)

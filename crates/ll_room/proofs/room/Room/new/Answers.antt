@@ -6,5 +6,6 @@ use Rattle.ll_room.proofs.room.Room.new.Goals as goal
 
 pub invariant_of-result : goal.invariant_of-result
 invariant_of-result c =
-    kept-new c.args.channel _ c.in_ok-renditions.renditions.items c.in_ok-pieces.pieces.items c.new-2.result
-    (subst (λ n. 1 ≤ n) (c.target.ensures.value ∙ ap (λ s. s.target) (sym c.in_ok-settings.ensures.ok)) c.target.ensures.low) c.in_ok-renditions.ensures (subst (AreFew _) c.deref.ensures.value c.in_ok-pieces.ensures) c.new-2.ensures
+    kept-new c.args.channel _ _ c.in_ok-renditions.renditions.items c.in_ok-written.written c.new-4.result c.in_ok-new.ensures
+    (subst (λ n. 1 ≤ n) (c.target.ensures.value ∙ ap (λ s. s.target) (sym c.in_ok-settings.ensures.ok)) c.target.ensures.low) c.in_ok-renditions.ensures
+    c.in_ok-written.ensures.pages (subst (AreFew _) c.deref.ensures.value c.in_ok-written.ensures.pieces) c.new-4.ensures

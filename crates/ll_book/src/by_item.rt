@@ -1,8 +1,11 @@
 //! Which requests an item releases, and their release.
 ghost use Rattle.std.specs.Prelude.{◌≡◌, IfOk};
-ghost use Rattle.ll_rendition.specs.Releases as spec;
+ghost use Rattle.ll_book.specs.Releases as spec;
 
-use ll_book::{Book, Holders, Pages, Release};
+use crate::book::Book;
+use crate::holders::Holders;
+use crate::pages::Pages;
+use crate::release::Release;
 use ll_item::Item;
 use ll_window::Window;
 use std::alloc::{AllocError, Global};
@@ -37,7 +40,7 @@ pub fn second_release(window: &Window, item: &Item) -> Option<Release>
 }
 
 /// The holders of a release, where there is one. It fails only where no memory is found.
-pub fn holders(
+pub fn holders_for(
     book: &Book,
     alloc: Global,
     which: Option<Release>,
@@ -53,7 +56,7 @@ pub fn holders(
 }
 
 /// Releases the requests that a release takes, where there is one; the holders were made for just these.
-pub fn release(book: &mut Book, which: Option<Release>, holders: Option<Holders>)
+pub fn release_with(book: &mut Book, which: Option<Release>, holders: Option<Holders>)
     requires those { spec.HasThose which holders book.old }
     ensures { book.new ≡ spec.released_with which holders book.old }
 {

@@ -1,7 +1,7 @@
 -- One more place, with nothing in it.
 use Rattle.std.proofs.Common.{refl}
 use Rattle.ll_room.proofs.StoredLemmas.{none-at}
-use Rattle.ll_room.proofs.room.no_pieces.Goals as goal
+use Rattle.ll_room.proofs.written.no_pieces.Goals as goal
 
 pub loop-preserved : goal.loop-preserved
 loop-preserved c =

@@ -1,0 +1,140 @@
+//! What is kept of one rendition, and its next item, in two steps: a test, and a step that memory alone can refuse.
+ghost use Rattle.std.specs.Prelude.{◌≡◌, ◌++◌, ◌∷◌, [], IfOk, List, true, false, MatchResult, OnOk, OnErr, None, Some};
+ghost use Rattle.ll_item.specs.Items.{is_about_ranges};
+ghost use Rattle.ll_item.specs.Settings.{Configuration};
+ghost use Rattle.ll_item.specs.declared.item.Item.{Item};
+ghost use Rattle.ll_range.specs.Announced as range;
+ghost use Rattle.ll_rendition.specs.Kept.{kept};
+ghost use Rattle.ll_rendition.specs.Refusal.{of_push, of_range, refusal_of};
+
+use crate::fault::PublishFault;
+use ll_item::Item;
+use ll_range::{RangeFault, Ranges};
+use ll_window::{PushFault, Window};
+use std::alloc::{AllocError, Global};
+
+/// What is kept of one rendition.
+#[derive(Debug, Drop)]
+pub struct Rendition {
+    /// Its segments and parts.
+    pub window: Window,
+    /// Its date ranges.
+    pub ranges: Ranges,
+}
+
+impl Rendition {
+    /// What is equal to this, or an error where no memory is found.
+    pub fn copy(&self) -> Result<Rendition, AllocError>
+        ensures { IfOk result (λ r. r ≡ self.now) }
+    {
+        Ok(Rendition {
+            window: self.window.copy()?,
+            ranges: self.ranges.copy()?,
+        })
+    }
+
+    /// What is equal to each of these, in their order, or an error where no memory is found.
+    pub fn copy_all(alloc: Global, renditions: &[Rendition]) -> Result<Vec<Rendition>, AllocError>
+        ensures { IfOk result (λ copies. copies.items ≡ renditions.now) }
+    {
+        let mut copies = Vec::with_capacity(alloc, renditions.len())?;
+        for rendition in renditions {
+            copies.push(rendition.copy()?)?;
+        }
+        Ok(copies)
+    }
+
+    /// Whether one more item may follow, or the first rule that refuses it. It takes no memory.
+    pub fn test(&self, item: &Item) -> Result<(), PublishFault>
+        ensures { MatchResult result (λ u. refusal_of self.now item.now ≡ None) (λ f. refusal_of self.now item.now ≡ Some f) }
+    {
+        if let Err(fault) = self.window.test(item) {
+            return Err(push_fault(fault));
+        }
+        match test_ranges(self.window.end_time(), &self.ranges, item) {
+            Ok(()) => Ok(()),
+            Err(fault) => Err(range_fault(fault)),
+        }
+    }
+
+    /// Takes one more item in, where nothing refuses it, as [`Rendition::test`] tells: what was kept of the items before it is then what is
+    /// kept of these and this one. It fails only where no memory is found, and then changes nothing.
+    pub fn accept(&mut self, item: Item) -> Result<(), AllocError>
+        requires { refusal_of self.old item ≡ None }
+        ensures accepted { (c : Configuration) (before : List Item) → self.old ≡ kept c before → OnOk result (self.new ≡ kept c (before ++ item ∷ [])) }
+        ensures unchanged { OnErr result (self.new ≡ self.old) }
+    {
+        if item.is_about_ranges() {
+            self.accept_range(&item)
+        } else {
+            self.accept_in_window(item)
+        }
+    }
+
+    /// Adds a date range or takes one away. Any other item changes nothing here.
+    fn accept_range(&mut self, item: &Item) -> Result<(), AllocError>
+        requires { refusal_of self.old item.now ≡ None }
+        ensures accepted { (c : Configuration) (before : List Item) → self.old ≡ kept c before → is_about_ranges item.now ≡ true
+            → OnOk result (self.new ≡ kept c (before ++ item.now ∷ [])) }
+        ensures unchanged { OnErr result (self.new ≡ self.old) }
+    {
+        let end = self.window.end_time();
+        match item {
+            Item::Range { id, attributes, .. } => self.ranges.list(end, id.as_str(), attributes),
+            Item::Unrange { id, .. } => self.ranges.unlist(end, id.as_str()),
+            Item::Part { .. } | Item::Break { .. } | Item::End { .. } => Ok(()),
+        }
+    }
+
+    /// Adds an item that is no date range.
+    fn accept_in_window(&mut self, item: Item) -> Result<(), AllocError>
+        requires { refusal_of self.old item ≡ None }
+        ensures accepted { (c : Configuration) (before : List Item) → self.old ≡ kept c before → is_about_ranges item ≡ false
+            → OnOk result (self.new ≡ kept c (before ++ item ∷ [])) }
+        ensures unchanged { OnErr result (self.new ≡ self.old) }
+    {
+        self.window.accept(item)?;
+        self.ranges.expire(self.window.end_time());
+        Ok(())
+    }
+}
+
+/// Whether the date ranges of a rendition accept an item, where all its parts last so long until now (microseconds).
+fn test_ranges(end: u64, ranges: &Ranges, item: &Item) -> Result<(), RangeFault>
+    ensures { MatchResult result (λ u. range.refusal_after end ranges.now item.now ≡ None) (λ f. range.refusal_after end ranges.now item.now ≡ Some f) }
+{
+    match item {
+        Item::Range { id, attributes, .. } => ranges.test_add(end, id.as_str(), attributes),
+        Item::Unrange { id, .. } => ranges.test_remove(id.as_str()),
+        Item::Part { .. } | Item::Break { .. } | Item::End { .. } => Ok(()),
+    }
+}
+
+// A test answers no Memory. The fault of either crate has it for the calls that take an item in at once, and so it has its name here.
+
+/// What a window refuses, by its name in a channel.
+fn push_fault(fault: PushFault) -> PublishFault
+    ensures { result ≡ of_push fault }
+{
+    match fault {
+        PushFault::Ended => PublishFault::Ended,
+        PushFault::BadDuration => PublishFault::BadDuration,
+        PushFault::TooLong => PublishFault::TooLong,
+        PushFault::OpenSegment => PublishFault::OpenSegment,
+        PushFault::CountEnd => PublishFault::CountEnd,
+        PushFault::TimeEnd => PublishFault::TimeEnd,
+        PushFault::Memory => PublishFault::Memory,
+    }
+}
+
+/// What date ranges refuse, by its name in a channel.
+fn range_fault(fault: RangeFault) -> PublishFault
+    ensures { result ≡ of_range fault }
+{
+    match fault {
+        RangeFault::IdTaken => PublishFault::IdTaken,
+        RangeFault::BadAttribute => PublishFault::BadAttribute,
+        RangeFault::IdUnknown => PublishFault::IdUnknown,
+        RangeFault::Memory => PublishFault::Memory,
+    }
+}
