@@ -44,4 +44,4 @@ bench: kit
 
 .PHONY: kit
 kit:
-	@command -v rt >/dev/null || { echo 'rt, the command of the Rattle kit, is not on the path: README.md, "Build and test"' >&2; exit 1; }
+	@command -v rt >/dev/null || { echo 'rt, the command of the Rattle kit, is not on the path: README.md, "Try it"' >&2; exit 1; }

@@ -1,5 +1,5 @@
 #!/usr/bin/env bash
-# Puts all rows into a folder: those of tests/rows, those of tests/connections with their bytes in one piece, the examples of README.md and of `make run`,
+# Puts all rows into a folder: those of tests/rows, those of tests/connections with their bytes in one piece, the examples of `docs/FORMATS.md` and of `make run`,
 # and those of long lines, which are made here.
 # A row is its script NAME, its output NAME.stdout, and NAME.args where it has words beside `replay`.
 # tests/endings says how a row ends that doesn't end with status 0.

@@ -187,7 +187,14 @@ impl<
             hub,
         ) {
             Ok(passes) => (passes, None),
-            Err((passes, fault)) => (passes, Some(fault)),
+            Err((passes, fault)) => {
+                let whose = match role {
+                    Role::Player => "players",
+                    Role::Publisher => "publishers",
+                };
+                let _ = eprintln!(self.rt; "llhls: {whose} are not served: {fault}");
+                (passes, Some(fault))
+            }
         }
     }
 
