@@ -9,15 +9,16 @@ copy_crates() {
     # crates.txt lists each crate after those that it stands on.
     awk -F '[: ]+' -v names="${*:2}" '
         BEGIN { many = split(names, list, " "); for (at = 1; at <= many; at++) wanted[list[at]] = 1 }
-        /^#/ { next }
-        { crate[NR] = $1; line[NR] = $0 }
+        { sub(/ *#.*/, "") }
+        $1 == "" { next }
+        { crate[++count] = $1; line[count] = $0 }
         END {
-            for (n = NR; n; n--)
+            for (n = count; n; n--)
                 if (crate[n] in wanted) {
                     many = split(line[n], list)
                     for (at = 2; at <= many; at++) wanted[list[at]] = 1
                 }
-            for (n = 1; n <= NR; n++)
+            for (n = 1; n <= count; n++)
                 if (crate[n] in wanted) print line[n]
         }' crates.txt >"$to/crates.txt"
     for crate in $(cut -d: -f1 "$to/crates.txt"); do
