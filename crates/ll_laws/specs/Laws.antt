@@ -12,13 +12,13 @@ use Rattle.ll_page.specs.declared.skip_kind.SkipKind.{SkipKind}
 use Rattle.ll_read.specs.Readable.{IsReadable}
 use Rattle.ll_apply.specs.Applied.{applied}
 use Rattle.ll_apply.specs.Texts.{applied_text}
-use Rattle.ll_laws.specs.Published.{AreAccepted, ArePublished}
+use Rattle.ll_laws.specs.Published.{AreAccepted, AreAcceptedFor, ArePublished}
 
 -- A delta update, applied to an earlier full playlist, is the full playlist of its own moment, where the parts after the
 -- earlier one last no longer than the skip limit.
 abbrev pub CompanionLaw : Type 0
 CompanionLaw = (c : Configuration) (items more : List Item) (rendition : ℕ) (kind : SkipKind)
-    → rendition < length c.renditions → 6 * c.target ≤ c.skip → AreAccepted c [] (items ++ more)
+    → rendition < length c.renditions → 6 * c.target ≤ c.skip → AreAcceptedFor kind c (items ++ more)
     → end_time (own rendition (items ++ more)) ≤ end_time (own rendition items) + skip_limit c
     → applied (full_playlist (seen c items rendition)) (delta_playlist kind (seen c (items ++ more) rendition))
     ≡ Ok (full_playlist (seen c (items ++ more) rendition))

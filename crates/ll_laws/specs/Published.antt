@@ -11,11 +11,24 @@ use Rattle.ll_item.specs.declared.item.Item.TheVariants as item
 use Rattle.ll_window.specs.Refusal as window
 use Rattle.ll_window.specs.Segments.{own}
 use Rattle.ll_range.specs.Announced as range
+use Rattle.ll_page.specs.declared.skip_kind.SkipKind.{SkipKind}
+use Rattle.ll_page.specs.declared.skip_kind.SkipKind.TheVariants.{Yes, V2}
 
 -- each of these items may follow the items of its rendition before it
 abbrev pub AreAccepted : Configuration → List Item → List Item → Type 0
 AreAccepted c before [] = Unit
 AreAccepted c before (item ∷ items) = (window.refusal c (own (rendition_of item) before) item ≡ None) × AreAccepted c (before ++ item ∷ []) items
+
+-- each of these items may follow the items of its rendition before it where it is about date ranges
+abbrev pub AreAnnounced : Configuration → List Item → List Item → Type 0
+AreAnnounced c before [] = Unit
+AreAnnounced c before (item ∷ items) = (range.refusal c (own (rendition_of item) before) item ≡ None) × AreAnnounced c (before ++ item ∷ []) items
+
+-- Each of these items may follow those of its rendition before it; where a delta update of this kind skips date ranges, also where
+-- it is about date ranges.
+abbrev pub AreAcceptedFor : SkipKind → Configuration → List Item → Type 0
+AreAcceptedFor Yes c items = AreAccepted c [] items
+AreAcceptedFor V2 c items = AreAccepted c [] items × AreAnnounced c [] items
 
 -- the attributes of a date range, as they can be read: in UTF-8 and no two of one name
 pub record IsSpelled (list : List Attribute) : Type 0 where

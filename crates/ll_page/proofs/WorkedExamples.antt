@@ -11,4 +11,4 @@ use Rattle.ll_page.specs.Worked.{WorkedPlaylists}
 
 pub worked : WorkedPlaylists
 unfolding line_text segment_uri part_uri map_uri report_uri seconds digits configuration_of nth_date time_of digits_2 digits_3 digits_4
-worked = record { settings = refl; empty = refl; one_segment = refl; date_ranges = refl; delta_update = refl; open_segment = refl; has_ended = refl; afternoon = refl; ends_open = refl }
+worked = record { settings = refl; empty = refl; one_segment = refl; date_ranges = refl; delta_update = refl; lists_ranges = refl; skips_ranges = refl; removes_none = refl; open_segment = refl; has_ended = refl; afternoon = refl; ends_open = refl }

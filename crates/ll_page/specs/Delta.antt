@@ -1,33 +1,49 @@
 -- The delta update of a rendition (sections 4.4.5.2 and 6.2.5.1).
-use Rattle.std.specs.Prelude.{ℕ, zero, suc, List, false, Option, Some, None, drop}
+use Rattle.std.specs.Prelude.{ℕ, zero, suc, List, false, Option, Some, None, drop, map}
+use Rattle.ll_item.specs.Told.{Listed, Removal}
+use Rattle.ll_range.specs.Announced.{left_at, recent_at}
+use Rattle.ll_rendition.specs.declared.rendition.Rendition.{Rendition}
 use Rattle.ll_window.specs.Compact.{skip_count}
-use Rattle.ll_line.specs.Line.{Skip}
+use Rattle.ll_line.specs.Line.{DateRangeLine, Skip}
 use Rattle.ll_page.specs.Playlist.{Playlist}
 use Rattle.ll_page.specs.Spelling.{spelling}
-use Rattle.ll_page.specs.Full.{printed, full_playlist}
+use Rattle.ll_page.specs.Full.{printed, range_line, full_playlist}
 use Rattle.ll_page.specs.View.{Seen, asked}
 use Rattle.ll_page.specs.declared.skip_kind.SkipKind.{SkipKind}
+use Rattle.ll_page.specs.declared.skip_kind.SkipKind.TheVariants.{Yes, V2}
 
--- what stands for so many segments, where there are any
-abbrev pub skip_of : ℕ → Option Skip
-skip_of zero = None
-skip_of (suc n) = Some (record { count = suc n; removed = None })
+-- the date ranges that a delta update lists: all of them, or those that it doesn't skip
+abbrev pub ranges_left : SkipKind → Rendition → List Listed
+ranges_left Yes k = k.ranges.listed
+ranges_left V2 k = left_at k.window.end_time k.ranges
 
--- the full playlist but for its segments: the first ones are skipped, and none of the others leads
-abbrev pub update_of : Seen → ℕ → Playlist
-update_of v count = record (full_playlist v) {
-  skipped = skip_of count;
+-- the ids of the recent removals, in order of removal, also where there is none; a delta update that skips no date ranges
+-- doesn't tell them
+abbrev pub ids_removed : SkipKind → Rendition → Option (List (List ℕ))
+ids_removed Yes k = None
+ids_removed V2 k = Some (map (λ (removal : Removal). removal.id) (recent_at k.window.end_time k.ranges))
+
+-- what stands for so many segments, and for the date ranges that are skipped and removed, where there are segments
+abbrev pub skip_of : Option (List (List ℕ)) → ℕ → Option Skip
+skip_of removed zero = None
+skip_of removed (suc n) = Some (record { count = suc n; removed = removed })
+
+-- the full playlist but for its date ranges and segments: the first ones are skipped, and none of the other segments leads
+abbrev pub update_of : SkipKind → Seen → ℕ → Playlist
+update_of kind v count = record (full_playlist v) {
+  ranges = map range_line (ranges_left kind (asked v));
+  skipped = skip_of (ids_removed kind (asked v)) count;
   segments = printed false (drop count (asked v).window.window);
 }
 
-abbrev pub delta_by : ℕ → Seen → Playlist
-delta_by zero v = full_playlist v
-delta_by (suc n) v = update_of v (suc n)
+abbrev pub delta_by : SkipKind → ℕ → Seen → Playlist
+delta_by kind zero v = full_playlist v
+delta_by kind (suc n) v = update_of kind v (suc n)
 
--- The delta update of the rendition that is asked for. Where no segment is skipped, it is the full playlist. Both kinds list
--- all date ranges.
+-- The delta update of the rendition that is asked for. Where no segment is skipped, it is the full playlist, with all its date
+-- ranges.
 abbrev pub delta_playlist : SkipKind → Seen → Playlist
-delta_playlist kind v = delta_by (skip_count (asked v).window) v
+delta_playlist kind v = delta_by kind (skip_count (asked v).window) v
 
 -- its text
 abbrev pub delta_text : SkipKind → Seen → List ℕ

@@ -18,11 +18,11 @@ use Rattle.ll_page.specs.View.{Seen, seen, asked}
 
 abbrev pub header_of : Configuration → Header
 header_of c = record {
-  version = 9;
+  version = 10;
   target = c.target;
   hold_back = 3 * c.part_target;
   skip_until = skip_limit c;
-  skips_date_ranges = false;
+  skips_date_ranges = true;
   part_target = c.part_target;
 }
 

@@ -8,7 +8,7 @@ use Rattle.ll_item.specs.declared.item.Item.TheVariants as item
 use Rattle.ll_page.specs.Delta.{delta_text}
 use Rattle.ll_page.specs.Full.{text_after}
 use Rattle.ll_page.specs.View.{seen}
-use Rattle.ll_page.specs.declared.skip_kind.SkipKind.TheVariants.{Yes}
+use Rattle.ll_page.specs.declared.skip_kind.SkipKind.TheVariants.{Yes, V2}
 
 -- one rendition, a target duration of 4 s and a part target of 1 s
 abbrev pub whole_seconds : Configuration
@@ -77,6 +77,15 @@ one_part = item.Part 0 1000000 true true ∷ []
 abbrev pub start_date : Attribute
 start_date = record { name = codes "START-DATE"; value = Quoted (codes "1970-01-01T00:00:00Z") }
 
+abbrev pub dated : List ℕ → Item
+dated id = item.Range 0 id (start_date ∷ [])
+
+-- the same with four date ranges, of which two leave
+abbrev pub eight_seconds_with_ranges : List Item
+eight_seconds_with_ranges =
+    dated (codes "a") ∷ dated (codes "b") ∷ dated (codes "c") ∷ whole_part ∷ item.Unrange 0 (codes "c") ∷ whole_part ∷ item.Unrange 0 (codes "b")
+    ∷ dated (codes "d") ∷ whole_part ∷ item.Break 0 ∷ whole_part ∷ whole_part ∷ whole_part ∷ whole_part ∷ whole_part ∷ []
+
 abbrev pub one_second : Attribute
 one_second = record { name = codes "DURATION"; value = Bare (codes "1.0") }
 
@@ -110,9 +119,9 @@ ends_open = item.Part 0 1000000 true false ∷ item.Part 0 500000 false false �
 abbrev pub header_text : List ℕ
 header_text =
     codes "#EXTM3U\n"
-    ++ codes "#EXT-X-VERSION:9\n"
+    ++ codes "#EXT-X-VERSION:10\n"
     ++ codes "#EXT-X-TARGETDURATION:4\n"
-    ++ codes "#EXT-X-SERVER-CONTROL:CAN-BLOCK-RELOAD=YES,PART-HOLD-BACK=3.000000,CAN-SKIP-UNTIL=24.000000\n"
+    ++ codes "#EXT-X-SERVER-CONTROL:CAN-BLOCK-RELOAD=YES,PART-HOLD-BACK=3.000000,CAN-SKIP-UNTIL=24.000000,CAN-SKIP-DATERANGES=YES\n"
     ++ codes "#EXT-X-PART-INF:PART-TARGET=1.000000\n"
     ++ codes "#EXT-X-MEDIA-SEQUENCE:0\n"
     ++ codes "#EXT-X-DISCONTINUITY-SEQUENCE:0\n"
@@ -143,9 +152,9 @@ date_ranges_text =
 abbrev pub open_segment_text : List ℕ
 open_segment_text =
     codes "#EXTM3U\n"
-    ++ codes "#EXT-X-VERSION:9\n"
+    ++ codes "#EXT-X-VERSION:10\n"
     ++ codes "#EXT-X-TARGETDURATION:4\n"
-    ++ codes "#EXT-X-SERVER-CONTROL:CAN-BLOCK-RELOAD=YES,PART-HOLD-BACK=1.002000,CAN-SKIP-UNTIL=24.000000\n"
+    ++ codes "#EXT-X-SERVER-CONTROL:CAN-BLOCK-RELOAD=YES,PART-HOLD-BACK=1.002000,CAN-SKIP-UNTIL=24.000000,CAN-SKIP-DATERANGES=YES\n"
     ++ codes "#EXT-X-PART-INF:PART-TARGET=0.334000\n"
     ++ codes "#EXT-X-MEDIA-SEQUENCE:7\n"
     ++ codes "#EXT-X-DISCONTINUITY-SEQUENCE:0\n"
@@ -166,9 +175,9 @@ open_segment_text =
 abbrev pub ended_text : List ℕ
 ended_text =
     codes "#EXTM3U\n"
-    ++ codes "#EXT-X-VERSION:9\n"
+    ++ codes "#EXT-X-VERSION:10\n"
     ++ codes "#EXT-X-TARGETDURATION:4\n"
-    ++ codes "#EXT-X-SERVER-CONTROL:CAN-BLOCK-RELOAD=YES,PART-HOLD-BACK=1.002000,CAN-SKIP-UNTIL=24.000000\n"
+    ++ codes "#EXT-X-SERVER-CONTROL:CAN-BLOCK-RELOAD=YES,PART-HOLD-BACK=1.002000,CAN-SKIP-UNTIL=24.000000,CAN-SKIP-DATERANGES=YES\n"
     ++ codes "#EXT-X-PART-INF:PART-TARGET=0.334000\n"
     ++ codes "#EXT-X-MEDIA-SEQUENCE:7\n"
     ++ codes "#EXT-X-DISCONTINUITY-SEQUENCE:0\n"
@@ -180,18 +189,21 @@ ended_text =
     ++ codes "#EXT-X-RENDITION-REPORT:URI=\"../hi/live.m3u8\",LAST-MSN=8,LAST-PART=0\n"
     ++ codes "#EXT-X-ENDLIST\n"
 
--- after the first segment seven seconds stand, after the second one six, which is the limit
-abbrev pub delta_update_text : List ℕ
-delta_update_text =
+-- the header of an update of eight seconds
+abbrev pub eight_header : List ℕ
+eight_header =
     codes "#EXTM3U\n"
-    ++ codes "#EXT-X-VERSION:9\n"
+    ++ codes "#EXT-X-VERSION:10\n"
     ++ codes "#EXT-X-TARGETDURATION:1\n"
-    ++ codes "#EXT-X-SERVER-CONTROL:CAN-BLOCK-RELOAD=YES,PART-HOLD-BACK=3.000000,CAN-SKIP-UNTIL=6.000000\n"
+    ++ codes "#EXT-X-SERVER-CONTROL:CAN-BLOCK-RELOAD=YES,PART-HOLD-BACK=3.000000,CAN-SKIP-UNTIL=6.000000,CAN-SKIP-DATERANGES=YES\n"
     ++ codes "#EXT-X-PART-INF:PART-TARGET=1.000000\n"
     ++ codes "#EXT-X-MEDIA-SEQUENCE:0\n"
     ++ codes "#EXT-X-DISCONTINUITY-SEQUENCE:0\n"
-    ++ codes "#EXT-X-SKIP:SKIPPED-SEGMENTS=1\n"
-    ++ codes "#EXT-X-PROGRAM-DATE-TIME:1970-01-01T00:00:01.000Z\n"
+
+-- the second segment and those after it
+abbrev pub seven_segments : List ℕ
+seven_segments =
+    codes "#EXT-X-PROGRAM-DATE-TIME:1970-01-01T00:00:01.000Z\n"
     ++ codes "#EXTINF:1.000000,\n"
     ++ codes "s1.m4s\n"
     ++ codes "#EXT-X-PROGRAM-DATE-TIME:1970-01-01T00:00:02.000Z\n"
@@ -219,13 +231,38 @@ delta_update_text =
     ++ codes "s7.m4s\n"
     ++ codes "#EXT-X-PRELOAD-HINT:TYPE=PART,URI=\"s8.0.m4s\"\n"
 
+-- after the first segment seven seconds stand, after the second one six, which is the limit
+abbrev pub delta_update_text : List ℕ
+delta_update_text = eight_header ++ (codes "#EXT-X-SKIP:SKIPPED-SEGMENTS=1\n" ++ seven_segments)
+
+-- a was added eight seconds ago, and d six, which is the limit
+abbrev pub lists_ranges_text : List ℕ
+lists_ranges_text =
+    eight_header
+    ++ codes "#EXT-X-DATERANGE:ID=\"a\",START-DATE=\"1970-01-01T00:00:00Z\"\n"
+    ++ codes "#EXT-X-DATERANGE:ID=\"d\",START-DATE=\"1970-01-01T00:00:00Z\"\n"
+    ++ codes "#EXT-X-SKIP:SKIPPED-SEGMENTS=1\n"
+    ++ seven_segments
+
+-- and c was removed seven seconds ago, b six
+abbrev pub skips_ranges_text : List ℕ
+skips_ranges_text =
+    eight_header
+    ++ codes "#EXT-X-DATERANGE:ID=\"d\",START-DATE=\"1970-01-01T00:00:00Z\"\n"
+    ++ codes "#EXT-X-SKIP:SKIPPED-SEGMENTS=1,RECENTLY-REMOVED-DATERANGES=\"b\"\n"
+    ++ seven_segments
+
+-- where nothing was removed lately, the line says so
+abbrev pub removes_none_text : List ℕ
+removes_none_text = eight_header ++ (codes "#EXT-X-SKIP:SKIPPED-SEGMENTS=1,RECENTLY-REMOVED-DATERANGES=\"\"\n" ++ seven_segments)
+
 -- two broken segments have left the window; parts are listed of the last three segments and of the open one
 abbrev pub afternoon_text : List ℕ
 afternoon_text =
     codes "#EXTM3U\n"
-    ++ codes "#EXT-X-VERSION:9\n"
+    ++ codes "#EXT-X-VERSION:10\n"
     ++ codes "#EXT-X-TARGETDURATION:1\n"
-    ++ codes "#EXT-X-SERVER-CONTROL:CAN-BLOCK-RELOAD=YES,PART-HOLD-BACK=3.000000,CAN-SKIP-UNTIL=6.000000\n"
+    ++ codes "#EXT-X-SERVER-CONTROL:CAN-BLOCK-RELOAD=YES,PART-HOLD-BACK=3.000000,CAN-SKIP-UNTIL=6.000000,CAN-SKIP-DATERANGES=YES\n"
     ++ codes "#EXT-X-PART-INF:PART-TARGET=1.000000\n"
     ++ codes "#EXT-X-MEDIA-SEQUENCE:42\n"
     ++ codes "#EXT-X-DISCONTINUITY-SEQUENCE:2\n"
@@ -287,6 +324,9 @@ pub record WorkedPlaylists : Type 0 where
   pub one_segment : text_after whole_seconds one_part 0 ≡ one_segment_text
   pub date_ranges : text_after whole_seconds ranges_and_part 0 ≡ date_ranges_text
   pub delta_update : delta_text Yes (seen short_segments eight_seconds 0) ≡ delta_update_text
+  pub lists_ranges : delta_text Yes (seen short_segments eight_seconds_with_ranges 0) ≡ lists_ranges_text
+  pub skips_ranges : delta_text V2 (seen short_segments eight_seconds_with_ranges 0) ≡ skips_ranges_text
+  pub removes_none : delta_text V2 (seen short_segments eight_seconds 0) ≡ removes_none_text
   pub open_segment : text_after two_renditions mixed_parts 1 ≡ open_segment_text
   pub has_ended : text_after two_renditions mixed_parts 0 ≡ ended_text
   pub afternoon : text_after afternoon afternoon_parts 0 ≡ afternoon_text

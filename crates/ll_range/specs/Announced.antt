@@ -1,6 +1,6 @@
 -- Which date ranges playlists list (section 4.4.5.1), and which were taken away lately (section 4.4.5.2), from the whole
 -- list of the items of one rendition.
-use Rattle.std.specs.Prelude.{ℕ, ◌+◌, List, Bool, false, ◌||◌, filter, nat_le, bytes_eq, Option, Some, None, if◌then◌else◌}
+use Rattle.std.specs.Prelude.{◌≡◌, ℕ, ◌+◌, List, Bool, false, not, ◌||◌, drop, filter, length, nat_le, nat_lt, bytes_eq, Option, Some, None, if◌then◌else◌}
 use Rattle.std.specs.List.{list_any, find}
 use Rattle.ll_attr.specs.declared.attributes.Attribute.{Attribute}
 use Rattle.ll_item.specs.Settings.{Configuration, skip_limit}
@@ -27,6 +27,19 @@ pub record Announced : Type 0 where
 -- the removals that are recent, where all parts last until now
 abbrev pub recent_at : ℕ → Announced → List Removal
 recent_at now a = filter (is_recent a.limit now) a.recent
+
+-- A delta update may skip a date range where the parts after its adding last longer than the limit, where all parts last until
+-- now (section 6.2.5.1).
+abbrev pub is_skipped : ℕ → ℕ → Listed → Bool
+is_skipped limit now range = nat_lt (range.added + limit) now
+
+-- how many of the date ranges that are listed it may skip, where all parts last until now
+abbrev pub skipped_at : ℕ → Announced → ℕ
+skipped_at now a = length (filter (is_skipped a.limit now) a.listed)
+
+-- those that it lists all the same: the skipped ones were added first
+abbrev pub left_at : ℕ → Announced → List Listed
+left_at now a = drop (skipped_at now a) a.listed
 
 abbrev pub announced : Configuration → List Item → Announced
 announced c items = record {
@@ -69,3 +82,9 @@ refusal_after now a (item.End rendition) = None
 -- the first rule of date ranges that refuses an item after these items of its rendition, or none
 abbrev pub refusal : Configuration → List Item → Item → Option RangeFault
 refusal c before item = refusal_after (end_time before) (announced c before) item
+
+-- What is left of the date ranges of a list of items are those that a delta update may not skip: those that it skips are the
+-- first ones in order of adding.
+abbrev pub SkippedLaw : Type 0
+SkippedLaw = (c : Configuration) (items : List Item) (now : ℕ)
+    → left_at now (announced c items) ≡ filter (λ (range : Listed). not (is_skipped (skip_limit c) now range)) (announced c items).listed

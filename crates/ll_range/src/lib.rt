@@ -4,6 +4,8 @@
 
 mod attributes;
 mod changes;
+mod laws;
 mod ranges;
 
+pub use laws::skipped_law;
 pub use ranges::{DateRange, RangeFault, Ranges};

@@ -1,5 +1,5 @@
 ghost use Rattle.std.specs.Prelude.{◌≡◌, ◌≤◌, [], Some, IfOk, MatchOption, length, map, slice_get};
-ghost use Rattle.ll_range.specs.Announced.{announced, recent_at};
+ghost use Rattle.ll_range.specs.Announced.{announced, recent_at, skipped_at};
 
 use crate::changes::is_recent;
 use indexmap::IndexMap;
@@ -107,6 +107,18 @@ impl Ranges {
             attributes: stored.attributes.as_str(),
             added: stored.added,
         })
+    }
+
+    /// How many of the date ranges that are listed a delta update may skip, where all parts of the rendition last so long until
+    /// now (microseconds): those after whose adding the parts last longer than the skip limit (section 6.2.5.1). They are the
+    /// first ones (`skipped_law`). It takes no memory.
+    pub fn skipped(&self, end: u64) -> usize
+        ensures { result ≡ skipped_at end self.now }
+    {
+        self.listed
+            .values()
+            .filter(|stored| !is_recent(self.limit, end, stored.added))
+            .count()
     }
 
     /// The ids of the date ranges that were taken away lately, in order of removal, where all parts of the rendition last so
