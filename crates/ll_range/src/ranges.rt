@@ -115,10 +115,15 @@ impl Ranges {
     pub fn skipped(&self, end: u64) -> usize
         ensures { result ≡ skipped_at end self.now }
     {
-        self.listed
-            .values()
-            .filter(|stored| !is_recent(self.limit, end, stored.added))
-            .count()
+        let mut count = 0;
+        for place in 0..self.count() {
+            if let Some(range) = self.listed(place) {
+                if !is_recent(self.limit, end, range.added) {
+                    count += 1;
+                }
+            }
+        }
+        count
     }
 
     /// The ids of the date ranges that were taken away lately, in order of removal, where all parts of the rendition last so

@@ -1,5 +1,5 @@
 -- What was tested is why the items let it follow; what was added is the step of the list.
-use Rattle.std.proofs.Common.{subst, None, ◌≡◌, ◌++◌, ◌∷◌, [], List, ℕ}
+use Rattle.std.proofs.Common.{subst, None, ◌≡◌, ◌++◌, ◌∷◌, []}
 use Rattle.ll_item.specs.declared.item.Item.TheVariants as item
 use Rattle.ll_range.specs.Announced.{add_refusal, announced}
 use Rattle.ll_range.proofs.Steps.{free-range}
