@@ -1,1 +1,2 @@
 pub mod LineLaws
+pub mod SkipLemmas

@@ -4,7 +4,7 @@ use Rattle.ll_item.specs.Told.{Listed, Removal}
 use Rattle.ll_range.specs.Announced.{left_at, recent_at}
 use Rattle.ll_rendition.specs.declared.rendition.Rendition.{Rendition}
 use Rattle.ll_window.specs.Compact.{skip_count}
-use Rattle.ll_line.specs.Line.{DateRangeLine, Skip}
+use Rattle.ll_line.specs.Line.{Skip}
 use Rattle.ll_page.specs.Playlist.{Playlist}
 use Rattle.ll_page.specs.Spelling.{spelling}
 use Rattle.ll_page.specs.Full.{printed, range_line, full_playlist}

@@ -1,11 +1,12 @@
-ghost use Rattle.std.specs.Prelude.{◌≡◌, ◌==◌, ◌++◌, IfOk, OnOk, string_bytes, map};
-ghost use Rattle.ll_page.specs.Full.{full_text, full_playlist, header_of, report_by, reports_of, hint_of, sequence_of, range_line, range_lines};
-ghost use Rattle.ll_page.specs.Delta.{delta_text, delta_by, skip_of};
+ghost use Rattle.std.specs.Prelude.{◌≡◌, ◌==◌, ◌++◌, IfOk, OnOk, drop, string_bytes, map};
+ghost use Rattle.ll_page.specs.Full.{full_text, full_playlist, header_of, report_by, reports_of, hint_of, sequence_of, range_line};
+ghost use Rattle.ll_page.specs.Delta.{delta_text, delta_by, ranges_left, ids_removed};
+ghost use Rattle.ll_page.specs.View.{asked};
 ghost use Rattle.ll_page.specs.Page.{text_in};
 ghost use Rattle.ll_page.specs.Pieces.{pieces_of};
 ghost use Rattle.ll_line.specs.Line as says;
 ghost use Rattle.ll_line.specs.Text.{line_text, text_of};
-ghost use Rattle.ll_page.specs.Spelling.{spelling, head_lines, header_lines, skip_lines, last_line};
+ghost use Rattle.ll_page.specs.Spelling.{spelling, head_lines, header_lines, last_line};
 
 use crate::form::Form;
 use crate::pieces::Pieces;
@@ -13,7 +14,7 @@ use crate::skip_kind::SkipKind;
 use crate::view::View;
 use ll_attr::{Micros, Text};
 use ll_item::Settings;
-use ll_line::{Control, Line, Report, Skip, Uri, push_line};
+use ll_line::{Control, Line, Report, Uri, push_line, push_skip};
 use ll_range::Ranges;
 use ll_window::{Place, Window};
 use std::alloc::{AllocError, Global};
@@ -31,7 +32,8 @@ pub fn full(alloc: Global, view: &View<'_>) -> Result<Text, AllocError>
 
 /// The text of the delta update of a view (section 6.2.5.1): the lines of the full playlist, but that one line stands for
 /// those of the segments that are skipped (section 4.4.5.2), and none of the others leads; the full playlist where no segment
-/// is skipped. Both kinds list all date ranges. It fails only where no memory is found.
+/// is skipped. An update of kind V2 also skips the date ranges that were added longer ago than the Skip Boundary, and tells the
+/// ids of those that were removed lately. It fails only where no memory is found.
 pub fn delta(alloc: Global, view: &View<'_>, kind: SkipKind) -> Result<Text, AllocError>
     ensures { IfOk result (λ text. text ≡ delta_text kind view.now) }
 {
@@ -50,27 +52,30 @@ pub(crate) fn written(
     ensures { IfOk result (λ text. string_bytes text ≡ text_in form view.now) }
 {
     match form {
-        Form::Full => playlist(alloc, view, pieces, 0),
-        Form::Delta(SkipKind::Yes | SkipKind::V2) => {
-            playlist(alloc, view, pieces, view.window().skip_count())
-        }
+        Form::Full => playlist(alloc, view, pieces, SkipKind::Yes, 0),
+        Form::Delta(kind) => playlist(alloc, view, pieces, kind, view.window().skip_count()),
     }
 }
 
-/// The text of the playlist that skips so many segments, joined from the pieces of the view.
+/// The text of the playlist that skips so many segments, and, where there are any, what an update of this kind skips of date
+/// ranges, joined from the pieces of the view.
 fn playlist(
     alloc: Global,
     view: &View<'_>,
     pieces: &Pieces,
+    kind: SkipKind,
     skipped: usize,
 ) -> Result<String, AllocError>
     requires { pieces.now ≡ pieces_of view.now }
-    ensures { IfOk result (λ text. string_bytes text ≡ spelling (delta_by skipped view.now)) }
+    ensures { IfOk result (λ text. string_bytes text ≡ spelling (delta_by kind skipped view.now)) }
 {
     let mut text = String::new(alloc);
     push_head(&mut text, view)?;
-    push_ranges(&mut text, view.ranges())?;
-    push_skip(&mut text, skipped)?;
+    if skipped == 0 {
+        push_ranges(&mut text, view.ranges(), 0)?;
+    } else {
+        push_skipped(&mut text, alloc, view, kind, skipped)?;
+    }
     pieces.push_finished(&mut text, skipped)?;
     pieces.push_unfinished(&mut text)?;
     push_reports(&mut text, view)?;
@@ -96,10 +101,10 @@ fn push_header(text: &mut String, settings: &Settings) -> Result<(), AllocError>
     let control = Control {
         hold_back: Micros(3 * part_target),
         skip_until: Micros(settings.skip() * 1_000_000),
-        skips_date_ranges: false,
+        skips_date_ranges: true,
     };
     push_line(text, &Line::First)?;
-    push_line(text, &Line::Version(9))?;
+    push_line(text, &Line::Version(10))?;
     push_line(text, &Line::TargetDuration(settings.target()))?;
     push_line(text, &Line::ServerControl(control))?;
     push_line(text, &Line::PartTarget(Micros(part_target)))
@@ -115,11 +120,37 @@ fn sequence(window: &Window) -> u64
     }
 }
 
-/// Adds a line for each date range.
-fn push_ranges(text: &mut String, ranges: &Ranges) -> Result<(), AllocError>
-    ensures { OnOk result (string_bytes text.new ≡ string_bytes text.old ++ text_of (map says.DateRange (range_lines ranges.now))) }
+/// Adds what stands for date ranges and for so many segments, of which there are some, in an update of this kind.
+fn push_skipped(
+    text: &mut String,
+    alloc: Global,
+    view: &View<'_>,
+    kind: SkipKind,
+    skipped: usize,
+) -> Result<(), AllocError>
+    ensures { OnOk result (string_bytes text.new ≡ string_bytes text.old
+        ++ (text_of (map says.DateRange (map range_line (ranges_left kind (asked view.now))))
+        ++ line_text (says.Skipped (record { count = skipped; removed = ids_removed kind (asked view.now) })))) }
 {
-    for place in 0..ranges.count() {
+    let (ranges, end) = (view.ranges(), view.window().end_time());
+    match kind {
+        SkipKind::Yes => {
+            push_ranges(text, ranges, 0)?;
+            push_skip(alloc, text, skipped as u64, None)
+        }
+        SkipKind::V2 => {
+            let removed = ranges.recent(alloc, end)?;
+            push_ranges(text, ranges, ranges.skipped(end))?;
+            push_skip(alloc, text, skipped as u64, Some(removed.as_slice()))
+        }
+    }
+}
+
+/// Adds a line for each date range but so many, the first ones.
+fn push_ranges(text: &mut String, ranges: &Ranges, skipped: usize) -> Result<(), AllocError>
+    ensures { OnOk result (string_bytes text.new ≡ string_bytes text.old ++ text_of (map says.DateRange (map range_line (drop skipped ranges.now.listed)))) }
+{
+    for place in skipped..ranges.count() {
         if let Some(range) = ranges.listed(place) {
             push_range(text, range)?;
         }
@@ -137,20 +168,6 @@ fn push_range(text: &mut String, range: ll_range::DateRange<'_>) -> Result<(), A
         attributes: range.attributes,
     });
     push_line(text, &line)
-}
-
-/// Adds the line that stands for so many segments, where there are any.
-fn push_skip(text: &mut String, skipped: usize) -> Result<(), AllocError>
-    ensures { OnOk result (string_bytes text.new ≡ string_bytes text.old ++ text_of (skip_lines (skip_of skipped))) }
-{
-    if skipped == 0 {
-        return Ok(());
-    }
-    let skip = Skip {
-        count: skipped as u64,
-        removed: None,
-    };
-    push_line(text, &Line::Skipped(skip))
 }
 
 /// Adds a report of each other rendition that has a part.

@@ -1,6 +1,5 @@
 //! Playlists, written line by line.
 ghost use Rattle.std.specs.Prelude.{◌≡◌, ◌++◌, ◌∷◌, IfOk, OnOk, map, string_bytes, flat_map};
-ghost use Rattle.std.specs.List.{join_with_byte};
 ghost use Rattle.std.specs.Option.{option_map};
 ghost use Rattle.ll_line.specs.Line as says;
 ghost use Rattle.ll_line.specs.Text.{line_text, text_of};
@@ -8,7 +7,7 @@ ghost use Rattle.ll_page.specs.Spelling.{spelling, head_lines, header_lines, tai
 
 use crate::playlist::{Block, Finished, Header, Playlist, Report, Skip};
 use ll_attr::{Micros, Text};
-use ll_line::{Control, DateTime, Line, Uri, push_line};
+use ll_line::{Control, DateTime, Line, Uri, push_line, push_skip};
 use std::alloc::{AllocError, Global};
 
 impl Playlist {
@@ -145,55 +144,14 @@ fn push_map(text: &mut String, uri: Option<&Text>) -> Result<(), AllocError>
 }
 
 /// Adds the line of a skip.
-#[tactic(auto, using(crate::proofs::Written::ids_told))]
 fn push_skip_line(alloc: Global, text: &mut String, skip: &Skip) -> Result<(), AllocError>
     ensures { OnOk result (string_bytes text.new ≡ string_bytes text.old ++ line_text (says.Skipped skip.now)) }
 {
-    let count = skip.count;
-    match &skip.removed {
-        Some(ids) => {
-            let ids = joined(alloc, ids)?;
-            let removed = Some(ids.as_str());
-            push_line(text, &Line::Skipped(ll_line::Skip { count, removed }))
-        }
-        None => {
-            let removed = None;
-            push_line(text, &Line::Skipped(ll_line::Skip { count, removed }))
-        }
-    }
-}
-
-/// Ids with a tab between two of them.
-fn joined(alloc: Global, ids: &[Text]) -> Result<Text, AllocError>
-    ensures { IfOk result (λ text. text ≡ join_with_byte 9 ids.now) }
-{
-    let mut text = String::new(alloc);
-    push_ids(&mut text, ids)?;
-    Ok(Text::from_string(text))
-}
-
-/// Adds ids with a tab between two of them.
-fn push_ids(text: &mut String, ids: &[Text]) -> Result<(), AllocError>
-    ensures { OnOk result (string_bytes text.new ≡ string_bytes text.old ++ join_with_byte 9 ids.now) }
-{
-    match ids.split_first() {
-        Some((first, more)) => {
-            text.push_str(first.as_str())?;
-            push_after_tabs(text, more)
-        }
-        None => Ok(()),
-    }
-}
-
-/// Adds ids with a tab before each of them.
-fn push_after_tabs(text: &mut String, ids: &[Text]) -> Result<(), AllocError>
-    ensures { OnOk result (string_bytes text.new ≡ string_bytes text.old ++ flat_map (λ id. 9 ∷ id) ids.now) }
-{
-    for id in ids {
-        text.push('\t')?;
-        text.push_str(id.as_str())?;
-    }
-    Ok(())
+    let removed = match &skip.removed {
+        Some(ids) => Some(ids.as_slice()),
+        None => None,
+    };
+    push_skip(alloc, text, skip.count, removed)
 }
 
 /// Adds the lines of segments.

@@ -1,6 +1,6 @@
 -- The text so far and the ids that are left are the whole text.
 use Rattle.std.proofs.Common.{◌≡◌, ◌++◌, ◌∷◌, drop, flat_map, string_bytes}
-use Rattle.ll_read.proofs.writing.push_after_tabs.Given as goal
+use Rattle.ll_line.proofs.skip.push_after_tabs.Given as goal
 
 abbrev pub invariant-loop-id : goal.invariant-loop-id
 invariant-loop-id l =

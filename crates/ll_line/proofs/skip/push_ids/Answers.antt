@@ -1,8 +1,8 @@
 -- The first id and the others after their tabs are all of them, joined.
 use Rattle.std.proofs.Common.{◌++◌, string_bytes, ap, ◌∙◌}
 use Rattle.std.proofs.lemmas.Result.{on_ok_weaker}
-use Rattle.ll_read.proofs.Written.{pushed}
-use Rattle.ll_read.proofs.writing.push_ids.Goals as goal
+use Rattle.ll_line.proofs.SkipLemmas.{pushed}
+use Rattle.ll_line.proofs.skip.push_ids.Goals as goal
 
 pub returns-in_ok-push_str-in-Some : goal.returns-in_ok-push_str-in-Some
 returns-in_ok-push_str-in-Some c =
