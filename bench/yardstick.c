@@ -122,11 +122,11 @@ static void put_segment(struct writing *w, size_t n, int is_first, int is_finish
 
 static void put_head(struct writing *w, size_t from)
 {
-    put(w, "#EXTM3U\n#EXT-X-VERSION:9\n#EXT-X-TARGETDURATION:%lld\n#EXT-X-SERVER-CONTROL:CAN-BLOCK-RELOAD=YES,PART-HOLD-BACK=", target);
+    put(w, "#EXTM3U\n#EXT-X-VERSION:10\n#EXT-X-TARGETDURATION:%lld\n#EXT-X-SERVER-CONTROL:CAN-BLOCK-RELOAD=YES,PART-HOLD-BACK=", target);
     put_duration(w, 3 * part_target);
     put(w, ",CAN-SKIP-UNTIL=");
     put_duration(w, skip * 1000000);
-    put(w, "\n#EXT-X-PART-INF:PART-TARGET=");
+    put(w, ",CAN-SKIP-DATERANGES=YES\n#EXT-X-PART-INF:PART-TARGET=");
     put_duration(w, part_target);
     put(w, "\n#EXT-X-MEDIA-SEQUENCE:%lld\n#EXT-X-DISCONTINUITY-SEQUENCE:0\n", first + (long long)from);
 }

@@ -29,8 +29,8 @@ settings='channel cam target=4 part=1000000 skip=24 window=36 renditions=hi firs
 
 # The lines of a playlist without segments of these settings, with these lines of date ranges in it.
 playlist() {
-    printf '#EXTM3U\n#EXT-X-VERSION:9\n#EXT-X-TARGETDURATION:4\n'
-    printf '#EXT-X-SERVER-CONTROL:CAN-BLOCK-RELOAD=YES,PART-HOLD-BACK=3.000000,CAN-SKIP-UNTIL=24.000000\n'
+    printf '#EXTM3U\n#EXT-X-VERSION:10\n#EXT-X-TARGETDURATION:4\n'
+    printf '#EXT-X-SERVER-CONTROL:CAN-BLOCK-RELOAD=YES,PART-HOLD-BACK=3.000000,CAN-SKIP-UNTIL=24.000000,CAN-SKIP-DATERANGES=YES\n'
     printf '#EXT-X-PART-INF:PART-TARGET=1.000000\n#EXT-X-MEDIA-SEQUENCE:0\n#EXT-X-DISCONTINUITY-SEQUENCE:0\n'
     printf '%s' "$1"
     printf '#EXT-X-PRELOAD-HINT:TYPE=PART,URI="s0.0.m4s"\n'

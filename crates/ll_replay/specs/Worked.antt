@@ -10,9 +10,9 @@ channel_line = codes "channel cam target=4 part=1000000 skip=24 window=36 rendit
 abbrev pub first_lines_of_playlist : List ℕ
 first_lines_of_playlist =
     codes "#EXTM3U\n"
-    ++ codes "#EXT-X-VERSION:9\n"
+    ++ codes "#EXT-X-VERSION:10\n"
     ++ codes "#EXT-X-TARGETDURATION:4\n"
-    ++ codes "#EXT-X-SERVER-CONTROL:CAN-BLOCK-RELOAD=YES,PART-HOLD-BACK=3.000000,CAN-SKIP-UNTIL=24.000000\n"
+    ++ codes "#EXT-X-SERVER-CONTROL:CAN-BLOCK-RELOAD=YES,PART-HOLD-BACK=3.000000,CAN-SKIP-UNTIL=24.000000,CAN-SKIP-DATERANGES=YES\n"
     ++ codes "#EXT-X-PART-INF:PART-TARGET=1.000000\n"
     ++ codes "#EXT-X-MEDIA-SEQUENCE:0\n"
     ++ codes "#EXT-X-DISCONTINUITY-SEQUENCE:0\n"
@@ -122,7 +122,7 @@ abbrev pub waiting_text : List ℕ
 waiting_text =
     codes "reply 3 400 TooFar\n"
     ++ codes "ok 1\n"
-    ++ codes "reply 1 200 401\n"
+    ++ codes "reply 1 200 426\n"
     ++ part_playlist
     ++ codes "reply 2 503 Timeout\n"
 
@@ -148,11 +148,11 @@ lines_without_memory =
     ∷ []
 
 pub record WorkedScript : Type 0 where
-  pub no_memory : (come_to lines_without_memory).text ≡ codes "no 12 Memory\n" ++ codes "ok 1\n" ++ codes "reply 1 503 Memory\n" ++ codes "reply 2 200 442\n" ++ segment_playlist
-  pub at_once : script asked_at_once ≡ codes "reply 1 200 279\n" ++ empty_playlist
-  pub later : script asked_later ≡ codes "ok 1\n" ++ codes "reply 1 200 442\n" ++ segment_playlist
+  pub no_memory : (come_to lines_without_memory).text ≡ codes "no 12 Memory\n" ++ codes "ok 1\n" ++ codes "reply 1 503 Memory\n" ++ codes "reply 2 200 467\n" ++ segment_playlist
+  pub at_once : script asked_at_once ≡ codes "reply 1 200 304\n" ++ empty_playlist
+  pub later : script asked_later ≡ codes "ok 1\n" ++ codes "reply 1 200 467\n" ++ segment_playlist
   pub refusals : script refused_lines ≡ refusals_text
   pub last_refusals_told : script last_lines ≡ last_refusals
   pub waiting : script waiting_lines ≡ waiting_text
-  pub same_text : script same_number ≡ codes "reply 1 200 279\n" ++ empty_playlist
+  pub same_text : script same_number ≡ codes "reply 1 200 304\n" ++ empty_playlist
   pub same_ending : (world_of same_number).ending ≡ Some (BadLine 3)
