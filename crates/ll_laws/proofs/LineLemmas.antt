@@ -71,8 +71,9 @@ flagged true = refl
 flagged false = refl
 
 pub sound-control : (h s : ℕ) → h < duration_end → s < duration_end
-    → IsSound (ServerControl (record { hold_back = h; skip_until = s; skips_date_ranges = false }))
-sound-control h s held skips = sound _ (held, (skips, tt)) (both (seconds h) _ (lasting h held) (both (seconds s) [] (lasting s skips) refl))
+    → IsSound (ServerControl (record { hold_back = h; skip_until = s; skips_date_ranges = true }))
+sound-control h s held skips =
+    sound _ (held, (skips, tt)) (both (seconds h) _ (lasting h held) (both (seconds s) (codes ",CAN-SKIP-DATERANGES=YES") (lasting s skips) refl))
 
 pub sound-skip : (n : ℕ) → n ≤ largest_number → IsSound (Skipped (record { count = n; removed = None }))
 sound-skip n few = sound _ (few, tt) (both (decimal n) [] (number n) refl)

@@ -19,6 +19,7 @@ use Rattle.ll_window.proofs.StepLemmas.{compact-snoc, duration-snoc}
 use Rattle.ll_page.specs.Playlist.{Skip}
 use Rattle.ll_page.specs.Delta.{delta_by}
 use Rattle.ll_page.specs.View.{Seen, seen, asked}
+use Rattle.ll_page.specs.declared.skip_kind.SkipKind.{SkipKind}
 use Rattle.ll_laws.specs.Laws.{OwnSegmentLaw}
 use Rattle.ll_laws.specs.Published.{AreAccepted}
 use Rattle.ll_laws.proofs.ItemLemmas.{AreInOrder, in-order}
@@ -77,10 +78,10 @@ fewer : (limit tail : ℕ) (rs : List Row) → tail ≤ limit → 1 ≤ skipped_
 fewer limit tail [] le some = absurd (omega arith)
 fewer limit tail (r ∷ rs) le some = let a = few limit tail r rs le in omega (arith, a)
 
-own_by : (n : ℕ) (v : Seen) (skip : Skip) → (delta_by n v).skipped ≡ Some skip → (1 ≤ n → n < length (asked v).window.window)
-    → 1 ≤ length (delta_by n v).segments
-own_by zero v skip e h = absurd (grind (arith, e))
-own_by (suc n) v skip e h =
+own_by : (kind : SkipKind) (n : ℕ) (v : Seen) (skip : Skip) → (delta_by kind n v).skipped ≡ Some skip
+    → (1 ≤ n → n < length (asked v).window.window) → 1 ≤ length (delta_by kind n v).segments
+own_by kind zero v skip e h = absurd (grind (arith, e))
+own_by kind (suc n) v skip e h =
     let low = h (omega arith) in
     let a = length-printed false (drop (suc n) (asked v).window.window) in
     let b = length-drop (suc n) (asked v).window.window in
@@ -97,4 +98,4 @@ pub own-segment : OwnSegmentLaw
 own-segment c items r kind skip is_one one six accepted e =
     let v = seen c items r in
     let is = asked-is c items r is_one in
-    own_by (skip_count (asked v).window) v skip e (rw is (some-left c items r one six accepted))
+    own_by kind (skip_count (asked v).window) v skip e (rw is (some-left c items r one six accepted))

@@ -1,20 +1,13 @@
 -- The line of a date range may stand in a playlist's text: no attribute list that can be read holds CR or LF.
-use Rattle.std.proofs.Common.{◌≡◌, ℕ, Bool, true, false, List, [], ◌∷◌, ◌++◌, length, append_assoc, nat_le, arith, refl, ap, sym, ◌∙◌, codes, Some, None, Ok, if◌then◌else◌}
-use Rattle.std.proofs.lemmas.Bool.{and_parts, and_from}
+use Rattle.std.proofs.Common.{◌≡◌, ℕ, true, List, [], ◌∷◌, ◌++◌, length, append_assoc, nat_le, arith, refl, ap, ◌∙◌, codes, Ok}
+use Rattle.std.proofs.lemmas.Bool.{and_from}
 use Rattle.std.proofs.lemmas.Str.{IsUtf8-nil, IsUtf8-append, IsUtf8-from_is_utf8}
-use Rattle.std.specs.List.{list_all, list_any, after_first}
 use Rattle.std.specs.Result.{is_ok}
 use Rattle.std.specs.Str.{is_utf8, IsUtf8}
-use Rattle.ll_attr.specs.Attributes.{attributes_in, attributes_of, attribute_in, attribute_spelling, spelling, value_spelling, value_by, value_in, parts_outside, is_attribute_name, is_name_byte, is_bare, is_bare_byte, is_quoted_byte, is_equals}
-use Rattle.ll_attr.specs.Reading.{name_of, is_named}
+use Rattle.ll_attr.specs.Attributes.{attributes_in, spelling}
 use Rattle.ll_attr.specs.declared.attributes.Attribute.{Attribute}
-use Rattle.ll_attr.specs.declared.attributes.AttrValue.{AttrValue}
-use Rattle.ll_attr.specs.declared.attributes.AttrValue.TheVariants.{Quoted, Bare}
-use Rattle.ll_attr.proofs.Spelled.{read_ok, then_ok}
 use Rattle.ll_format.specs.Format.{Where}
 use Rattle.ll_format.specs.Words.{is_one_line, is_rest}
-use Rattle.ll_format.proofs.FormatLaws.{inside_both}
-use Rattle.ll_format.proofs.WordLaws.{inside_from}
 use Rattle.ll_line.specs.Formats.{attributes_text, is_attribute_list, text_or_none}
 use Rattle.ll_line.specs.Line.{DateRange}
 use Rattle.ll_range.specs.Attributes.{is_id, are_allowed}
