@@ -10,11 +10,11 @@ use Rattle.ll_entry.specs.Entries.{entry_in}
 use Rattle.ll_entry.specs.Replies.{most}
 use Rattle.ll_entry.specs.declared.entry.Recorded.{Recorded}
 use Rattle.ll_item.specs.Settings.{Configuration}
-use Rattle.ll_record_laws.proofs.ChunkProof.{at_line, begun_is, first_line}
-use Rattle.ll_record_laws.proofs.LeadLemmas.{joined-right}
-use Rattle.ll_record_laws.proofs.ToldLemmas.{steps-many, told-right}
-use Rattle.ll_record_laws.specs.Leads.{IsOf}
-use Rattle.ll_record_laws.specs.Told.{entry_of}
+use Rattle.ll_entry.proofs.ChunkProof.{at_line, begun_is, first_line}
+use Rattle.ll_entry.proofs.LeadLemmas.{joined-right}
+use Rattle.ll_entry.proofs.ToldLemmas.{steps-many, told-right}
+use Rattle.ll_entry.specs.Leads.{IsOf}
+use Rattle.ll_entry.specs.Told.{entry_of}
 use Rattle.ll_verdict.specs.Events.{Event, steps_from}
 use Rattle.ll_check_laws.specs.Records.{Chunk, IsRecord, entries_in, lines_of}
 use Rattle.ll_check_laws.proofs.Few.{few}

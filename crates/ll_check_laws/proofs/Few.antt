@@ -9,8 +9,8 @@ use Rattle.ll_entry.specs.Entered.{event_of, fault_in, is_open_after, same_answe
 use Rattle.ll_entry.specs.declared.entry.Recorded.{Recorded}
 use Rattle.ll_entry.specs.declared.entry.Recorded.TheVariants as recorded
 use Rattle.ll_item.specs.Settings.{Configuration}
-use Rattle.ll_record_laws.proofs.ToldLemmas.{answered, both, same_answers, told-right}
-use Rattle.ll_record_laws.specs.Told.{entry_of}
+use Rattle.ll_entry.proofs.ToldLemmas.{answered, both, same_answers, told-right}
+use Rattle.ll_entry.specs.Told.{entry_of}
 use Rattle.ll_room.proofs.KeptLemmas.{short-filter}
 use Rattle.ll_verdict.specs.Full.{full_by, is_full}
 use Rattle.ll_verdict.proofs.StateLemmas.{state-snoc}

@@ -21,10 +21,10 @@ use Rattle.ll_item.proofs.SameLemmas.{settings_decided}
 use Rattle.ll_item.specs.Same.{same_settings}
 use Rattle.ll_item.specs.Settings.{Configuration, settings_in}
 use Rattle.ll_item.specs.declared.settings.SettingsFault.{SettingsFault}
-use Rattle.ll_record_laws.proofs.ChunkProof.{plain}
-use Rattle.ll_record_laws.proofs.ToldLemmas.{right-told}
-use Rattle.ll_record_laws.specs.Leads.{IsOf}
-use Rattle.ll_record_laws.specs.Told.{entry_of}
+use Rattle.ll_entry.proofs.ChunkProof.{plain}
+use Rattle.ll_entry.proofs.ToldLemmas.{right-told}
+use Rattle.ll_entry.specs.Leads.{IsOf}
+use Rattle.ll_entry.specs.Told.{entry_of}
 use Rattle.ll_verdict.specs.Events.{Event, steps_from}
 use Rattle.ll_check_laws.specs.Records.{Chunk, IsRecord, entries_in, lines_of}
 

@@ -7,7 +7,7 @@ use Rattle.ll_entry.specs.Chain.{checked}
 use Rattle.ll_entry.specs.Entries.{entry_in}
 use Rattle.ll_entry.specs.declared.entry.Recorded.{Recorded}
 use Rattle.ll_item.specs.Settings.{Configuration, settings_in}
-use Rattle.ll_record_laws.specs.Told.{entry_of}
+use Rattle.ll_entry.specs.Told.{entry_of}
 use Rattle.ll_verdict.specs.Events.{Event, steps}
 
 -- one chunk

@@ -5,7 +5,7 @@ use Rattle.std.proofs.lemmas.Grind.{flat_map-append}
 use Rattle.ll_script.specs.Answers.{sent_line}
 use Rattle.ll_session.specs.Talk.{SessionValue, fresh, refusal}
 use Rattle.ll_session.proofs.SplitLemmas.{taking-right}
-use Rattle.ll_world.specs.World.{World, repeat}
+use Rattle.ll_rooms.specs.World.{World, repeat}
 use Rattle.ll_connection.specs.Laws.{both}
 use Rattle.ll_connection.specs.Turn.{Connections, bytes, bytes_to, left, session_of, turn, with_session}
 use Rattle.ll_connection.specs.Visit.{Visit, arrived, came, enough, hand_all, step}

@@ -4,10 +4,10 @@ use Rattle.std.proofs.lemmas.Bool.Decides.{nat_tests}
 use Rattle.ll_channels.specs.Channels.{channel_of_name}
 use Rattle.ll_channels.proofs.NameLemmas.{named-within}
 use Rattle.ll_directive.specs.Targets.{WantValue}
-use Rattle.ll_held.specs.Waits.{is_same, wait_of, without}
-use Rattle.ll_held.specs.declared.owner.Owner.{Owner}
-use Rattle.ll_held.specs.declared.owner.Owner.TheVariants.{Get, Connection}
-use Rattle.ll_held.specs.declared.wait.Wait.{Wait}
+use Rattle.ll_rooms.specs.Waits.{is_same, wait_of, without}
+use Rattle.ll_rooms.specs.declared.owner.Owner.{Owner}
+use Rattle.ll_rooms.specs.declared.owner.Owner.TheVariants.{Get, Connection}
+use Rattle.ll_rooms.specs.declared.wait.Wait.{Wait}
 use Rattle.ll_item.specs.Settings.{Configuration}
 use Rattle.ll_verdict.specs.Full.{is_full}
 use Rattle.ll_session.specs.Past.{next_by, next_entries, overflows}
@@ -19,10 +19,10 @@ use Rattle.ll_verdict.specs.Verdict.{at_once, held}
 use Rattle.ll_verdict.specs.declared.reply.Reply.{Reply}
 use Rattle.ll_wire.specs.declared.answer.Answer.{Answer}
 use Rattle.ll_wire.specs.declared.answer.Answer.TheVariants as player
-use Rattle.ll_world.specs.World.{Channel, World, all_settings, ask_at, asked_if, close, close_at, close_of, repeat, silent}
-use Rattle.ll_world.specs.World as world
-use Rattle.ll_world.proofs.TieLemmas.{equal, none_some, same_test, some_is}
-use Rattle.ll_world.proofs.WaitLemmas.{IsOpen, ask-open, close-open, has_channel, once_each}
+use Rattle.ll_rooms.specs.World.{Channel, World, all_settings, ask_at, asked_if, close, close_at, close_of, repeat, silent}
+use Rattle.ll_rooms.specs.World as world
+use Rattle.ll_rooms.proofs.TieLemmas.{equal, none_some, same_test, some_is}
+use Rattle.ll_rooms.proofs.WaitLemmas.{IsOpen, ask-open, close-open, has_channel, once_each}
 use Rattle.ll_connection.proofs.CountLemmas.{count-less, count-more, is_its_own, none_waits, own_ticket}
 use Rattle.ll_connection.proofs.RoomsLaws.{asked-keeps}
 use Rattle.ll_connection.proofs.TurnLemmas.{found, kept_other}

@@ -4,8 +4,8 @@ use Rattle.std.specs.Prelude.{flat_map}
 use Rattle.std.proofs.lemmas.Grind.{flat_map-append}
 use Rattle.ll_directive.specs.Targets.{WantValue}
 use Rattle.ll_directive.specs.declared.fault.TargetFault.TheVariants.{NotFound}
-use Rattle.ll_held.specs.declared.owner.Owner.{Owner}
-use Rattle.ll_held.specs.declared.owner.Owner.TheVariants.{Connection}
+use Rattle.ll_rooms.specs.declared.owner.Owner.{Owner}
+use Rattle.ll_rooms.specs.declared.owner.Owner.TheVariants.{Connection}
 use Rattle.ll_item.specs.Settings.{Configuration}
 use Rattle.ll_script.specs.Answers.{sent_line}
 use Rattle.ll_channels.specs.Channels.{channel_of_name}
@@ -15,10 +15,10 @@ use Rattle.ll_session.specs.Talk.{SessionValue, fed, muted, next_want, pulled}
 use Rattle.ll_wire.specs.declared.answer.Answer.{Answer}
 use Rattle.ll_wire.specs.declared.answer.Answer.TheVariants as player
 use Rattle.ll_wire.specs.declared.answer.Unavailable.TheVariants.{Memory}
-use Rattle.ll_world.proofs.SettingsLaws.{ask-keeps, close-keeps}
-use Rattle.ll_world.specs.Kept.{Kept, Leads, answers_of, kept_world}
-use Rattle.ll_world.specs.World.{World, all_settings, ask, close, count_end, silent}
-use Rattle.ll_world.specs.declared.answer.Answer as rooms
+use Rattle.ll_rooms.proofs.SettingsLaws.{ask-keeps, close-keeps}
+use Rattle.ll_rooms.specs.Kept.{Kept, Leads, answers_of, kept_world}
+use Rattle.ll_rooms.specs.World.{World, all_settings, ask, close, count_end, silent}
+use Rattle.ll_rooms.specs.declared.answer.Answer as rooms
 use Rattle.ll_connection.proofs.RoomsLaws.{came-keeps, step-keeps}
 use Rattle.ll_connection.proofs.StepLemmas.{hand_all-still, hand_in-prefixed, prefixed, still_any, still_shut}
 use Rattle.ll_connection.specs.Stands.{AreTold, IsToldVisit, IsVisit, IsStill}

@@ -14,7 +14,7 @@ use Rattle.ll_session.proofs.TakingLemmas.{taking_at}
 use Rattle.ll_wire.specs.Heads.{HeadValue, Unfinished, Whole, Fault, head_of}
 use Rattle.ll_wire.specs.declared.answer.Answer.{Answer}
 use Rattle.ll_wire.proofs.HeadLemmas.{nothing_there, whole-within}
-use Rattle.ll_world.specs.World.{World, repeat}
+use Rattle.ll_rooms.specs.World.{World, repeat}
 use Rattle.ll_connection.specs.Visit.{Luck, Visit, answered_by, asked, came, enough, hand_all, hand_in, put_out, step}
 
 -- ---- what is taken

@@ -14,8 +14,8 @@ use Rattle.ll_session.specs.Talk.{SessionValue, fed, fresh, muted, next_want, pu
 use Rattle.ll_verdict.specs.declared.reply.Reply as verdict
 use Rattle.ll_wire.specs.declared.answer.Answer.{Answer}
 use Rattle.ll_wire.specs.declared.answer.Answer.TheVariants as player
-use Rattle.ll_world.specs.World.{World, repeat}
-use Rattle.ll_world.proofs.TieLemmas.{some_is}
+use Rattle.ll_rooms.specs.World.{World, repeat}
+use Rattle.ll_rooms.proofs.TieLemmas.{some_is}
 use Rattle.ll_connection.specs.Met.{outs}
 use Rattle.ll_connection.specs.Stands.{opened}
 use Rattle.ll_connection.specs.Talks.{IsTalked, TalkLaw}

@@ -6,8 +6,8 @@ use Rattle.std.proofs.lemmas.Bool.Decides.{nat_tests}
 use Rattle.indexmap.specs.IndexMap.{IndexMap, insert_entry}
 use Rattle.ll_session.specs.Talk.{SessionValue}
 use Rattle.ll_verdict.specs.declared.reply.Reply.{Reply}
-use Rattle.ll_world.specs.Kept.{Kept, kept_world}
-use Rattle.ll_world.specs.World.{World}
+use Rattle.ll_rooms.specs.Kept.{Kept, kept_world}
+use Rattle.ll_rooms.specs.World.{World}
 use Rattle.ll_connection.specs.Stands.{IsToldVisit, IsTurn, open_in, opened}
 use Rattle.ll_connection.specs.Turn.{Connections, Turn, bytes_to, end_of, left, nothing, reply_to, session_of, shut_text, turn, with_session}
 use Rattle.ll_connection.specs.Visit.{Luck, Visit, arrived}

@@ -1,6 +1,6 @@
 -- The laws of connections at the rooms.
 use Rattle.std.specs.Prelude.{◌≡◌, ℕ, ◌+◌, List, [], ◌++◌}
-use Rattle.ll_world.specs.World.{World}
+use Rattle.ll_rooms.specs.World.{World}
 use Rattle.ll_connection.specs.Turn.{Connections, Turn, bytes}
 use Rattle.ll_connection.specs.Visit.{Visit, arrived}
 

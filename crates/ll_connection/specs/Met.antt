@@ -1,8 +1,8 @@
 -- Which requests of connections wait, and which sessions have a want out.
 use Rattle.std.specs.Prelude.{◌≡◌, ℕ, List, Option, Some, None, Bool, filter, length}
-use Rattle.ll_held.specs.Waits.{is_of}
-use Rattle.ll_held.specs.declared.owner.Owner.TheVariants.{Connection}
-use Rattle.ll_held.specs.declared.wait.Wait.{Wait}
+use Rattle.ll_rooms.specs.Waits.{is_of}
+use Rattle.ll_rooms.specs.declared.owner.Owner.TheVariants.{Connection}
+use Rattle.ll_rooms.specs.declared.wait.Wait.{Wait}
 use Rattle.ll_session.specs.Talk.{SessionValue}
 use Rattle.ll_connection.specs.Turn.{Connections, session_of}
 

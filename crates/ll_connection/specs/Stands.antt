@@ -2,8 +2,8 @@
 use Rattle.std.specs.Prelude.{◌≡◌, ℕ, ◌+◌, ◌≤◌, ◌++◌, [], List, Option, None, Some, flat_map, length, min}
 use Rattle.ll_script.specs.Answers.{sent_line}
 use Rattle.ll_session.specs.Talk.{SessionValue, fresh}
-use Rattle.ll_world.specs.Kept.{Kept, kept_world}
-use Rattle.ll_world.specs.World.{World, count_end}
+use Rattle.ll_rooms.specs.Kept.{Kept, kept_world}
+use Rattle.ll_rooms.specs.World.{World, count_end}
 use Rattle.ll_connection.specs.Turn.{Connections, Turn}
 use Rattle.ll_connection.specs.Visit.{Luck, Visit, step}
 use Rattle.ll_connection.specs.declared.sent.Sent.{Sent}

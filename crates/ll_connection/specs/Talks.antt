@@ -4,7 +4,7 @@ use Rattle.std.specs.List.{concat}
 use Rattle.ll_script.specs.Answers.{sent_line}
 use Rattle.ll_session.specs.Past.{Call, Past, called}
 use Rattle.ll_verdict.specs.declared.reply.Reply.{Reply}
-use Rattle.ll_world.specs.World.{World}
+use Rattle.ll_rooms.specs.World.{World}
 use Rattle.ll_connection.specs.Stands.{opened}
 use Rattle.ll_connection.specs.Turn.{Connections, Turn, bytes, reply, session_of, shut_text, with_session}
 use Rattle.ll_connection.specs.Visit.{Luck}

@@ -1,11 +1,11 @@
 -- All connections of a script: what comes to one of them, and what is written for it.
 use Rattle.std.specs.Prelude.{ℕ, ◌==◌, List, [], ◌∷◌, ◌++◌, Bool, true, false, Option, Some, None, flat_map, if◌then◌else◌, length}
 use Rattle.std.specs.Map.{lookup}
-use Rattle.ll_held.specs.declared.owner.Owner.TheVariants.{Connection}
+use Rattle.ll_rooms.specs.declared.owner.Owner.TheVariants.{Connection}
 use Rattle.ll_script.specs.Answers.{sent_line, shut_line}
 use Rattle.ll_session.specs.Talk.{SessionValue, fresh}
 use Rattle.ll_verdict.specs.declared.reply.Reply.{Reply}
-use Rattle.ll_world.specs.World.{World, close}
+use Rattle.ll_rooms.specs.World.{World, close}
 use Rattle.ll_connection.specs.Visit.{Luck, Visit, arrived, released}
 
 -- the connections by their numbers, in order of opening; one that has ended has no session

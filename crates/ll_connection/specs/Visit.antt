@@ -2,7 +2,7 @@
 use Rattle.std.specs.Prelude.{ℕ, List, [], ◌∷◌, Bool, true, false, Option, Some, None, fold, length}
 use Rattle.ll_directive.specs.Targets.{WantValue}
 use Rattle.ll_directive.specs.declared.fault.TargetFault.TheVariants.{NotFound}
-use Rattle.ll_held.specs.declared.owner.Owner.TheVariants.{Connection}
+use Rattle.ll_rooms.specs.declared.owner.Owner.TheVariants.{Connection}
 use Rattle.ll_item.specs.Settings.{Configuration}
 use Rattle.ll_channels.specs.Channels.{channel_of_name}
 use Rattle.ll_session.specs.Past.{next_entries, overflows}
@@ -12,9 +12,9 @@ use Rattle.ll_verdict.specs.declared.reply.Reply.{Reply}
 use Rattle.ll_wire.specs.declared.answer.Answer.{Answer}
 use Rattle.ll_wire.specs.declared.answer.Answer.TheVariants as player
 use Rattle.ll_wire.specs.declared.answer.Unavailable.TheVariants.{Memory, RecordFull}
-use Rattle.ll_world.specs.World.{World, all_settings, ask, close, repeat, silent}
-use Rattle.ll_world.specs.declared.answer.Answer as rooms
-use Rattle.ll_world.specs.declared.answer.Answer.TheVariants.{Accepted, Refused, ClockRefused, Replied, Unavailable}
+use Rattle.ll_rooms.specs.World.{World, all_settings, ask, close, repeat, silent}
+use Rattle.ll_rooms.specs.declared.answer.Answer as rooms
+use Rattle.ll_rooms.specs.declared.answer.Answer.TheVariants.{Accepted, Refused, ClockRefused, Replied, Unavailable}
 
 -- the session of a connection; the channels of a script with the requests that wait in them
 pub record Visit : Type 0 where

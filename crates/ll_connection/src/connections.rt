@@ -1,8 +1,8 @@
 //! All connections of a script.
 ghost use Rattle.std.specs.Prelude.{List, ◌≡◌, ◌++◌, ◌==◌, [], None, Some, IfOk, OnOk, if◌then◌else◌};
 ghost use Rattle.std.specs.Map.{set_value};
-ghost use Rattle.ll_world.specs.Kept.{kept_world};
-ghost use Rattle.ll_world.specs.World.{World, all_settings};
+ghost use Rattle.ll_rooms.specs.Kept.{kept_world};
+ghost use Rattle.ll_rooms.specs.World.{World, all_settings};
 ghost use Rattle.ll_connection.specs.Turn as turn;
 ghost use Rattle.ll_connection.specs.Visit.{Luck};
 ghost use Rattle.ll_connection.specs.Stands.{IsTurn, open_in, opened};
@@ -11,11 +11,10 @@ use crate::open::Open;
 use crate::sent::Sent;
 use indexmap::IndexMap;
 use ll_channels::Declared;
-use ll_held::Owner;
+use ll_rooms::{Owner, Rooms};
 use ll_script::push_shut;
 use ll_session::Session;
 use ll_verdict::Reply;
-use ll_world::Rooms;
 use std::alloc::{AllocError, AllocFailed, Global};
 use std::marker::Model;
 

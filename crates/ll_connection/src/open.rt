@@ -1,20 +1,19 @@
 //! One connection that hasn't ended.
 ghost use Rattle.std.specs.Prelude.{List, Bool, ◌≡◌, ◌<◌, [], Ok, IfOk, OnOk, false, length, true};
 ghost use Rattle.ll_session.specs.Talk.{fed};
-ghost use Rattle.ll_world.specs.Kept.{answers_of, kept_world};
-ghost use Rattle.ll_world.specs.World.{World, all_settings};
+ghost use Rattle.ll_rooms.specs.Kept.{answers_of, kept_world};
+ghost use Rattle.ll_rooms.specs.World.{World, all_settings};
 ghost use Rattle.ll_connection.specs.Visit as visit;
 ghost use Rattle.ll_connection.specs.Stands.{AreTold, IsStill, IsToldVisit, IsVisit};
 
 use crate::sent::Sent;
 use ll_channels::Declared;
 use ll_directive::{TargetFault, Want};
-use ll_held::Owner;
+use ll_rooms::{Answer as Said, AskStop, Owner, Rooms};
 use ll_script::push_sent;
 use ll_session::Session;
 use ll_verdict::Reply;
 use ll_wire::{Answer, Unavailable};
-use ll_world::{Answer as Said, AskStop, Rooms};
 use std::alloc::AllocError;
 
 /// A connection with its session. It must be spent.

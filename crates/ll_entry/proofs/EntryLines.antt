@@ -12,8 +12,8 @@ use Rattle.ll_item.specs.Items.{item_in}
 use Rattle.ll_item.specs.Names.{is_name}
 use Rattle.ll_item.specs.Settings.{Configuration, limit_broken}
 use Rattle.ll_item.proofs.WithinLimits.{within}
-use Rattle.ll_spelling.specs.Laws.{ItemLaw}
-use Rattle.ll_spelling.specs.Lines.{item_line}
+use Rattle.ll_entry.specs.ItemLaws.{ItemLaw}
+use Rattle.ll_entry.specs.ItemLines.{item_line}
 use Rattle.ll_verdict.specs.declared.reply.Outcome.{Outcome}
 use Rattle.ll_entry.specs.Entries.{spaced, reply_fields, place_fields, ask_fields, collect_fields, want_by, ask_of, collect_of, entry_by, published, with_key, entry_in}
 use Rattle.ll_entry.specs.Lines.{msn_of, part_of, ask_values, entry_line, AwaitedWithin, IsSpelled}

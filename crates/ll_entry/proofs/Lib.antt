@@ -1,3 +1,16 @@
-pub mod ReplyLaws
+pub mod AcceptedItems
 pub mod ChainLemmas
+pub mod ChunkProof
+pub mod Cuts
 pub mod EntryLines
+pub mod ItemBack
+pub mod LeadLemmas
+pub mod Names
+pub mod Numbers
+pub mod RangeLine
+pub mod RangeTexts
+pub mod ReplyLaws
+pub mod SettingsBack
+pub mod ToldLemmas
+pub mod WritableProof
+pub mod Written

@@ -1,6 +1,11 @@
 pub mod Chain
 pub mod Entered
 pub mod Entries
+pub mod ItemLaws
+pub mod ItemLines
 pub mod Laws
+pub mod Leads
 pub mod Lines
 pub mod Replies
+pub mod Told
+pub mod Writable

@@ -6,7 +6,7 @@ use Rattle.ll_directive.specs.declared.want.Awaited.TheVariants.{Nothing, Segmen
 use Rattle.ll_directive.specs.declared.want.Skip.{Skip}
 use Rattle.ll_item.specs.Names.{is_name}
 use Rattle.ll_item.specs.Settings.{Configuration}
-use Rattle.ll_spelling.specs.Lines.{IsWritable, item_line}
+use Rattle.ll_entry.specs.ItemLines.{IsWritable, item_line}
 use Rattle.ll_verdict.specs.declared.reply.Outcome.{Outcome}
 use Rattle.ll_entry.specs.Entries.{ask_fields, collect_fields}
 use Rattle.ll_entry.specs.Replies.{HeldWithin, OutcomeWithin, most}

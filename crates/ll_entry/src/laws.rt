@@ -1,8 +1,48 @@
-ghost use Rattle.ll_spelling.specs.Laws.{ItemLaw};
+//! Facts of the definitions, proved; none of these does anything.
+ghost use Rattle.ll_entry.specs.ItemLaws.{ItemLaw, SettingsLaw};
 ghost use Rattle.ll_entry.specs.Laws.{EntryLaw};
+ghost use Rattle.ll_entry.specs.Leads.{ChunkLaw, EntryNextLaw, NextLaw, NothingLaw};
+ghost use Rattle.ll_entry.specs.Writable.{ItemWritableLaw};
+
+/// The line of an item is read as that item, and is one line: no CR or LF is in it.
+pub fn item_law()
+    ensures { ItemLaw }
+{}
+
+/// The line of settings is read as those settings, and is one line: no CR or LF is in it.
+pub fn settings_law()
+    ensures { SettingsLaw }
+{}
 
 /// What is written is read again. It does nothing: what it ensures is the law that the line of an entry is read as that entry,
 /// is one line, and isn't the last one of a chunk, wherever the line of an item is read as that item and is one line.
 pub fn entry_law()
     ensures { ItemLaw → EntryLaw }
+{}
+
+/// No lines lead from the events of a channel to the same events.
+pub fn nothing_law()
+    ensures { NothingLaw }
+{}
+
+/// Lines that lead from some events to others, and one more line that is right after those, lead to the events with its own.
+pub fn next_law()
+    ensures { NextLaw }
+{}
+
+/// Lines that lead from some events to others, and the line of an entry that is right after those, lead to the events with
+/// the one that the entry tells.
+pub fn entry_next_law()
+    ensures { EntryNextLaw }
+{}
+
+/// A chunk of lines that lead from the events before it to others is found right, and the check goes on with those.
+pub fn chunk_law()
+    ensures { ChunkLaw }
+{}
+
+/// An item that a channel accepts can be written on a line of its own: its duration is below 2^64, its ID stands on one line,
+/// and its attributes are read again with the ID in front of them.
+pub fn item_writable_law()
+    ensures { ItemWritableLaw }
 {}

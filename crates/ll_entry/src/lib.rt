@@ -1,15 +1,23 @@
 //! The entries of a channel's record, and the lines that spell them. Each entry tells one event, and what the reply came to where there
-//! was one.
+//! was one; an item and the settings of a channel have lines that `ll_item` reads back. Lines that are written one after another make
+//! chunks that a check finds right.
 #![tactic(auto)]
 
 mod entry;
 mod fault;
+mod item;
 mod laws;
 mod reading;
+mod settings;
 mod words;
 mod writing;
 
 pub use entry::{EntryFault, Recorded};
 pub use fault::{CheckFault, CheckKind};
-pub use laws::entry_law;
+pub use item::push_item;
+pub use laws::{
+    chunk_law, entry_law, entry_next_law, item_law, item_writable_law, next_law, nothing_law,
+    settings_law,
+};
+pub use settings::push_settings;
 pub use writing::{ask_line, clock_line, close_line, collect_line, publish_line};

@@ -7,13 +7,13 @@ ghost use Rattle.ll_entry.specs.Lines as spec;
 ghost use Rattle.ll_entry.specs.Lines.{IsSpelled, entry_line};
 ghost use Rattle.ll_entry.specs.Replies.{count, or_dash_text, or_held_text, outcome_text, skip_name};
 ghost use Rattle.ll_entry.specs.declared.entry.Recorded.TheVariants as recorded;
-ghost use Rattle.ll_spelling.specs.Lines.{HasAttributes};
+ghost use Rattle.ll_entry.specs.ItemLines.{HasAttributes};
 
+use crate::item::push_item;
 use arrayvec::ArrayString;
 use itoa::Buffer;
 use ll_directive::{Awaited, Skip, Want};
 use ll_item::{Item, Settings};
-use ll_spelling::push_item;
 use ll_verdict::Outcome;
 use std::alloc::{AllocError, Global};
 

@@ -14,7 +14,7 @@ use Rattle.ll_range.specs.Attributes.{is_id, are_allowed}
 use Rattle.ll_laws.proofs.LineLemmas.{IsSound, utf8-ascii}
 use Rattle.ll_page.proofs.RangeTexts.{read-with_id, quotable-id}
 use Rattle.ll_laws.proofs.TextLemmas.{some_test}
-use Rattle.ll_spelling.proofs.RangeLine.{list-line}
+use Rattle.ll_entry.proofs.RangeLine.{list-line}
 
 rest_within : (text : List ℕ) → is_one_line text ≡ true → Where (λ text. is_rest text ≡ true) (text_or_none text)
 rest_within [] h = tt

@@ -10,5 +10,5 @@ mod workers;
 
 pub use fault::LinkFault;
 pub use gate::Gate;
-pub use ll_peer::{Link, Role, Source};
+pub use ll_device::{Link, Role, Source};
 pub use workers::{serve_link, serve_link_within, serve_links};

@@ -14,10 +14,9 @@ use crate::desk::{Desk, HandedOut};
 use crate::fault::LinkFault;
 use crate::gate::Gate;
 use crate::workers::PIECE;
-use ll_device::write_all;
+use ll_device::{Link, write_all};
 use ll_hub::{HubFault, Ledgers, Pass, RoomFault, Sink};
 use ll_item::{Item, ItemFault, Settings};
-use ll_peer::Link;
 use ll_publish::{Feed, Line, Refusal, reply_text};
 use std::sync::Wait;
 

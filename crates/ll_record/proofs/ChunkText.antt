@@ -6,11 +6,11 @@ use Rattle.ll_attr.specs.Words.{pieces_at}
 use Rattle.ll_entry.specs.Chain.{Between, checked_from}
 use Rattle.ll_entry.specs.Replies.{most}
 use Rattle.ll_item.specs.Settings.{Configuration, limit_broken}
-use Rattle.ll_record_laws.proofs.ChunkProof.{chunk}
-use Rattle.ll_record_laws.specs.Leads.{IsLed, chunk_text}
+use Rattle.ll_entry.proofs.ChunkProof.{chunk}
+use Rattle.ll_entry.specs.Leads.{IsLed, chunk_text}
 use Rattle.ll_room.specs.Home.{Home}
-use Rattle.ll_spelling.proofs.SettingsBack.{settings_back}
-use Rattle.ll_spelling.specs.Lines.{settings_line}
+use Rattle.ll_entry.proofs.SettingsBack.{settings_back}
+use Rattle.ll_entry.specs.ItemLines.{settings_line}
 use Rattle.ll_verdict.specs.Events.{Event}
 use Rattle.ll_record.specs.Chunk.{ChunkValue, IsFaithful}
 use Rattle.ll_record.specs.Recording.{IsRecorded, Recording}

@@ -12,12 +12,12 @@ use Rattle.ll_entry.specs.Laws.{EntryLaw}
 use Rattle.ll_entry.specs.Lines.{IsSpelled, entry_line}
 use Rattle.ll_entry.specs.declared.entry.Recorded.{Recorded}
 use Rattle.ll_item.specs.Settings.{Configuration, limit_broken}
-use Rattle.ll_record_laws.proofs.LeadLemmas.{entry-next}
-use Rattle.ll_record_laws.proofs.ToldLemmas.{right-told, steps-many}
-use Rattle.ll_record_laws.specs.Leads.{IsLed, with_end}
-use Rattle.ll_record_laws.specs.Told.{can_happen, entry_of, line_of}
+use Rattle.ll_entry.proofs.LeadLemmas.{entry-next}
+use Rattle.ll_entry.proofs.ToldLemmas.{right-told, steps-many}
+use Rattle.ll_entry.specs.Leads.{IsLed, with_end}
+use Rattle.ll_entry.specs.Told.{can_happen, entry_of, line_of}
 use Rattle.ll_room.specs.Home.{Home, IsSame, Stands, home}
-use Rattle.ll_spelling.proofs.ItemBack.{item_back}
+use Rattle.ll_entry.proofs.ItemBack.{item_back}
 use Rattle.ll_verdict.proofs.StepLemmas.{at, steps-snoc}
 use Rattle.ll_verdict.specs.Events.{Event, Step, steps}
 use Rattle.ll_verdict.specs.State.{state_of}

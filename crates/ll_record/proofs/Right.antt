@@ -24,7 +24,7 @@ use Rattle.ll_verdict.specs.Verdict.{at_once, held, reply_of}
 use Rattle.ll_verdict.specs.declared.reply.Outcome.{Outcome}
 use Rattle.ll_verdict.specs.declared.reply.Reply.{Reply}
 use Rattle.ll_verdict.specs.declared.reply.Settled.{Settled}
-use Rattle.ll_record_laws.proofs.ToldLemmas.{own, right, same-answer}
+use Rattle.ll_entry.proofs.ToldLemmas.{own, right, same-answer}
 use Rattle.ll_record.specs.Recording.{of_channel}
 
 its_asks : (h : Home) (events : List Event) → Stands h events → h.asks ≡ asks events

@@ -8,7 +8,7 @@ use Rattle.ll_entry.specs.declared.entry.Recorded.{Recorded}
 use Rattle.ll_entry.specs.declared.entry.Recorded.TheVariants as recorded
 use Rattle.ll_item.specs.Settings.{Configuration, limit_broken}
 use Rattle.ll_item.specs.declared.item.Item.{Item}
-use Rattle.ll_record_laws.proofs.WritableProof.{item-writable}
+use Rattle.ll_entry.proofs.WritableProof.{item-writable}
 use Rattle.ll_room.proofs.AcceptLemmas.{refusal-told}
 use Rattle.ll_room.specs.Answers as room
 use Rattle.ll_verdict.specs.Full.{is_full}
@@ -18,7 +18,7 @@ use Rattle.ll_room.specs.Mark.{Mark}
 use Rattle.ll_room.specs.Ticket.{Ticket}
 use Rattle.ll_room.specs.declared.asked.Closed.TheVariants as given_up
 use Rattle.ll_room.specs.declared.asked.Collected.TheVariants.{Got}
-use Rattle.ll_spelling.specs.Lines.{HasAttributes}
+use Rattle.ll_entry.specs.ItemLines.{HasAttributes}
 use Rattle.ll_verdict.proofs.StateLemmas.{state-snoc}
 use Rattle.ll_verdict.specs.Events.{Event, Publish, Ask, Clock, Collect, Close}
 use Rattle.ll_verdict.specs.Outcome.{outcome_of}

@@ -2,7 +2,7 @@
 use Rattle.std.specs.Prelude.{◌≡◌, ◌+◌, ℕ, List, [], ◌++◌, take}
 use Rattle.ll_attr.specs.Words.{pieces_at}
 use Rattle.ll_entry.specs.Chain.{Between, Chain, chain_of, checked_from}
-use Rattle.ll_record_laws.specs.Leads.{IsOf, chunk_text}
+use Rattle.ll_entry.specs.Leads.{IsOf, chunk_text}
 use Rattle.ll_verdict.specs.Events.{Event}
 use Rattle.ll_record.specs.Recording.{Recording}
 

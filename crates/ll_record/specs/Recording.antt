@@ -4,8 +4,8 @@ use Rattle.std.specs.List.{flat_map, list_all}
 use Rattle.ll_directive.specs.Targets.{WantValue}
 use Rattle.ll_item.specs.Settings.{Configuration}
 use Rattle.ll_item.specs.declared.item.Item.{Item}
-use Rattle.ll_record_laws.specs.Leads.{IsLed}
-use Rattle.ll_record_laws.specs.Told.{can_happen, line_of}
+use Rattle.ll_entry.specs.Leads.{IsLed}
+use Rattle.ll_entry.specs.Told.{can_happen, line_of}
 use Rattle.ll_verdict.specs.Full.{full_by, refusal_after}
 use Rattle.ll_room.specs.Home.{Home, IsSame, Stands}
 use Rattle.ll_rendition.specs.Refusal.{first_refusal}

@@ -10,7 +10,7 @@ ghost use Rattle.ll_room.specs.Answers.{asked, new_tickets, others};
 ghost use Rattle.ll_verdict.specs.Full.{event_end, is_full};
 ghost use Rattle.ll_room.specs.Home.{tickets};
 ghost use Rattle.ll_room.specs.declared.stamped.Stamp.TheVariants as stamp;
-ghost use Rattle.ll_spelling.specs.Lines.{HasAttributes};
+ghost use Rattle.ll_entry.specs.ItemLines.{HasAttributes};
 ghost use Rattle.ll_verdict.specs.Events.{Event, Ask, Clock, Publish};
 ghost use Rattle.ll_verdict.specs.Verdict.{at_once, held};
 

@@ -1,11 +1,11 @@
 //! A record that was handed out.
 ghost use Rattle.std.specs.Prelude.{◌≡◌, ◌++◌, IfOk, codes, decimal, string_bytes, true};
 ghost use Rattle.std.specs.Str.{is_utf8};
-ghost use Rattle.ll_record_laws.specs.Leads.{chunk_text};
-ghost use Rattle.ll_spelling.specs.Lines.{settings_line};
+ghost use Rattle.ll_entry.specs.Leads.{chunk_text};
+ghost use Rattle.ll_entry.specs.ItemLines.{settings_line};
 
 use ll_item::Settings;
-use ll_spelling::push_settings;
+use ll_entry::push_settings;
 use std::alloc::{AllocError, Global};
 use std::marker::Model;
 

@@ -2,7 +2,7 @@
 ghost use Rattle.std.specs.Prelude.{◌≡◌, ◌≤◌, ◌+◌, ◌*◌, ◌++◌, [], OnOk, length, true};
 ghost use Rattle.std.specs.Str.{is_utf8};
 ghost use Rattle.ll_record.specs.Kept.{spare};
-ghost use Rattle.ll_record_laws.specs.Leads.{with_end};
+ghost use Rattle.ll_entry.specs.Leads.{with_end};
 
 use std::alloc::{AllocError, Global};
 use std::marker::Model;

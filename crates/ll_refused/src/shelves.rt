@@ -2,7 +2,7 @@
 use crate::calls::{Tried, UNTRIED, judge};
 use crate::rows::Row;
 use crate::tools::Tools;
-use ll_held::Shelf;
+use ll_rooms::Shelf;
 use ll_room::Parked;
 use std::sync::Wait;
 

@@ -3,7 +3,7 @@ use crate::calls::{Tried, UNTRIED, judge};
 use crate::rows::{Answer, Made, PART, Row, SECOND, answer_of, item, want};
 use crate::shelves::empty;
 use crate::tools::{Tools, idle_room};
-use ll_held::Shelf;
+use ll_rooms::Shelf;
 use ll_room::{Asked, Closed, Collected, Parked, Room};
 use std::sync::Wait;
 

@@ -10,7 +10,7 @@ use Rattle.ll_directive.specs.Targets.{WantValue}
 use Rattle.ll_script.specs.Lines.{starved}
 use Rattle.ll_script.specs.declared.act.Act.{Act}
 use Rattle.ll_script.specs.declared.act.Act.TheVariants.{Ask, Bytes}
-use Rattle.ll_world.specs.Kept as rooms
+use Rattle.ll_rooms.specs.Kept as rooms
 use Rattle.ll_replay.specs.Cuts.{IsCutBetween}
 use Rattle.ll_replay.specs.Kept.{IsDone, Keeps, Kept, Says, Stands, met, told}
 use Rattle.ll_replay.specs.Script.{Lot, Script, act, makes_due, plain, says}

@@ -3,11 +3,11 @@ use Rattle.std.proofs.Common.{◌≡◌, ℕ, ◌+◌, [], ◌++◌, Option, Som
 use Rattle.std.specs.Prelude.{flat_map, Result, Ok, Err, IfOk}
 use Rattle.std.specs.declared.alloc.Global.{Global}
 use Rattle.std.specs.declared.vec.Vec.{Vec}
-use Rattle.ll_world.specs.Kept as rooms
-use Rattle.ll_world.specs.Kept.{Leads, answers_of}
-use Rattle.ll_world.specs.World as world
-use Rattle.ll_world.specs.World.{all_settings, count_end, silent}
-use Rattle.ll_world.specs.declared.answer.Answer.{Answer}
+use Rattle.ll_rooms.specs.Kept as rooms
+use Rattle.ll_rooms.specs.Kept.{Leads, answers_of}
+use Rattle.ll_rooms.specs.World as world
+use Rattle.ll_rooms.specs.World.{all_settings, count_end, silent}
+use Rattle.ll_rooms.specs.declared.answer.Answer.{Answer}
 use Rattle.ll_replay.specs.Kept.{Keeps, Kept, Says, kept_script, told}
 use Rattle.ll_replay.specs.Script.{Script, asked_under, heard, reply_count, spelled}
 

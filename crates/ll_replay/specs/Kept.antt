@@ -5,8 +5,8 @@ use Rattle.std.specs.declared.vec.Vec.{Vec}
 use Rattle.std.specs.Io.KnownBytes.{Appends}
 use Rattle.ll_connection.specs.Turn.{Connections}
 use Rattle.ll_item.specs.Settings.{Configuration}
-use Rattle.ll_world.specs.Kept as rooms
-use Rattle.ll_world.specs.World as rooms_world
+use Rattle.ll_rooms.specs.Kept as rooms
+use Rattle.ll_rooms.specs.World as rooms_world
 use Rattle.ll_script.specs.Lines.{starved}
 use Rattle.ll_script.specs.declared.act.Act.{Act}
 use Rattle.ll_replay.specs.declared.driver.Done.{Done}

@@ -2,8 +2,8 @@
 use Rattle.std.specs.Prelude.{ℕ, zero, suc, ◌+◌, List, [], ◌∷◌, ◌++◌, Bool, true, false, Option, Some, None, length, filter, flat_map, fold, if◌then◌else◌, min, nat_lt}
 use Rattle.ll_connection.specs.Turn as connection
 use Rattle.ll_connection.specs.Visit.{Luck}
-use Rattle.ll_held.specs.declared.owner.Owner.{Owner}
-use Rattle.ll_held.specs.declared.owner.Owner.TheVariants.{Get, Connection}
+use Rattle.ll_rooms.specs.declared.owner.Owner.{Owner}
+use Rattle.ll_rooms.specs.declared.owner.Owner.TheVariants.{Get, Connection}
 use Rattle.ll_room.specs.declared.fault.ClockFault.{ClockFault}
 use Rattle.ll_room.specs.declared.fault.ClockFault.TheVariants as fault
 use Rattle.ll_publish.specs.Refusals.{no_line, ok_line, refusal_of}
@@ -14,11 +14,11 @@ use Rattle.ll_script.specs.declared.act.Act.TheVariants.{Declare, Offer, Refuse,
 use Rattle.ll_script.specs.declared.ask.AskRefusal.TheVariants as unasked
 use Rattle.ll_script.specs.declared.clock.ClockRefusal.{ClockRefusal}
 use Rattle.ll_script.specs.declared.clock.ClockRefusal.TheVariants as refused
-use Rattle.ll_world.specs.World as rooms
+use Rattle.ll_rooms.specs.World as rooms
 use Rattle.ll_verdict.specs.declared.reply.Reply.{Reply}
-use Rattle.ll_world.specs.World.{all_settings, silent}
-use Rattle.ll_world.specs.declared.answer.Answer as answer
-use Rattle.ll_world.specs.declared.answer.Answer.TheVariants as said
+use Rattle.ll_rooms.specs.World.{all_settings, silent}
+use Rattle.ll_rooms.specs.declared.answer.Answer as answer
+use Rattle.ll_rooms.specs.declared.answer.Answer.TheVariants as said
 use Rattle.ll_replay.specs.declared.outcome.Summary.{Summary}
 
 -- what ends a script before its last line: the number of the line, from 1

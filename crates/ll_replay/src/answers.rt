@@ -4,19 +4,18 @@ ghost use Rattle.std.specs.Io.KnownBytes.{Appends};
 ghost use Rattle.ll_connection.specs.Visit.{Luck};
 ghost use Rattle.ll_device.specs.Written.{AppendsPrefix};
 ghost use Rattle.ll_publish.specs.Refusals as refusals;
-ghost use Rattle.ll_world.specs.Kept.{answers_of};
+ghost use Rattle.ll_rooms.specs.Kept.{answers_of};
 ghost use Rattle.ll_replay.specs.Kept.{told};
 ghost use Rattle.ll_replay.specs.Script.{Script};
 ghost use Rattle.ll_replay.specs.Script as script;
 
 use crate::outcome::RunFault;
 use ll_device::{Failed, Writer, write_all};
-use ll_held::Owner;
 use ll_publish::{Refusal, no_line, ok_line};
 use ll_room::ClockFault;
+use ll_rooms::{Answer, Owner};
 use ll_script::{AskRefusal, ClockRefusal, clock_line, reply_lines, unasked_line};
 use ll_verdict::Reply;
-use ll_world::Answer;
 use std::alloc::{AllocError, Global};
 
 /// The reply that goes to a connection, and the connection's number; any other answer is handed back.

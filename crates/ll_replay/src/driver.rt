@@ -3,8 +3,8 @@ ghost use Rattle.std.specs.Prelude.{◌≡◌, ◌<◌, ◌+◌, ◌-◌, ◌^�
 ghost use Rattle.ll_script.specs.Lines.{clocks_from, meant_acts, starved};
 ghost use Rattle.ll_connection.specs.Turn as connection;
 ghost use Rattle.ll_connection.specs.Visit.{Luck};
-ghost use Rattle.ll_world.specs.Kept.{answers_of};
-ghost use Rattle.ll_world.specs.World as rooms;
+ghost use Rattle.ll_rooms.specs.Kept.{answers_of};
+ghost use Rattle.ll_rooms.specs.World as rooms;
 ghost use Rattle.ll_replay.specs.Script.{Lot, Script, start, line, summary_of};
 ghost use Rattle.ll_replay.specs.Script as script;
 ghost use Rattle.ll_replay.specs.Kept.{IsDone, Keeps, Says, Stands, met};
@@ -16,12 +16,11 @@ use ll_channels::Declared;
 use ll_connection::{Connections, Sent};
 use ll_device::Writer;
 use ll_directive::{TargetFault, Want};
-use ll_held::Owner;
 use ll_item::{Item, Settings};
 use ll_publish::Refusal;
+use ll_rooms::{Answer, AskStop, Owner, Rooms};
 use ll_script::{Act, Acts, ClockRefusal, LineFault, clock_line, fault_line, read_line};
 use ll_verdict::Reply;
-use ll_world::{Answer, AskStop, Rooms};
 use std::alloc::{AllocError, Global};
 use std::marker::Model;
 

@@ -1,9 +1,8 @@
 //! Requests that wait in a channel, step by step.
 use ll_directive::read_target;
-use ll_held::Owner;
 use ll_item::{Item, Settings};
+use ll_rooms::{Answer, Owner, Rooms};
 use ll_verdict::Reply;
-use ll_world::{Answer, Rooms};
 use std::alloc::Global;
 use std::process::Abort;
 use std::test::Fail;

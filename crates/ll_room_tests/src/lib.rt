@@ -1,4 +1,4 @@
-//! Tests of `ll_room` and `ll_world`. They stand here so that neither is proved a second time for its tests.
+//! Tests of `ll_room` and `ll_rooms`. They stand here so that neither is proved a second time for its tests.
 #![tactic(auto)]
 
 #[cfg(test)]

@@ -1,8 +1,8 @@
 //! Rooms, and the values that stand for the requests that wait in them.
 use ll_directive::read_target;
-use ll_held::Shelf;
 use ll_item::{Item, Settings};
 use ll_room::{Asked, Closed, Collected, Parked, Room, Stamped};
+use ll_rooms::Shelf;
 use ll_verdict::Reply;
 use std::alloc::Global;
 use std::process::Abort;

@@ -8,10 +8,10 @@ use Rattle.ll_connection.specs.Met.{waiting_of}
 use Rattle.ll_connection.specs.Visit as visit
 use Rattle.ll_connection.specs.Visit.{ask_in, asked, first_spoken}
 use Rattle.ll_directive.specs.Targets.{WantValue}
-use Rattle.ll_held.specs.Waits.{is_of, is_same, is_under, under, wait_of, without}
-use Rattle.ll_held.specs.declared.owner.Owner.{Owner}
-use Rattle.ll_held.specs.declared.owner.Owner.TheVariants.{Get, Connection}
-use Rattle.ll_held.specs.declared.wait.Wait.{Wait}
+use Rattle.ll_rooms.specs.Waits.{is_of, is_same, is_under, under, wait_of, without}
+use Rattle.ll_rooms.specs.declared.owner.Owner.{Owner}
+use Rattle.ll_rooms.specs.declared.owner.Owner.TheVariants.{Get, Connection}
+use Rattle.ll_rooms.specs.declared.wait.Wait.{Wait}
 use Rattle.ll_item.specs.Settings.{Configuration}
 use Rattle.ll_verdict.specs.Full.{is_full}
 use Rattle.ll_verdict.specs.Events.{Event, Publish, Ask, Collect, Close, Clock, asks, counted}
@@ -22,10 +22,10 @@ use Rattle.ll_verdict.proofs.ListLemmas.{Each, each-append, each-map}
 use Rattle.ll_wire.specs.declared.answer.Answer.{Answer}
 use Rattle.ll_wire.specs.declared.answer.Answer.TheVariants as player
 use Rattle.ll_wire.specs.declared.answer.Unavailable.TheVariants as out
-use Rattle.ll_world.specs.World.{Channel, World, all_settings, ask_at, asked_if, close, close_at, close_of, first_due, silent, with_event}
-use Rattle.ll_world.specs.World as rooms
-use Rattle.ll_world.proofs.SettingsLaws.{set_keeps}
-use Rattle.ll_world.proofs.TieLemmas.{equal, get_set, none_some, some_is, turn}
+use Rattle.ll_rooms.specs.World.{Channel, World, all_settings, ask_at, asked_if, close, close_at, close_of, first_due, silent, with_event}
+use Rattle.ll_rooms.specs.World as rooms
+use Rattle.ll_rooms.proofs.SettingsLaws.{set_keeps}
+use Rattle.ll_rooms.proofs.TieLemmas.{equal, get_set, none_some, some_is, turn}
 use Rattle.ll_script_laws.proofs.GrowLemmas.{Grows, event-grows, since}
 use Rattle.ll_script_laws.proofs.ReplyLemmas.{IsAsked, held_asked}
 use Rattle.ll_script_laws.specs.Verdicts.{Full, IsAnswer, IsNamed, Memory, Replied, Unknown, later_by, verdict}

@@ -20,10 +20,10 @@ use Rattle.ll_verdict.proofs.ListLemmas.{Each, each-append}
 use Rattle.ll_verdict.proofs.StateLemmas.{state-snoc}
 use Rattle.ll_verdict.proofs.StepLemmas.{along}
 use Rattle.ll_window.specs.Segments.{own}
-use Rattle.ll_world.specs.World.{Channel, first_due, with_event}
-use Rattle.ll_world.proofs.DueLemmas.{first_is, reply_is}
-use Rattle.ll_world.proofs.TieLemmas.{none_some}
-use Rattle.ll_world.proofs.WaitLemmas.{due_told}
+use Rattle.ll_rooms.specs.World.{Channel, first_due, with_event}
+use Rattle.ll_rooms.proofs.DueLemmas.{first_is, reply_is}
+use Rattle.ll_rooms.proofs.TieLemmas.{none_some}
+use Rattle.ll_rooms.proofs.WaitLemmas.{due_told}
 
 -- ---- what has no reply yet has none at hand
 

@@ -7,22 +7,22 @@ use Rattle.ll_connection.specs.Visit.{Luck}
 use Rattle.ll_connection.proofs.CountLemmas.{count-less, count-more, is_its_own, own_ticket}
 use Rattle.ll_connection.proofs.MetLemmas.{AreMet, HasOut, bytes-met, end-met, few_out, has_out, reply-met}
 use Rattle.ll_session.specs.Talk.{SessionValue}
-use Rattle.ll_held.specs.Waits.{is_of, is_same, under, wait_of, without}
-use Rattle.ll_held.specs.declared.owner.Owner.{Owner}
-use Rattle.ll_held.specs.declared.owner.Owner.TheVariants.{Get, Connection}
-use Rattle.ll_held.specs.declared.wait.Wait.{Wait}
+use Rattle.ll_rooms.specs.Waits.{is_of, is_same, under, wait_of, without}
+use Rattle.ll_rooms.specs.declared.owner.Owner.{Owner}
+use Rattle.ll_rooms.specs.declared.owner.Owner.TheVariants.{Get, Connection}
+use Rattle.ll_rooms.specs.declared.wait.Wait.{Wait}
 use Rattle.ll_script.specs.declared.act.Act.{Act}
 use Rattle.ll_script.specs.declared.act.Act.TheVariants.{Declare, Offer, Refuse, Ask, Answer, Close, Clock, RefuseClock, Bytes, Drop}
 use Rattle.ll_verdict.specs.Events.{Collect, asks}
 use Rattle.ll_verdict.specs.Verdict.{Request, reply, reply_of, at_once, held}
 use Rattle.ll_verdict.specs.declared.reply.Reply.{Reply}
 use Rattle.ll_verdict.specs.declared.reply.Settled.{Settled}
-use Rattle.ll_world.specs.World as rooms
-use Rattle.ll_world.specs.World.{Channel, World, first_due, happens, tick_at, tick_of, told, told_to, waits_less}
-use Rattle.ll_world.specs.declared.answer.Answer as answer
-use Rattle.ll_world.specs.declared.answer.Answer.TheVariants as said
-use Rattle.ll_world.proofs.TieLemmas.{none_some, same_test, some_is}
-use Rattle.ll_world.proofs.WaitLemmas.{IsOpen, ask-open, clock-open, close-open, declare-open, due_waits, offer-open, opens, tick-open, due_told, once_each}
+use Rattle.ll_rooms.specs.World as rooms
+use Rattle.ll_rooms.specs.World.{Channel, World, first_due, happens, tick_at, tick_of, told, told_to, waits_less}
+use Rattle.ll_rooms.specs.declared.answer.Answer as answer
+use Rattle.ll_rooms.specs.declared.answer.Answer.TheVariants as said
+use Rattle.ll_rooms.proofs.TieLemmas.{none_some, same_test, some_is}
+use Rattle.ll_rooms.proofs.WaitLemmas.{IsOpen, ask-open, clock-open, close-open, declare-open, due_waits, offer-open, opens, tick-open, due_told, once_each}
 use Rattle.ll_replay.specs.Script.{Ending, Lot, Marked, Script, act, done, heard, passed_on, start, tick, turned}
 use Rattle.ll_replay.specs.Stream.{come_to}
 use Rattle.ll_directive.specs.Targets.{WantValue}

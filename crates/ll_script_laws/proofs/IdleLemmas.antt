@@ -7,7 +7,7 @@ use Rattle.ll_connection.proofs.MetLemmas.{pulled_none}
 use Rattle.ll_connection.proofs.StepLemmas.{hand_all-is, shrinks, still}
 use Rattle.ll_connection.proofs.TurnLemmas.{found, kept_other}
 use Rattle.ll_directive.specs.Targets.{WantValue}
-use Rattle.ll_held.specs.declared.owner.Owner.TheVariants.{Get, Connection}
+use Rattle.ll_rooms.specs.declared.owner.Owner.TheVariants.{Get, Connection}
 use Rattle.ll_script.specs.declared.act.Act.{Act}
 use Rattle.ll_script.specs.declared.act.Act.TheVariants.{Bytes, Drop}
 use Rattle.ll_session.specs.Requests.{requests}
@@ -15,11 +15,11 @@ use Rattle.ll_session.specs.Talk.{SessionValue, fresh, next_want, pulled}
 use Rattle.ll_session.proofs.SplitLemmas.{none_is_left}
 use Rattle.ll_verdict.specs.declared.reply.Reply.{Reply}
 use Rattle.ll_wire.specs.declared.answer.Answer.TheVariants as player
-use Rattle.ll_world.specs.World as rooms
-use Rattle.ll_world.specs.World.{World, repeat}
-use Rattle.ll_world.specs.declared.answer.Answer as answer
-use Rattle.ll_world.specs.declared.answer.Answer.TheVariants as said
-use Rattle.ll_world.proofs.TieLemmas.{equal, none_some, some_is}
+use Rattle.ll_rooms.specs.World as rooms
+use Rattle.ll_rooms.specs.World.{World, repeat}
+use Rattle.ll_rooms.specs.declared.answer.Answer as answer
+use Rattle.ll_rooms.specs.declared.answer.Answer.TheVariants as said
+use Rattle.ll_rooms.proofs.TieLemmas.{equal, none_some, some_is}
 use Rattle.ll_replay.specs.Script.{Script, act, heard, passed_on, start, turned}
 use Rattle.ll_script_laws.proofs.ScriptLemmas.{done-keeps, lines-keep}
 use Rattle.ll_script_laws.proofs.ServeLemmas.{pulled_on}

@@ -4,9 +4,9 @@ use Rattle.ll_verdict.specs.Waiting.{is_ready, ticket_in}
 use Rattle.ll_connection.proofs.RoomsLaws.{bytes-keeps, end-keeps, reply-keeps}
 use Rattle.ll_connection.specs.Visit.{Luck}
 use Rattle.ll_directive.specs.Targets.{WantValue}
-use Rattle.ll_held.specs.declared.owner.Owner.{Owner}
-use Rattle.ll_held.specs.declared.owner.Owner.TheVariants.{Get, Connection}
-use Rattle.ll_held.specs.declared.wait.Wait.{Wait}
+use Rattle.ll_rooms.specs.declared.owner.Owner.{Owner}
+use Rattle.ll_rooms.specs.declared.owner.Owner.TheVariants.{Get, Connection}
+use Rattle.ll_rooms.specs.declared.wait.Wait.{Wait}
 use Rattle.ll_item.specs.Settings.{Configuration}
 use Rattle.ll_item.specs.declared.item.Item.{Item}
 use Rattle.ll_verdict.specs.Full.{refusal_after}
@@ -22,14 +22,14 @@ use Rattle.ll_verdict.specs.declared.entry.Slot.{Slot}
 use Rattle.ll_rendition.specs.declared.fault.PublishFault.{PublishFault}
 use Rattle.ll_verdict.specs.declared.reply.Reply.{Reply}
 use Rattle.ll_verdict.proofs.ListLemmas.{Each, each-append}
-use Rattle.ll_world.specs.Kept.{is_in, ticket_of, tickets_at}
-use Rattle.ll_world.specs.World as rooms
-use Rattle.ll_world.specs.World.{Channel, World, all_settings, silent, with_event}
-use Rattle.ll_world.specs.declared.answer.Answer as answer
-use Rattle.ll_world.specs.declared.answer.Answer.TheVariants as said
-use Rattle.ll_world.proofs.EventLaws as events
-use Rattle.ll_world.proofs.TieLemmas.{equal, get_other, get_set, none_some, same_test, some_is}
-use Rattle.ll_world.proofs.WaitLemmas.{IsOpen, opens}
+use Rattle.ll_rooms.specs.Kept.{is_in, ticket_of, tickets_at}
+use Rattle.ll_rooms.specs.World as rooms
+use Rattle.ll_rooms.specs.World.{Channel, World, all_settings, silent, with_event}
+use Rattle.ll_rooms.specs.declared.answer.Answer as answer
+use Rattle.ll_rooms.specs.declared.answer.Answer.TheVariants as said
+use Rattle.ll_rooms.proofs.EventLaws as events
+use Rattle.ll_rooms.proofs.TieLemmas.{equal, get_other, get_set, none_some, same_test, some_is}
+use Rattle.ll_rooms.proofs.WaitLemmas.{IsOpen, opens}
 use Rattle.ll_replay.specs.Script.{Lot, Marked, Script, act, done, done_as, heard, line, passed_on, passed_to, rest_at, so_many, start, tick}
 use Rattle.ll_script_laws.proofs.ActLemmas.{AreSound, IsSound, acts-sound, starved-sound}
 use Rattle.ll_script_laws.proofs.CalmLemmas.{IsCalm, IsSilent, calm-none, none-calm, silent-calm, told-calm}

@@ -6,7 +6,7 @@ use Rattle.std.proofs.lemmas.Grind.{flat_map-append}
 use Rattle.ll_connection.specs.Turn.{shut_text}
 use Rattle.ll_replay.specs.Script.{spelled}
 use Rattle.ll_script.specs.Answers.{sent_line}
-use Rattle.ll_world.specs.declared.answer.Answer as answer
+use Rattle.ll_rooms.specs.declared.answer.Answer as answer
 use Rattle.ll_script_laws.specs.Talks.{Part, Said, Sent, Shut, part_text, sent_by}
 
 -- the answers of a turn, and whether the connection has shut

@@ -6,17 +6,17 @@ use Rattle.ll_connection.specs.Turn.{Turn, bytes}
 use Rattle.ll_connection.specs.Visit.{Luck}
 use Rattle.ll_connection.proofs.CutLemmas.{turns}
 use Rattle.ll_connection.proofs.RoomsLaws as laws
-use Rattle.ll_held.specs.Waits.{wait_of}
-use Rattle.ll_held.specs.declared.owner.Owner.{Owner}
-use Rattle.ll_held.specs.declared.owner.Owner.TheVariants.{Get, Connection}
-use Rattle.ll_held.specs.declared.wait.Wait.{Wait}
+use Rattle.ll_rooms.specs.Waits.{wait_of}
+use Rattle.ll_rooms.specs.declared.owner.Owner.{Owner}
+use Rattle.ll_rooms.specs.declared.owner.Owner.TheVariants.{Get, Connection}
+use Rattle.ll_rooms.specs.declared.wait.Wait.{Wait}
 use Rattle.ll_script.specs.Lines.{acts, starved}
 use Rattle.ll_script.specs.declared.act.Act.{Act}
 use Rattle.ll_script.specs.declared.act.Act.TheVariants.{Declare, Offer, Refuse, Ask, Answer, Close, Clock, RefuseClock, Bytes, Drop}
-use Rattle.ll_world.specs.World as rooms
-use Rattle.ll_world.specs.World.{all_settings, silent}
-use Rattle.ll_world.specs.declared.answer.Answer as answer
-use Rattle.ll_world.specs.declared.answer.Answer.TheVariants as said
+use Rattle.ll_rooms.specs.World as rooms
+use Rattle.ll_rooms.specs.World.{all_settings, silent}
+use Rattle.ll_rooms.specs.declared.answer.Answer as answer
+use Rattle.ll_rooms.specs.declared.answer.Answer.TheVariants as said
 use Rattle.ll_replay.specs.Stream.{come_to}
 use Rattle.ll_replay.specs.Script.{Ending, Lot, Marked, Script, act, acted, counted, done, done_as, heard, line, line_by, makes_due, passed_on, read_by, rest, so_many, start, tick, turned, unmarked, with_lots}
 use Rattle.ll_replay.proofs.ScriptLaws.{line-ended, line-means}

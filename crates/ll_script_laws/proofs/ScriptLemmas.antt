@@ -3,7 +3,7 @@ use Rattle.std.proofs.Common.{ℕ, ◌+◌, ◌||◌, List, [], ◌∷◌, ◌++
 use Rattle.ll_connection.specs.Visit.{Luck}
 use Rattle.ll_script.specs.Lines.{acts, starved}
 use Rattle.ll_script.specs.declared.act.Act.{Act}
-use Rattle.ll_world.specs.World.{all_settings}
+use Rattle.ll_rooms.specs.World.{all_settings}
 use Rattle.ll_replay.specs.Script.{BadLine, Ending, LineTooLong, Lot, Marked, Script, act, acted, counted, done, done_as, line, line_by, makes_due, plain, read_by, rest, so_many, tick, with_lots}
 use Rattle.ll_script_laws.specs.Talks.{acts_in, acts_of, listed}
 

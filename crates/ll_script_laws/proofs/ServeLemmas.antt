@@ -8,9 +8,9 @@ use Rattle.ll_connection.proofs.MetLemmas.{IsMet, given_none, given_out, pulled_
 use Rattle.ll_connection.proofs.RoomsLaws.{asked-keeps}
 use Rattle.ll_connection.proofs.TalkLemmas.{ends}
 use Rattle.ll_directive.specs.Targets.{WantValue}
-use Rattle.ll_held.specs.declared.owner.Owner.{Owner}
-use Rattle.ll_held.specs.declared.owner.Owner.TheVariants.{Get, Connection}
-use Rattle.ll_held.specs.declared.wait.Wait.{Wait}
+use Rattle.ll_rooms.specs.declared.owner.Owner.{Owner}
+use Rattle.ll_rooms.specs.declared.owner.Owner.TheVariants.{Get, Connection}
+use Rattle.ll_rooms.specs.declared.wait.Wait.{Wait}
 use Rattle.ll_item.specs.declared.item.Item.{Item}
 use Rattle.ll_session.specs.Past.{Feed, Mute, Next, Past, Reply, called, next_by, next_entries, overflows, reply_by}
 use Rattle.ll_session.specs.Requests.{Entry, Faulty, Refused, Wanted}
@@ -19,9 +19,9 @@ use Rattle.ll_session.proofs.SplitLemmas.{taking-right, wants}
 use Rattle.ll_verdict.specs.Events.{Event}
 use Rattle.ll_verdict.proofs.ListLemmas.{each-append, each-map}
 use Rattle.ll_wire.specs.declared.answer.Answer.{Answer}
-use Rattle.ll_world.specs.World.{Channel, World, ask, clock, close, offer, silent, with_event}
-use Rattle.ll_world.proofs.EventLaws as events
-use Rattle.ll_world.proofs.TieLemmas.{equal, same_test}
+use Rattle.ll_rooms.specs.World.{Channel, World, ask, clock, close, offer, silent, with_event}
+use Rattle.ll_rooms.proofs.EventLaws as events
+use Rattle.ll_rooms.proofs.TieLemmas.{equal, same_test}
 use Rattle.ll_script_laws.proofs.AskLemmas.{AreAsked, AskedBy, IsRight, asked-closes, asked-others, asked-right, asked-stays}
 use Rattle.ll_script_laws.proofs.GrowLemmas.{Grows, answers-more, answers-stay, event-grows, grows-on, grows-same, wants-more}
 use Rattle.ll_script_laws.specs.Verdicts.{AreAnswered, IsAnswer, want_of, wants_of}

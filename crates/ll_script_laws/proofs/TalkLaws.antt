@@ -5,14 +5,14 @@ use Rattle.std.specs.List.{concat}
 use Rattle.std.proofs.lemmas.Grind.{flat_map-append}
 use Rattle.ll_connection.specs.Visit.{Luck}
 use Rattle.ll_directive.specs.Targets.{WantValue}
-use Rattle.ll_held.specs.declared.owner.Owner.TheVariants.{Get}
+use Rattle.ll_rooms.specs.declared.owner.Owner.TheVariants.{Get}
 use Rattle.ll_script.specs.Lines.{starved}
 use Rattle.ll_script.specs.declared.act.Act.{Act}
 use Rattle.ll_script.specs.declared.act.Act.TheVariants.{Declare, Offer, Refuse, Ask, Answer, Close, Clock, RefuseClock, Bytes, Drop}
 use Rattle.ll_session.proofs.PastLemmas.{is_talk}
 use Rattle.ll_session.specs.Past.{conversation, past}
-use Rattle.ll_world.specs.World as rooms
-use Rattle.ll_world.specs.World.{World}
+use Rattle.ll_rooms.specs.World as rooms
+use Rattle.ll_rooms.specs.World.{World}
 use Rattle.ll_replay.specs.Script.{Ending, Script, act, heard, start, tick}
 use Rattle.ll_script_laws.proofs.AskLemmas.{AreAsked, ask-asked, asked-closes, asked-stays}
 use Rattle.ll_script_laws.proofs.DueLemmas as due

@@ -12,10 +12,10 @@ use Rattle.ll_connection.proofs.MetLemmas.{HasOut, IsMet, came-met, replied_out}
 use Rattle.ll_connection.proofs.TalkLemmas.{Talked, answer_call, bytes-talked, put, reply-talked}
 use Rattle.ll_connection.proofs.TurnLemmas.{found, kept_other}
 use Rattle.ll_directive.specs.Targets.{WantValue}
-use Rattle.ll_held.specs.Waits.{is_same, under}
-use Rattle.ll_held.specs.declared.owner.Owner.{Owner}
-use Rattle.ll_held.specs.declared.owner.Owner.TheVariants.{Get, Connection}
-use Rattle.ll_held.specs.declared.wait.Wait.{Wait}
+use Rattle.ll_rooms.specs.Waits.{is_same, under}
+use Rattle.ll_rooms.specs.declared.owner.Owner.{Owner}
+use Rattle.ll_rooms.specs.declared.owner.Owner.TheVariants.{Get, Connection}
+use Rattle.ll_rooms.specs.declared.wait.Wait.{Wait}
 use Rattle.ll_session.specs.Past.{Past, Send, before_any, called, past}
 use Rattle.ll_session.specs.Talk.{SessionValue, fresh}
 use Rattle.ll_verdict.specs.Events.{Collect}
@@ -24,12 +24,12 @@ use Rattle.ll_verdict.specs.declared.reply.Reply as verdict
 use Rattle.ll_verdict.specs.declared.reply.Settled.{Settled}
 use Rattle.ll_wire.specs.declared.answer.Answer.{Answer}
 use Rattle.ll_wire.specs.declared.answer.Answer.TheVariants as player
-use Rattle.ll_world.specs.World as rooms
-use Rattle.ll_world.specs.World.{Channel, World, first_due}
-use Rattle.ll_world.specs.declared.answer.Answer as answer
-use Rattle.ll_world.specs.declared.answer.Answer.TheVariants as said
-use Rattle.ll_world.proofs.TieLemmas.{equal, same_test}
-use Rattle.ll_world.proofs.WaitLemmas.{IsOpen, tick-open}
+use Rattle.ll_rooms.specs.World as rooms
+use Rattle.ll_rooms.specs.World.{Channel, World, first_due}
+use Rattle.ll_rooms.specs.declared.answer.Answer as answer
+use Rattle.ll_rooms.specs.declared.answer.Answer.TheVariants as said
+use Rattle.ll_rooms.proofs.TieLemmas.{equal, same_test}
+use Rattle.ll_rooms.proofs.WaitLemmas.{IsOpen, tick-open}
 use Rattle.ll_replay.specs.Script.{Script, heard, passed_on, passed_to, tick, turned}
 use Rattle.ll_script_laws.proofs.AskLemmas.{AreAsked, AskedBy, asked-at, asked-closes, asked-less, asked-stays, due-right}
 use Rattle.ll_script_laws.proofs.DueLemmas as due

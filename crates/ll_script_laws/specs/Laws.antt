@@ -14,10 +14,10 @@ use Rattle.ll_script.specs.Lines.{acts}
 use Rattle.ll_script.specs.declared.act.Act.{Act}
 use Rattle.ll_script.specs.declared.act.Act.TheVariants.{Bytes}
 use Rattle.ll_room.specs.Home.{AreDistinct}
-use Rattle.ll_held.specs.Waits.{under}
-use Rattle.ll_held.specs.declared.owner.Owner.{Owner}
-use Rattle.ll_held.specs.declared.owner.Owner.TheVariants.{Get, Connection}
-use Rattle.ll_held.specs.declared.wait.Wait.{Wait}
+use Rattle.ll_rooms.specs.Waits.{under}
+use Rattle.ll_rooms.specs.declared.owner.Owner.{Owner}
+use Rattle.ll_rooms.specs.declared.owner.Owner.TheVariants.{Get, Connection}
+use Rattle.ll_rooms.specs.declared.wait.Wait.{Wait}
 use Rattle.ll_session.specs.Talk.{SessionValue}
 use Rattle.ll_connection.specs.Met.{AreMatched}
 use Rattle.ll_connection.specs.Turn.{Connections, session_of}
@@ -29,8 +29,8 @@ use Rattle.ll_verdict.specs.declared.entry.Slot.{Slot}
 use Rattle.ll_verdict.specs.declared.reply.Reply.TheVariants as now
 use Rattle.ll_verdict.specs.declared.reply.Settled.TheVariants.{Text}
 use Rattle.ll_verdict.specs.declared.wanted.Wanted.{Wanted}
-use Rattle.ll_world.specs.Kept.{tickets_at}
-use Rattle.ll_world.specs.World.{Channel, World, first_due}
+use Rattle.ll_rooms.specs.Kept.{tickets_at}
+use Rattle.ll_rooms.specs.World.{Channel, World, first_due}
 use Rattle.ll_replay.specs.Stream.{come_to}
 use Rattle.ll_replay.specs.Script.{Lot, Marked, Script, act, done, longest_line, tick, unmarked}
 use Rattle.ll_apply.specs.Texts.{applied_text}

@@ -18,8 +18,8 @@ use Rattle.ll_session.specs.Past.{Call, Past, conversation, past}
 use Rattle.ll_session.specs.Requests.{Entry, requests}
 use Rattle.ll_session.specs.Talk.{SessionValue, fresh}
 use Rattle.ll_wire.specs.declared.answer.Answer.{Answer}
-use Rattle.ll_world.specs.World.{all_settings}
-use Rattle.ll_world.specs.declared.answer.Answer as rooms
+use Rattle.ll_rooms.specs.World.{all_settings}
+use Rattle.ll_rooms.specs.declared.answer.Answer as rooms
 use Rattle.ll_script_laws.specs.Verdicts.{AreAnswered, wants_of}
 
 -- one thing that a script writes

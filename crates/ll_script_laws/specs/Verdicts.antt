@@ -14,7 +14,7 @@ use Rattle.ll_verdict.specs.declared.wanted.Wanted as asked
 use Rattle.ll_wire.specs.declared.answer.Answer.{Answer}
 use Rattle.ll_wire.specs.declared.answer.Answer.TheVariants as player
 use Rattle.ll_wire.specs.declared.answer.Unavailable.TheVariants as out
-use Rattle.ll_world.specs.World.{Channel}
+use Rattle.ll_rooms.specs.World.{Channel}
 
 abbrev pub later_by : Configuration → List Event → List Event → Option asked.Wanted → Option Reply
 later_by c events before None = None

@@ -1,6 +1,6 @@
 use Rattle.std.proofs.Common.{◌≡◌, length}
-use Rattle.ll_world.specs.Kept.{kept_world}
-use Rattle.ll_world.specs.World.{World, all_settings}
+use Rattle.ll_rooms.specs.Kept.{kept_world}
+use Rattle.ll_rooms.specs.World.{World, all_settings}
 use Rattle.ll_connection.proofs.OpenLemmas.{GoesOn}
 use Rattle.ll_connection.proofs.open.Open.hand_in.Given as goal
 

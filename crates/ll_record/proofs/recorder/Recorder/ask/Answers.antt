@@ -4,7 +4,7 @@ use Rattle.ll_entry.specs.Lines.{entry_line}
 use Rattle.ll_entry.specs.declared.entry.Recorded.{Recorded}
 use Rattle.ll_entry.specs.declared.entry.Recorded.TheVariants as recorded
 use Rattle.ll_item.specs.Settings.{limit_broken}
-use Rattle.ll_record_laws.specs.Leads.{with_end}
+use Rattle.ll_entry.specs.Leads.{with_end}
 use Rattle.std.specs.Prelude.{option_map}
 use Rattle.ll_room.specs.Answers.{new_tickets}
 use Rattle.ll_room.specs.Home.{Stands}

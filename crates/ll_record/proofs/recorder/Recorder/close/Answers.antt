@@ -3,7 +3,7 @@ use Rattle.std.specs.Str.{is_utf8}
 use Rattle.ll_entry.specs.Lines.{IsSpelled, entry_line}
 use Rattle.ll_entry.specs.declared.entry.Recorded.TheVariants as recorded
 use Rattle.ll_item.specs.Settings.{limit_broken}
-use Rattle.ll_record_laws.specs.Leads.{with_end}
+use Rattle.ll_entry.specs.Leads.{with_end}
 use Rattle.ll_verdict.specs.Events.{Event, Close}
 use Rattle.ll_record.proofs.Next.{uncounted}
 use Rattle.ll_record.proofs.Right.{closed-open}

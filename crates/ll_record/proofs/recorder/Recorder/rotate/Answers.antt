@@ -1,8 +1,8 @@
 use Rattle.std.proofs.Common.{◌≡◌, ◌≤◌, ◌^◌, List, None, true, ap, ap₂, arith, subst, sym, ◌∙◌}
 use Rattle.std.specs.Str.{is_utf8}
 use Rattle.ll_item.specs.Settings.{limit_broken}
-use Rattle.ll_record_laws.specs.Leads.{chunk_text}
-use Rattle.ll_spelling.specs.Lines.{settings_line}
+use Rattle.ll_entry.specs.Leads.{chunk_text}
+use Rattle.ll_entry.specs.ItemLines.{settings_line}
 use Rattle.ll_record.proofs.ChunkText.{faithful}
 use Rattle.ll_verdict.specs.Events.{Event}
 use Rattle.ll_record.proofs.Next.{recorded-anew}

@@ -3,11 +3,11 @@ use Rattle.std.proofs.Common.{None, Ok, Some, refl, true}
 use Rattle.ll_publish.specs.Refusals.{no_line}
 use Rattle.ll_publish.specs.declared.refusal.Refusal.TheVariants as refused
 use Rattle.ll_script.specs.declared.act.Act.TheVariants.{Offer}
-use Rattle.ll_world.specs.World.{offer}
+use Rattle.ll_rooms.specs.World.{offer}
 use Rattle.ll_replay.specs.Script.{plain}
 use Rattle.ll_replay.proofs.DoneLemmas.{done-is, line-says, unchanged-keeps}
 use Rattle.ll_replay.proofs.HeardLemmas.{heard-result}
-use Rattle.ll_world.proofs.SettingsLaws.{offer-keeps}
+use Rattle.ll_rooms.proofs.SettingsLaws.{offer-keeps}
 use Rattle.ll_replay.specs.contracts.driver.Driver.{the_view}
 use Rattle.ll_replay.proofs.driver.Driver.offer.Goals as goal
 

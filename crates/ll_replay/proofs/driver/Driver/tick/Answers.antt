@@ -1,8 +1,8 @@
 -- The first reply that is due goes to its connection, or is counted and spelled.
 use Rattle.std.proofs.Common.{◌≡◌, Option, refl, subst, sym}
-use Rattle.ll_world.specs.Kept.{Leads, kept_world}
-use Rattle.ll_world.specs.World.{World, tick}
-use Rattle.ll_world.specs.declared.answer.Answer.{Answer}
+use Rattle.ll_rooms.specs.Kept.{Leads, kept_world}
+use Rattle.ll_rooms.specs.World.{World, tick}
+use Rattle.ll_rooms.specs.declared.answer.Answer.{Answer}
 use Rattle.ll_replay.proofs.TurnLemmas.{tick-heard, tick-passed}
 use Rattle.ll_replay.specs.contracts.driver.Driver.{the_view}
 use Rattle.ll_replay.proofs.driver.Driver.tick.Goals as goal

@@ -1,0 +1,45 @@
+ghost use Rattle.std.specs.Prelude.{◌≡◌, ◌<◌, ◌≤◌, IfOk, OnErr, OnOk, false, length, true};
+ghost use Rattle.ll_device.specs.Inward.{looked_at};
+
+use crate::device::{Failed, Writer};
+
+/// One connection: bytes come by its reads, and go by its writes.
+pub trait Link: Writer + Drop {
+    /// One read: how many bytes it put first in `buf`, 0 at the end. A read that fails, or takes longer than the link allows, counts as
+    /// a failure of the link.
+    fn read(&mut self, buf: &mut [u8]) -> Result<usize, Failed>
+        ensures count { IfOk result (λ n. n ≤ length buf.new) }
+        ensures unwritten { Self.written self.new ≡ Self.written self.old }
+        ensures steady { OnOk result (Self.failures self.new ≡ Self.failures self.old) }
+        ensures failed { OnErr result (Self.failures self.old < Self.failures self.new) }
+        ensures more { IfOk result (λ n. 0 < n → Self.inward self.new ≡ looked_at 1 0 (Self.inward self.old)) }
+        ensures end { IfOk result (λ n. n ≡ 0 → 0 < length buf.new → Self.inward self.new ≡ looked_at 1 1 (Self.inward self.old)) }
+        ensures no_room { length buf.new ≡ 0 → Self.inward self.new ≡ looked_at 1 0 (Self.inward self.old) }
+        ensures cut { OnErr result (Self.inward self.new ≡ looked_at 1 0 (Self.inward self.old)) };
+
+    /// Whether the other end has hung up, which may be seen only after the bytes that it sent before. It takes no bytes, and waits for
+    /// none.
+    fn gone(&mut self) -> bool
+        ensures unwritten { Self.written self.new ≡ Self.written self.old }
+        ensures steady { Self.failures self.new ≡ Self.failures self.old }
+        ensures there { result ≡ false → Self.inward self.new ≡ Self.inward self.old }
+        ensures hung_up { result ≡ true → Self.inward self.new ≡ looked_at 0 1 (Self.inward self.old) };
+}
+
+/// Who is at the other end of a connection.
+#[derive(Clone, Copy, Debug, PartialEq, Eq)]
+pub enum Role {
+    /// One who asks for playlists over HTTP/1.1.
+    Player,
+    /// One who announces items, a line each.
+    Publisher,
+}
+
+/// Where connections come from.
+pub trait Source {
+    /// A connection.
+    type Peer: Link + Send;
+
+    /// The next connection; nothing, where no more come.
+    fn next(&mut self) -> Option<Self::Peer>;
+}

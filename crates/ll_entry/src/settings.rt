@@ -1,0 +1,85 @@
+//! Settings, written.
+ghost use Rattle.std.specs.Prelude.{◌≡◌, ◌++◌, ◌∷◌, IfOk, OnErr, OnOk, codes, decimal, flat_map, string_bytes};
+ghost use Rattle.ll_entry.specs.ItemLines.{names_text, settings_line};
+
+use ll_attr::Text;
+use ll_item::Settings;
+use std::alloc::{AllocError, Global};
+
+/// Adds the line that spells settings; no end of a line is added. It fails only where no memory is found, and then changes nothing.
+pub fn push_settings(line: &mut String, settings: &Settings) -> Result<(), AllocError>
+    ensures ok { OnOk result (string_bytes line.new ≡ string_bytes line.old ++ settings_line settings.now) }
+    ensures err { OnErr result (string_bytes line.new ≡ string_bytes line.old) }
+{
+    let text = settings_text(*line.allocator(), settings)?;
+    line.push_str(text.as_str())
+}
+
+/// The line that spells settings.
+#[tactic(auto, unfolding(crate::specs::Lines::settings_line))]
+fn settings_text(alloc: Global, settings: &Settings) -> Result<String, AllocError>
+    ensures { IfOk result (λ text. string_bytes text ≡ settings_line settings.now) }
+{
+    let names = joined_names(alloc, settings.renditions())?;
+    let end = end_text(
+        alloc,
+        settings.window(),
+        names.as_str(),
+        settings.first(),
+        settings.start(),
+    )?;
+    let (target, part, skip) = (settings.target(), settings.part_target(), settings.skip());
+    whole_text(alloc, settings.channel(), target, part, skip, end.as_str())
+}
+
+/// A settings line of these fields, up to the window, and of this end.
+fn whole_text(
+    alloc: Global,
+    channel: &str,
+    target: u64,
+    part: u64,
+    skip: u64,
+    end: &str,
+) -> Result<String, AllocError>
+    ensures { IfOk result (λ text. string_bytes text ≡ codes "channel " ++ (channel.now ++ (codes " target=" ++ (decimal target
+        ++ (codes " part=" ++ (decimal part ++ (codes " skip=" ++ (decimal skip ++ end.now)))))))) }
+{
+    format!(in alloc; "channel {channel} target={target} part={part} skip={skip}{end}")
+}
+
+/// The end of a settings line of these fields, from the window on.
+fn end_text(
+    alloc: Global,
+    window: u64,
+    names: &str,
+    first: u64,
+    start: u64,
+) -> Result<String, AllocError>
+    ensures { IfOk result (λ text. string_bytes text ≡ codes " window=" ++ (decimal window ++ (codes " renditions=" ++ (names.now
+        ++ (codes " first=" ++ (decimal first ++ (codes " start=" ++ decimal start))))))) }
+{
+    format!(in alloc; " window={window} renditions={names} first={first} start={start}")
+}
+
+/// Names with a comma between two of them.
+fn joined_names(alloc: Global, names: &[Text]) -> Result<Text, AllocError>
+    ensures { IfOk result (λ text. text ≡ names_text names.now) }
+{
+    let mut text = String::new(alloc);
+    if let Some((first, more)) = names.split_first() {
+        text.push_str(first.as_str())?;
+        push_after_commas(&mut text, more)?;
+    }
+    Ok(Text::from_string(text))
+}
+
+/// Adds names with a comma before each of them.
+fn push_after_commas(text: &mut String, names: &[Text]) -> Result<(), AllocError>
+    ensures { OnOk result (string_bytes text.new ≡ string_bytes text.old ++ flat_map (λ name. 44 ∷ name) names.now) }
+{
+    for name in names {
+        text.push(',')?;
+        text.push_str(name.as_str())?;
+    }
+    Ok(())
+}

@@ -1,4 +1,0 @@
-pub mod BookLemmas
-pub mod Firsts
-pub mod ShelfLemmas
-pub mod SpotLemmas

@@ -1,4 +1,0 @@
-pub mod Book
-pub mod Shelf
-pub mod Spots
-pub mod Waits

@@ -1,6 +1,0 @@
--- The law has a lemma of its own.
-use Rattle.ll_record_laws.proofs.LeadLemmas.{entry-next}
-use Rattle.ll_record_laws.proofs.entry_next_law.Goals as goal
-
-pub returns : goal.returns
-returns c = entry-next

@@ -1,3 +1,0 @@
-pub mod Leads
-pub mod Told
-pub mod Writable

@@ -1,0 +1,13 @@
+pub mod ActLemmas
+pub mod BookLemmas
+pub mod CallLemmas
+pub mod DueLemmas
+pub mod EventLaws
+pub mod Firsts
+pub mod Rising
+pub mod SettingsLaws
+pub mod ShelfLemmas
+pub mod SpotLemmas
+pub mod StandLemmas
+pub mod TieLemmas
+pub mod WaitLemmas

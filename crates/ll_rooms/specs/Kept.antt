@@ -1,0 +1,62 @@
+-- What is kept of the channels of a script in place of all events.
+use Rattle.std.specs.Prelude.{◌≡◌, ℕ, ◌+◌, ◌==◌, List, [], ◌∷◌, ◌++◌, Bool, Option, Some, None, filter, map, slice_get}
+use Rattle.ll_room.specs.Home.{AreDistinct, Home, home, tickets}
+use Rattle.ll_verdict.specs.State.{state_of}
+use Rattle.ll_rooms.specs.declared.wait.Wait.{Wait}
+use Rattle.ll_rooms.specs.World.{Channel, World, event_count}
+use Rattle.ll_rooms.specs.declared.answer.Answer.{Answer}
+
+pub record Kept : Type 0 where
+  -- the number of a room is its place
+  pub rooms : List Home
+  -- the requests that wait, in order of asking
+  pub waits : List Wait
+  -- how many events lines brought
+  pub events : ℕ
+
+-- the room at this place for a channel
+abbrev pub home_at : ℕ → Channel → Home
+home_at place channel = home place channel.settings (state_of channel.settings channel.events)
+
+-- the rooms for these channels, of which the first stands at this place
+abbrev pub homes_from : ℕ → List Channel → List Home
+homes_from place [] = []
+homes_from place (channel ∷ channels) = home_at place channel ∷ homes_from (place + 1) channels
+
+-- what is kept of what a script has come to
+abbrev pub kept_world : World → Kept
+kept_world w = record { rooms = homes_from 0 w.channels; waits = w.waits; events = event_count w }
+
+-- the answer of an act, where it is answered
+abbrev pub answers_of : Option Answer → List Answer
+answers_of None = []
+answers_of (Some answer) = answer ∷ []
+
+-- an act leads from one world to another with this answer
+pub record Leads (kept : Kept) (answer : Option Answer) (old new : World) : Type 0 where
+  pub stands : kept ≡ kept_world new
+  pub answers : new.answers ≡ old.answers ++ answers_of answer
+
+-- whether it waits in the channel at this place
+abbrev pub is_in : ℕ → Wait → Bool
+is_in place x = x.place == place
+
+abbrev pub ticket_of : Wait → ℕ
+ticket_of x = x.ticket
+
+-- the tickets of those that wait in a channel, in order of asking
+abbrev pub tickets_at : ℕ → List Wait → List ℕ
+tickets_at place waits = map ticket_of (filter (is_in place) waits)
+
+-- the tickets of the open requests of a room, where there is one
+abbrev pub open_in : Option Home → List ℕ
+open_in None = []
+open_in (Some h) = tickets h
+
+-- for private contracts: each room stands for the events of a channel, its number is its place, and its open requests are those that
+-- wait there, in the same order
+pub record AreTied (rooms : List Home) (waits : List Wait) : Type 0 where
+  pub channels : List Channel
+  pub rooms_are : rooms ≡ homes_from 0 channels
+  pub opened : (place : ℕ) → tickets_at place waits ≡ open_in (slice_get rooms place)
+  pub distinct : (place : ℕ) → AreDistinct (tickets_at place waits)

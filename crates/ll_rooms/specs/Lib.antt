@@ -1,0 +1,6 @@
+pub mod Book
+pub mod Kept
+pub mod Shelf
+pub mod Spots
+pub mod Waits
+pub mod World

@@ -1,0 +1,193 @@
+-- What the acts of a script come to in its channels, act by act.
+use Rattle.std.specs.Prelude.{ℕ, zero, suc, ◌+◌, ◌-◌, ◌^◌, ◌&&◌, List, [], ◌∷◌, ◌++◌, Bool, true, false, not, Option, Some, None, is_some, length, filter, find, fold, map, min, nat_le, slice_get, slice_set, sum_by, if◌then◌else◌}
+use Rattle.ll_directive.specs.Targets.{WantValue}
+use Rattle.ll_item.specs.Settings.{Configuration}
+use Rattle.ll_item.specs.declared.item.Item.{Item}
+use Rattle.ll_verdict.specs.Events.{Event, Publish, Ask, Collect, Close, Clock, asks, items}
+use Rattle.ll_verdict.specs.State.{gone}
+use Rattle.ll_verdict.specs.Verdict.{Request, at_once, held, reply, reply_of}
+use Rattle.ll_rendition.specs.declared.fault.PublishFault.{PublishFault}
+use Rattle.ll_verdict.specs.declared.reply.Reply.{Reply}
+use Rattle.ll_verdict.specs.declared.reply.Settled.{Settled}
+use Rattle.ll_verdict.specs.Full.{is_full, refusal_after}
+use Rattle.ll_room.specs.declared.fault.ClockFault.{ClockFault}
+use Rattle.ll_room.specs.declared.fault.ClockFault.TheVariants.{ClockRange, RecordFull}
+use Rattle.ll_rooms.specs.Waits.{under, wait_of, without}
+use Rattle.ll_rooms.specs.declared.owner.Owner.{Owner}
+use Rattle.ll_rooms.specs.declared.wait.Wait.{Wait}
+use Rattle.ll_rooms.specs.declared.answer.Answer.{Answer}
+use Rattle.ll_rooms.specs.declared.answer.Answer.TheVariants.{Accepted, Refused, ClockRefused, Replied, Unavailable}
+
+pub record Channel : Type 0 where
+  pub settings : Configuration
+  -- all events since its start
+  pub events : List Event
+
+pub record World : Type 0 where
+  pub channels : List Channel
+  -- the requests that had to wait and got no reply yet, in order of asking
+  pub waits : List Wait
+  -- what was answered
+  pub answers : List Answer
+
+abbrev pub start : World
+start = record { channels = []; waits = []; answers = [] }
+
+-- the settings of all channels, in order of declaration
+abbrev pub all_settings : World → List Configuration
+all_settings w = map (λ (c : Channel). c.settings) w.channels
+
+abbrev pub with_event : Event → Channel → Channel
+with_event event channel = record { settings = channel.settings; events = channel.events ++ event ∷ [] }
+
+abbrev pub happens : World → ℕ → Channel → Event → World
+happens w place channel event = record w { channels = slice_set w.channels place (with_event event channel) }
+
+abbrev pub says : World → Answer → World
+says w answer = record w { answers = w.answers ++ answer ∷ [] }
+
+-- what was answered is heard
+abbrev pub silent : World → World
+silent w = record w { answers = [] }
+
+abbrev pub waits_more : World → Wait → World
+waits_more w x = record w { waits = w.waits ++ x ∷ [] }
+
+abbrev pub waits_less : World → ℕ → ℕ → World
+waits_less w place ticket = record w { waits = without place ticket w.waits }
+
+-- a channel is declared, with no events
+abbrev pub declare : Configuration → World → World
+declare settings w = record w { channels = w.channels ++ (record { settings = settings; events = [] }) ∷ [] }
+
+-- an item is accepted or refused
+
+abbrev pub offered : World → ℕ → Channel → Item → Option PublishFault → World
+offered w place channel item (Some fault) = says w (Refused fault)
+offered w place channel item None = says (happens w place channel (Publish item)) (Accepted (length (items channel.settings channel.events) + 1))
+
+abbrev pub offer_at : World → ℕ → Item → Option Channel → World
+offer_at w place item None = w
+offer_at w place item (Some channel) = offered w place channel item (refusal_after channel.settings channel.events item)
+
+-- an item is offered to the channel at this place
+abbrev pub offer : ℕ → Item → World → World
+offer place item w = offer_at w place item (slice_get w.channels place)
+
+-- a request is answered at once, or it waits
+
+abbrev pub asked : World → Owner → ℕ → Channel → WantValue → Option Reply → World
+asked w owner place channel want (Some answer) = says (happens w place channel (Ask want)) (Replied owner answer)
+asked w owner place channel want None = waits_more (happens w place channel (Ask want)) (record { owner = owner; place = place; ticket = asks channel.events + 1 })
+
+-- a channel that has taken all its events takes no request
+abbrev pub asked_if : Bool → World → Owner → ℕ → Channel → WantValue → World
+asked_if true w owner place channel want = says w (Unavailable owner)
+asked_if false w owner place channel want = asked w owner place channel want (at_once channel.settings (held channel.settings channel.events) channel.events want)
+
+abbrev pub ask_at : World → Owner → ℕ → WantValue → Option Channel → World
+ask_at w owner place want None = w
+ask_at w owner place want (Some channel) = asked_if (is_full (length channel.events)) w owner place channel want
+
+-- a request of the channel at this place, whose reply is told to this owner
+abbrev pub ask : Owner → ℕ → WantValue → World → World
+ask owner place want w = ask_at w owner place want (slice_get w.channels place)
+
+-- a request that waits is given up: it gets no reply
+
+abbrev pub close_at : World → Wait → Option Channel → World
+close_at w x None = w
+close_at w x (Some channel) = waits_less (happens w x.place channel (Close x.ticket)) x.place x.ticket
+
+abbrev pub close_of : World → Option Wait → World
+close_of w None = w
+close_of w (Some x) = close_at w x (slice_get w.channels x.place)
+
+-- the owner's request is given up, where one waits
+abbrev pub close : Owner → World → World
+close owner w = close_of w (wait_of owner w.waits)
+
+-- the clock of a channel shows a time
+
+abbrev pub clock_refusal : ℕ → List Event → Option ClockFault
+clock_refusal ms events =
+    if nat_le ms (2 ^ 60)
+    then (if is_full (length events) then Some RecordFull else None)
+    else Some ClockRange
+
+abbrev pub clocked : World → ℕ → Channel → ℕ → Option ClockFault → World
+clocked w place channel ms (Some fault) = says w (ClockRefused fault)
+clocked w place channel ms None = happens w place channel (Clock ms)
+
+abbrev pub clock_at : World → ℕ → ℕ → Option Channel → World
+clock_at w place ms None = w
+clock_at w place ms (Some channel) = clocked w place channel ms (clock_refusal ms channel.events)
+
+-- the clock of the channel at this place shows so many milliseconds
+abbrev pub clock : ℕ → ℕ → World → World
+clock place ms w = clock_at w place ms (slice_get w.channels place)
+
+-- replies that are due
+
+-- its reply is decided and not told, and it was not given up
+abbrev pub is_due : Configuration → List Event → Request → Bool
+is_due c events r = not (gone c events r) && is_some (reply c events r)
+
+-- of the requests whose replies are due, the one that was made first
+abbrev pub first_due : Configuration → List Event → Option Request
+first_due c events = find (is_due c events) (held c events)
+
+abbrev pub told : World → Owner → Option Settled → World
+told w owner None = w
+told w owner (Some settled) = says w (Replied owner (reply_of settled))
+
+-- a reply that is due is told to the owner of its request, which waits no more
+abbrev pub told_to : World → ℕ → Channel → Request → Option Wait → World
+told_to w place channel r None = w
+told_to w place channel r (Some x) =
+    waits_less (told (happens w place channel (Collect r.ticket)) x.owner (reply channel.settings channel.events r)) place r.ticket
+
+abbrev pub tick_of : World → ℕ → Channel → Option Request → World
+tick_of w place channel None = w
+tick_of w place channel (Some r) = told_to w place channel r (under place r.ticket w.waits)
+
+abbrev pub tick_at : World → ℕ → Option Channel → World
+tick_at w place None = w
+tick_at w place (Some channel) = tick_of w place channel (first_due channel.settings channel.events)
+
+-- of the replies of the channel at this place that are due, the one asked for first is told
+abbrev pub tick : ℕ → World → World
+tick place w = tick_at w place (slice_get w.channels place)
+
+abbrev pub repeat : {W : Type 0} → (W → W) → ℕ → W → W
+repeat f zero w = w
+repeat f (suc n) w = f (repeat f n w)
+
+-- all replies of the channel at this place that are due are told: no more than requests wait
+abbrev pub rest : ℕ → World → World
+rest place w = repeat (tick place) (length w.waits) w
+
+-- at the end all requests that wait are given up
+abbrev pub finish : World → World
+finish w = fold (λ v x. close_at v x (slice_get v.channels x.place)) w w.waits
+
+-- ---- the count of events
+
+-- whether an event is one that a line brings, and no reply that is handed out
+abbrev pub is_brought : Event → Bool
+is_brought (Publish item) = true
+is_brought (Ask want) = true
+is_brought (Collect ticket) = false
+is_brought (Close ticket) = true
+is_brought (Clock ms) = true
+
+abbrev pub brought : Channel → ℕ
+brought channel = length (filter is_brought channel.events)
+
+-- the most that are counted
+abbrev pub count_end : ℕ
+count_end = 2 ^ 64 - 1
+
+-- how many events lines brought, in all channels
+abbrev pub event_count : World → ℕ
+event_count w = min (sum_by brought w.channels) count_end

@@ -1,0 +1,228 @@
+//! The rooms of the channels of a script, and the requests that wait in them.
+ghost use Rattle.std.specs.Prelude.{◌≢◌, ◌≡◌, ◌<◌, ◌++◌, ◌∷◌, [], ℕ, None, Some, true, IfOk, IsErrOf, OnErr, OnOk, is_some, length, slice_get};
+ghost use Rattle.ll_rooms.specs.Kept.{Leads, kept_world};
+ghost use Rattle.ll_rooms.specs.World as world;
+ghost use Rattle.ll_rooms.specs.World.{World, start};
+ghost use Rattle.ll_rooms.specs.Waits.{under, wait_of, without};
+
+use crate::answer::{Answer, AskStop};
+use crate::held::Held;
+use crate::owner::Owner;
+use crate::wait::Wait;
+use ll_directive::Want;
+use ll_item::{Item, Settings};
+use ll_room::{AskFault, Asked, Closed, Collected, Room};
+use ll_verdict::PublishFault;
+use std::alloc::{AllocError, Global};
+use std::marker::Model;
+
+/// The channels of a script, each at a place of its own, and the requests that wait in them. It must be spent.
+pub struct Rooms {
+    alloc: Global,
+    rooms: Vec<Room>,
+    held: Held,
+    events: u64,
+}
+
+impl Model for Rooms {
+    ghost use Rattle.ll_rooms.specs.Kept.{AreTied, Kept};
+
+    ghost Value = { Kept };
+
+    ghost view = { λ r. record { rooms = r.rooms.items; waits = r.held; events = r.events } };
+
+    ghost invariant = { λ r. AreTied r.rooms.items r.held };
+}
+
+/// Only one in which no request waits may be let go: a request that is forgotten is a failed proof.
+impl Drop for Rooms {
+    fn drop(self)
+        requires { self.waits ≡ [] }
+    {
+        let Rooms {
+            alloc: _,
+            rooms: _,
+            held: _held,
+            events: _,
+        } = self;
+    }
+}
+
+impl Rooms {
+    /// No channels.
+    pub fn new(alloc: Global) -> Rooms
+        ensures { result ≡ kept_world start }
+    {
+        Rooms {
+            alloc,
+            rooms: Vec::new(alloc),
+            held: Held::new(alloc),
+            events: 0,
+        }
+    }
+
+    /// How many requests wait.
+    pub fn waiting(&self) -> usize
+        ensures { result ≡ length self.now.waits }
+    {
+        self.held.count()
+    }
+
+    /// How many events lines brought in all channels: items, requests, closes and readings, and no reply that was told. It counts up to
+    /// 2^64 - 1.
+    pub fn events(&self) -> u64
+        ensures { result ≡ self.now.events }
+    {
+        self.events
+    }
+
+    /// Adds a channel with no events after the others. It fails only where no memory is found.
+    pub fn declare(&mut self, settings: Settings) -> Result<(), AllocError>
+        ensures declared { (w : World) → self.old ≡ kept_world w → OnOk result (Leads self.new None w (world.declare settings w)) }
+        ensures unchanged { OnErr result (self.new ≡ self.old) }
+    {
+        let room = Room::new(self.alloc, self.rooms.len() as u64, settings)?;
+        self.rooms.push(room)?;
+        Ok(())
+    }
+
+    /// Offers an item to the channel at this place. It fails only where no memory is found.
+    pub fn offer(&mut self, place: usize, item: Item) -> Result<Option<Answer>, AllocError>
+        ensures offered { (w : World) → self.old ≡ kept_world w → IfOk result (λ a. Leads self.new a w (world.offer place item w)) }
+        ensures unchanged { OnErr result (self.new ≡ self.old) }
+    {
+        let Some(room) = self.rooms.get_mut(place) else {
+            return Ok(None);
+        };
+        let count = match room.publish(item) {
+            Ok(count) => count.into_inner(),
+            Err(fault) => {
+                let answer = refused(fault)?;
+                return Ok(Some(answer));
+            }
+        };
+        self.events = self.events.saturating_add(1);
+        Ok(Some(Answer::Accepted(count)))
+    }
+
+    /// Makes a request of the channel at this place, whose reply is told to this owner: now, or once it is due. It fails only where
+    /// no memory is found.
+    pub fn ask(&mut self, owner: Owner, place: usize, want: Want) -> Result<Option<Answer>, AskStop>
+        ensures asked { (w : World) → self.old ≡ kept_world w → IfOk result (λ a. Leads self.new a w (world.ask owner place want w)) }
+        ensures unchanged { IsErrOf result AskStop.Request → self.new ≡ self.old }
+    {
+        let Some(room) = self.rooms.get_mut(place) else {
+            return Ok(None);
+        };
+        match room.ask(want) {
+            Ok(Asked::Now(reply)) => {
+                self.events = self.events.saturating_add(1);
+                Ok(Some(Answer::Replied(owner, reply.into_inner())))
+            }
+            Ok(Asked::Held(parked)) => match self.held.put(owner, parked) {
+                Ok(()) => {
+                    self.events = self.events.saturating_add(1);
+                    Ok(None)
+                }
+                Err(parked) => match room.close(parked) {
+                    Closed::Done => Err(AskStop::Place),
+                    Closed::Stranger(_parked) => unreachable!(),
+                },
+            },
+            Err(AskFault::RecordFull) => Ok(Some(Answer::Unavailable(owner))),
+            Err(AskFault::Memory) => Err(AskStop::Request),
+        }
+    }
+
+    /// Gives the owner's request up, where one waits: it gets no reply. Answers whether one waited.
+    pub fn close(&mut self, owner: Owner) -> bool
+        ensures waited { result ≡ is_some (wait_of owner self.old.waits) }
+        ensures closed { (w : World) → self.old ≡ kept_world w → Leads self.new None w (world.close owner w) }
+    {
+        match self.held.of(owner) {
+            Some(wait) => {
+                self.give_up(wait);
+                true
+            }
+            None => false,
+        }
+    }
+
+    /// Gives a request that waits up.
+    fn give_up(&mut self, wait: Wait)
+        requires { is_some (under wait.place wait.ticket self.old.waits) ≡ true }
+        ensures given_up { (w : World) → self.old ≡ kept_world w → Leads self.new None w (world.close_at w wait (slice_get w.channels wait.place)) }
+        ensures left { self.new.waits ≡ without wait.place wait.ticket self.old.waits }
+    {
+        let Some(parked) = self.held.take(wait.place, wait.ticket) else {
+            unreachable!();
+        };
+        let Some(room) = self.rooms.get_mut(wait.place) else {
+            unreachable!();
+        };
+        match room.close(parked) {
+            Closed::Done => self.events = self.events.saturating_add(1),
+            Closed::Stranger(_parked) => unreachable!(),
+        }
+    }
+
+    /// Tells the channel at this place what its clock shows, in milliseconds.
+    pub fn clock(&mut self, place: usize, ms: u64) -> Option<Answer>
+        ensures clocked { (w : World) → self.old ≡ kept_world w → Leads self.new result w (world.clock place ms w) }
+    {
+        let room = self.rooms.get_mut(place)?;
+        if let Err(fault) = room.clock(ms) {
+            return Some(Answer::ClockRefused(fault));
+        }
+        self.events = self.events.saturating_add(1);
+        None
+    }
+
+    /// Tells the first reply of the channel at this place that is due; none where nothing is due there.
+    pub fn next_due(&mut self, place: usize) -> Option<Answer>
+        ensures told { (w : World) → self.old ≡ kept_world w → Leads self.new result w (world.tick place w) }
+        ensures still { (w : World) → self.old ≡ kept_world w → result ≡ None → world.tick place w ≡ w }
+    {
+        let room = self.rooms.get_mut(place)?;
+        let ticket = room.next_ready()?;
+        let Some(wait) = self.held.under(place, ticket) else {
+            unreachable!();
+        };
+        let Some(parked) = self.held.take(place, ticket) else {
+            unreachable!();
+        };
+        match room.collect(parked) {
+            Collected::Got(reply) => Some(Answer::Replied(wait.owner, reply.into_inner())),
+            Collected::Still(_parked) => unreachable!(),
+            Collected::Stranger(_parked) => unreachable!(),
+        }
+    }
+
+    /// Gives all requests up that still wait, and spends what was kept of the channels.
+    pub fn finish(mut self) {
+        loop {
+            match self.held.first() {
+                Some(wait) => self.give_up(wait),
+                None => {
+                    let Rooms {
+                        alloc: _,
+                        rooms: _,
+                        held: _held,
+                        events: _,
+                    } = self;
+                    return;
+                }
+            }
+        }
+    }
+}
+
+/// The answer to an item that is refused; a channel that found no memory has no answer.
+fn refused(fault: PublishFault) -> Result<Answer, AllocError>
+    ensures { IfOk result (λ a. (fault ≢ PublishFault.Memory) × (a ≡ Answer.Refused fault)) }
+{
+    if fault == PublishFault::Memory {
+        return Err(AllocError);
+    }
+    Ok(Answer::Refused(fault))
+}

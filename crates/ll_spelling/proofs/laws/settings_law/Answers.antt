@@ -1,6 +1,0 @@
--- The law has a file of its own.
-use Rattle.ll_spelling.proofs.SettingsBack.{settings_back}
-use Rattle.ll_spelling.proofs.laws.settings_law.Goals as goal
-
-pub returns : goal.returns
-returns c = settings_back

@@ -1,9 +1,0 @@
-pub mod ActLemmas
-pub mod CallLemmas
-pub mod DueLemmas
-pub mod EventLaws
-pub mod Rising
-pub mod SettingsLaws
-pub mod StandLemmas
-pub mod TieLemmas
-pub mod WaitLemmas
