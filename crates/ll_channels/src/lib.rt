@@ -1,6 +1,6 @@
 //! The channels that there are, each found by its name.
 #![tactic(auto)]
 
-mod declared;
+mod channels;
 
-pub use declared::Declared;
+pub use channels::Channels;

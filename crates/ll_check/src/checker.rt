@@ -6,7 +6,7 @@ ghost use Rattle.ll_check.specs.Found.{IsAt, Leads};
 
 use crate::chunk::{begin, entries_of, read_entries};
 use ll_entry::{CheckFault, CheckKind};
-use ll_room::Keeper;
+use ll_room::Replayer;
 use std::alloc::Global;
 use std::marker::Model;
 
@@ -26,7 +26,7 @@ pub fn check(alloc: Global, bytes: &[u8]) -> Result<u64, CheckFault>
 #[derive(Drop)]
 pub struct Checker {
     alloc: Global,
-    keeper: Option<Keeper>,
+    replayer: Option<Replayer>,
 }
 
 impl Model for Checker {
@@ -35,7 +35,7 @@ impl Model for Checker {
 
     ghost Value = { Option Home };
 
-    ghost view = { λ c. c.keeper };
+    ghost view = { λ c. c.replayer };
 }
 
 impl Checker {
@@ -45,7 +45,7 @@ impl Checker {
     {
         Checker {
             alloc,
-            keeper: None,
+            replayer: None,
         }
     }
 
@@ -71,8 +71,8 @@ impl Checker {
     pub fn count(&self) -> Result<u64, CheckFault>
         ensures { (ch : Chain) → IsAt self.now ch → result ≡ counted (Ok ch) }
     {
-        match &self.keeper {
-            Some(keeper) => Ok(keeper.room().events()),
+        match &self.replayer {
+            Some(replayer) => Ok(replayer.room().events()),
             None => Err(CheckFault {
                 entry: 1,
                 kind: CheckKind::BadChunk,
@@ -89,13 +89,13 @@ impl Checker {
         ensures memory { (ch : Chain) → IsAt self.old ch → IfErr result (λ f. not_before f.entry (checked_from Between ch (pieces_at 10 text.now)) ≡ true) }
         ensures shorter { IfOk result (λ rest. length rest.now < length text.now) }
     {
-        let entry = entries_of(&self.keeper) + 1;
-        let rest = match begin(self.alloc, &mut self.keeper, text) {
+        let entry = entries_of(&self.replayer) + 1;
+        let rest = match begin(self.alloc, &mut self.replayer, text) {
             Ok(rest) => rest,
             Err(kind) => return Err(CheckFault { entry, kind }),
         };
-        match &mut self.keeper {
-            Some(keeper) => read_entries(self.alloc, keeper, rest),
+        match &mut self.replayer {
+            Some(replayer) => read_entries(self.alloc, replayer, rest),
             None => unreachable!(),
         }
     }

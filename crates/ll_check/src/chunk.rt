@@ -16,7 +16,7 @@ use ll_attr::after;
 use ll_entry::{CheckFault, CheckKind, Recorded};
 use ll_format::number;
 use ll_item::{Settings, SettingsFault};
-use ll_room::Keeper;
+use ll_room::Replayer;
 use std::alloc::Global;
 
 /// The last line of each chunk.
@@ -34,32 +34,32 @@ struct Header<'a> {
 /// Reads a chunk's first three lines, where they are those of the next chunk, and answers what stands after them.
 pub(crate) fn begin<'a>(
     alloc: Global,
-    keeper: &mut Option<Keeper>,
+    replayer: &mut Option<Replayer>,
     text: &'a [u8],
 ) -> Result<&'a [u8], CheckKind>
     requires { 0 < length text.now }
-    ensures begun { (ch : Chain) → IsAt keeper.old ch → IfOk result (λ rest. IsInside keeper.new ch.events
+    ensures begun { (ch : Chain) → IsAt replayer.old ch → IfOk result (λ rest. IsInside replayer.new ch.events
         (λ c. checked_from Between ch (pieces_at 10 text.now) ≡ checked_from (Inside c) (chain_of c ch.events) (pieces_at 10 rest.now))) }
-    ensures wrong { (ch : Chain) → IsAt keeper.old ch
+    ensures wrong { (ch : Chain) → IsAt replayer.old ch
         → IfErr result (λ k. k ≢ CheckKind.Memory → checked_from Between ch (pieces_at 10 text.now) ≡ wrong ch.events k) }
-    ensures kept { IfOk result (λ rest. is_some keeper.new ≡ true) }
+    ensures kept { IfOk result (λ rest. is_some replayer.new ≡ true) }
     ensures shorter { IfOk result (λ rest. length rest.now < length text.now) }
 {
     let Some((header, rest)) = header_of(text) else {
         return Err(CheckKind::BadChunk);
     };
-    let settings = settings_at(alloc, header, entries_of(keeper))?;
-    meet(alloc, keeper, settings)?;
+    let settings = settings_at(alloc, header, entries_of(replayer))?;
+    meet(alloc, replayer, settings)?;
     Ok(rest)
 }
 
 /// How many entries there were before.
-pub(crate) fn entries_of(keeper: &Option<Keeper>) -> u64
-    ensures value { (ch : Chain) → IsAt keeper.now ch → result ≡ length ch.events }
+pub(crate) fn entries_of(replayer: &Option<Replayer>) -> u64
+    ensures value { (ch : Chain) → IsAt replayer.now ch → result ≡ length ch.events }
     ensures few { result ≤ 2 ^ 61 }
 {
-    match keeper {
-        Some(keeper) => keeper.room().events(),
+    match replayer {
+        Some(replayer) => replayer.room().events(),
         None => 0,
     }
 }
@@ -131,16 +131,16 @@ fn settings_at(alloc: Global, header: Header<'_>, entries: u64) -> Result<Settin
 }
 
 /// Begins the chain of a channel of these settings, or goes on with it where it has them.
-fn meet(alloc: Global, keeper: &mut Option<Keeper>, settings: Settings) -> Result<(), CheckKind>
-    ensures right { (ch : Chain) → IsAt keeper.old ch → OnOk result (IsInside keeper.new ch.events (λ c. known_by ch.known settings ≡ Ok c)) }
-    ensures kept { OnOk result (is_some keeper.new ≡ true) }
-    ensures wrong { (ch : Chain) → IsAt keeper.old ch → IfErr result (λ k. k ≢ CheckKind.Memory → known_by ch.known settings ≡ Err k) }
+fn meet(alloc: Global, replayer: &mut Option<Replayer>, settings: Settings) -> Result<(), CheckKind>
+    ensures right { (ch : Chain) → IsAt replayer.old ch → OnOk result (IsInside replayer.new ch.events (λ c. known_by ch.known settings ≡ Ok c)) }
+    ensures kept { OnOk result (is_some replayer.new ≡ true) }
+    ensures wrong { (ch : Chain) → IsAt replayer.old ch → IfErr result (λ k. k ≢ CheckKind.Memory → known_by ch.known settings ≡ Err k) }
 {
-    let Some(keeper) = keeper else {
-        *keeper = Some(Keeper::new(alloc, 0, settings)?);
+    let Some(replayer) = replayer else {
+        *replayer = Some(Replayer::new(alloc, 0, settings)?);
         return Ok(());
     };
-    if is_same(keeper.room().settings(), &settings) {
+    if is_same(replayer.room().settings(), &settings) {
         Ok(())
     } else {
         Err(CheckKind::OtherChannel)
@@ -159,16 +159,16 @@ fn is_same(a: &Settings, b: &Settings) -> bool
 /// Goes through the entries of a chunk to its last line, and answers what stands after that.
 pub(crate) fn read_entries<'a>(
     alloc: Global,
-    keeper: &mut Keeper,
+    replayer: &mut Replayer,
     text: &'a [u8],
 ) -> Result<&'a [u8], CheckFault>
-    ensures right { (events : List Event) → Stands keeper.old events
-        → IfOk result (λ rest. GoesOn keeper.new keeper.old.settings events (pieces_at 10 text.now) (pieces_at 10 rest.now)) }
-    ensures wrong { (events : List Event) → Stands keeper.old events
+    ensures right { (events : List Event) → Stands replayer.old events
+        → IfOk result (λ rest. GoesOn replayer.new replayer.old.settings events (pieces_at 10 text.now) (pieces_at 10 rest.now)) }
+    ensures wrong { (events : List Event) → Stands replayer.old events
         → IfErr result (λ f. f.kind ≢ CheckKind.Memory
-        → checked_from (Inside keeper.old.settings) (chain_of keeper.old.settings events) (pieces_at 10 text.now) ≡ Err f) }
-    ensures memory { (events : List Event) → Stands keeper.old events → IfErr result (λ f.
-        not_before f.entry (checked_from (Inside keeper.old.settings) (chain_of keeper.old.settings events) (pieces_at 10 text.now)) ≡ true) }
+        → checked_from (Inside replayer.old.settings) (chain_of replayer.old.settings events) (pieces_at 10 text.now) ≡ Err f) }
+    ensures memory { (events : List Event) → Stands replayer.old events → IfErr result (λ f.
+        not_before f.entry (checked_from (Inside replayer.old.settings) (chain_of replayer.old.settings events) (pieces_at 10 text.now)) ≡ true) }
     ensures shorter { IfOk result (λ rest. length rest.now < length text.now) }
 {
     let mut rest = text;
@@ -177,42 +177,42 @@ pub(crate) fn read_entries<'a>(
         if line == LAST_LINE {
             return Ok(rest);
         }
-        if let Err(fault) = read_line(alloc, keeper, line) {
+        if let Err(fault) = read_line(alloc, replayer, line) {
             return Err(fault);
         }
     }
     Err(CheckFault {
-        entry: keeper.room().events() + 1,
+        entry: replayer.room().events() + 1,
         kind: CheckKind::BadChunk,
     })
 }
 
 /// Takes the event that a line's entry tells, where the entry is right.
-fn read_line(alloc: Global, keeper: &mut Keeper, line: &[u8]) -> Result<(), CheckFault>
-    ensures right { (events : List Event) → Stands keeper.old events
-        → OnOk result (IsJoined keeper.new (with_line keeper.old.settings events line.now)) }
-    ensures wrong { (events : List Event) → Stands keeper.old events → IfErr result (λ f. (f.entry ≡ length events + 1)
-        × (f.kind ≢ CheckKind.Memory → with_line keeper.old.settings events line.now ≡ Err f.kind)) }
-    ensures settings { keeper.new.settings ≡ keeper.old.settings }
+fn read_line(alloc: Global, replayer: &mut Replayer, line: &[u8]) -> Result<(), CheckFault>
+    ensures right { (events : List Event) → Stands replayer.old events
+        → OnOk result (IsJoined replayer.new (with_line replayer.old.settings events line.now)) }
+    ensures wrong { (events : List Event) → Stands replayer.old events → IfErr result (λ f. (f.entry ≡ length events + 1)
+        × (f.kind ≢ CheckKind.Memory → with_line replayer.old.settings events line.now ≡ Err f.kind)) }
+    ensures settings { replayer.new.settings ≡ replayer.old.settings }
 {
-    let entry = keeper.room().events() + 1;
-    match take_line(alloc, keeper, line) {
+    let entry = replayer.room().events() + 1;
+    match take_line(alloc, replayer, line) {
         Ok(()) => Ok(()),
         Err(kind) => Err(CheckFault { entry, kind }),
     }
 }
 
 /// Takes the event that a line's entry tells, or says how the entry isn't right.
-fn take_line(alloc: Global, keeper: &mut Keeper, line: &[u8]) -> Result<(), CheckKind>
-    ensures right { (events : List Event) → Stands keeper.old events
-        → OnOk result (IsJoined keeper.new (with_line keeper.old.settings events line.now)) }
-    ensures wrong { (events : List Event) → Stands keeper.old events
-        → IfErr result (λ k. k ≢ CheckKind.Memory → with_line keeper.old.settings events line.now ≡ Err k) }
-    ensures settings { keeper.new.settings ≡ keeper.old.settings }
+fn take_line(alloc: Global, replayer: &mut Replayer, line: &[u8]) -> Result<(), CheckKind>
+    ensures right { (events : List Event) → Stands replayer.old events
+        → OnOk result (IsJoined replayer.new (with_line replayer.old.settings events line.now)) }
+    ensures wrong { (events : List Event) → Stands replayer.old events
+        → IfErr result (λ k. k ≢ CheckKind.Memory → with_line replayer.old.settings events line.now ≡ Err k) }
+    ensures settings { replayer.new.settings ≡ replayer.old.settings }
 {
     let Some(line) = text_in(line) else {
         return Err(CheckKind::BadChunk);
     };
-    let entry = Recorded::read(alloc, keeper.room().settings(), line)?;
-    enter(keeper, entry)
+    let entry = Recorded::read(alloc, replayer.room().settings(), line)?;
+    enter(replayer, entry)
 }

@@ -13,39 +13,39 @@ ghost use Rattle.ll_verdict.specs.declared.reply.Reply as verdict;
 use ll_directive::Want;
 use ll_entry::{CheckKind, Recorded};
 use ll_item::Item;
-use ll_room::{Keeper, Stamped};
+use ll_room::{Replayer, Stamped};
 use ll_verdict::{Outcome, PublishFault, Reply};
 use std::alloc::AllocError;
 
 /// Takes the event of an entry, where the entry is right.
-pub(crate) fn enter(keeper: &mut Keeper, entry: Recorded) -> Result<(), CheckKind>
-    ensures right { (events : List Event) → Stands keeper.old events → OnOk result
-        ((fault_in keeper.old.settings events entry ≡ None) × Stands keeper.new (events ++ event_of entry ∷ [])) }
-    ensures wrong { (events : List Event) → Stands keeper.old events
-        → IfErr result (λ k. k ≢ CheckKind.Memory → fault_in keeper.old.settings events entry ≡ Some k) }
-    ensures memory { (events : List Event) → Stands keeper.old events → IsErrOf result CheckKind.Memory → fault_in keeper.old.settings events entry ≡ None }
-    ensures settings { keeper.new.settings ≡ keeper.old.settings }
+pub(crate) fn enter(replayer: &mut Replayer, entry: Recorded) -> Result<(), CheckKind>
+    ensures right { (events : List Event) → Stands replayer.old events → OnOk result
+        ((fault_in replayer.old.settings events entry ≡ None) × Stands replayer.new (events ++ event_of entry ∷ [])) }
+    ensures wrong { (events : List Event) → Stands replayer.old events
+        → IfErr result (λ k. k ≢ CheckKind.Memory → fault_in replayer.old.settings events entry ≡ Some k) }
+    ensures memory { (events : List Event) → Stands replayer.old events → IsErrOf result CheckKind.Memory → fault_in replayer.old.settings events entry ≡ None }
+    ensures settings { replayer.new.settings ≡ replayer.old.settings }
 {
     match entry {
-        Recorded::Publish(item) => publish(keeper, item),
-        Recorded::Ask(ask, want, outcome) => make_request(keeper, ask, want, outcome),
-        Recorded::Clock(ms) => read_clock(keeper, ms),
-        Recorded::Collect(ask, outcome) => collect(keeper, ask, outcome),
-        Recorded::Close(ask) => close(keeper, ask),
+        Recorded::Publish(item) => publish(replayer, item),
+        Recorded::Ask(ask, want, outcome) => make_request(replayer, ask, want, outcome),
+        Recorded::Clock(ms) => read_clock(replayer, ms),
+        Recorded::Collect(ask, outcome) => collect(replayer, ask, outcome),
+        Recorded::Close(ask) => close(replayer, ask),
     }
 }
 
 /// Takes an item, where no rule refuses it.
-fn publish(keeper: &mut Keeper, item: Item) -> Result<(), CheckKind>
-    ensures right { (events : List Event) → Stands keeper.old events → OnOk result
-        ((fault_in keeper.old.settings events (recorded.Publish item) ≡ None) × Stands keeper.new (events ++ event.Publish item ∷ [])) }
-    ensures wrong { (events : List Event) → Stands keeper.old events
-        → IfErr result (λ k. k ≢ CheckKind.Memory → fault_in keeper.old.settings events (recorded.Publish item) ≡ Some k) }
-    ensures memory { (events : List Event) → Stands keeper.old events
-        → IsErrOf result CheckKind.Memory → fault_in keeper.old.settings events (recorded.Publish item) ≡ None }
-    ensures settings { keeper.new.settings ≡ keeper.old.settings }
+fn publish(replayer: &mut Replayer, item: Item) -> Result<(), CheckKind>
+    ensures right { (events : List Event) → Stands replayer.old events → OnOk result
+        ((fault_in replayer.old.settings events (recorded.Publish item) ≡ None) × Stands replayer.new (events ++ event.Publish item ∷ [])) }
+    ensures wrong { (events : List Event) → Stands replayer.old events
+        → IfErr result (λ k. k ≢ CheckKind.Memory → fault_in replayer.old.settings events (recorded.Publish item) ≡ Some k) }
+    ensures memory { (events : List Event) → Stands replayer.old events
+        → IsErrOf result CheckKind.Memory → fault_in replayer.old.settings events (recorded.Publish item) ≡ None }
+    ensures settings { replayer.new.settings ≡ replayer.old.settings }
 {
-    match keeper.publish(item) {
+    match replayer.publish(item) {
         Ok(_) => Ok(()),
         Err(PublishFault::Memory) => Err(CheckKind::Memory),
         Err(_) => Err(CheckKind::Refused),
@@ -54,20 +54,20 @@ fn publish(keeper: &mut Keeper, item: Item) -> Result<(), CheckKind>
 
 /// Makes a request, where it is the next one and this is what it gets at once.
 fn make_request(
-    keeper: &mut Keeper,
+    replayer: &mut Replayer,
     ask: u64,
     want: Want,
     outcome: Option<Outcome>,
 ) -> Result<(), CheckKind>
-    ensures right { (events : List Event) → Stands keeper.old events → OnOk result
-        ((fault_in keeper.old.settings events (recorded.Ask ask want outcome) ≡ None) × Stands keeper.new (events ++ event.Ask want ∷ [])) }
-    ensures wrong { (events : List Event) → Stands keeper.old events
-        → IfErr result (λ k. k ≢ CheckKind.Memory → fault_in keeper.old.settings events (recorded.Ask ask want outcome) ≡ Some k) }
-    ensures memory { (events : List Event) → Stands keeper.old events
-        → IsErrOf result CheckKind.Memory → fault_in keeper.old.settings events (recorded.Ask ask want outcome) ≡ None }
-    ensures settings { keeper.new.settings ≡ keeper.old.settings }
+    ensures right { (events : List Event) → Stands replayer.old events → OnOk result
+        ((fault_in replayer.old.settings events (recorded.Ask ask want outcome) ≡ None) × Stands replayer.new (events ++ event.Ask want ∷ [])) }
+    ensures wrong { (events : List Event) → Stands replayer.old events
+        → IfErr result (λ k. k ≢ CheckKind.Memory → fault_in replayer.old.settings events (recorded.Ask ask want outcome) ≡ Some k) }
+    ensures memory { (events : List Event) → Stands replayer.old events
+        → IsErrOf result CheckKind.Memory → fault_in replayer.old.settings events (recorded.Ask ask want outcome) ≡ None }
+    ensures settings { replayer.new.settings ≡ replayer.old.settings }
 {
-    let room = keeper.room();
+    let room = replayer.room();
     if !is_after(ask, room.asks()) || room.is_full() {
         return Err(CheckKind::Refused);
     }
@@ -75,37 +75,37 @@ fn make_request(
     if !is_same(outcome, decision.outcome(room.count())) {
         return Err(CheckKind::WrongReply);
     }
-    match keeper.pass(decision) {
+    match replayer.pass(decision) {
         Ok(()) => Ok(()),
         Err(AllocError) => Err(CheckKind::Memory),
     }
 }
 
 /// Takes a reading of the clock, where it can be one.
-fn read_clock(keeper: &mut Keeper, ms: u64) -> Result<(), CheckKind>
-    ensures right { (events : List Event) → Stands keeper.old events → OnOk result
-        ((fault_in keeper.old.settings events (recorded.Clock ms) ≡ None) × Stands keeper.new (events ++ event.Clock ms ∷ [])) }
-    ensures wrong { (events : List Event) → Stands keeper.old events → IfErr result (λ k. fault_in keeper.old.settings events (recorded.Clock ms) ≡ Some k) }
-    ensures settings { keeper.new.settings ≡ keeper.old.settings }
+fn read_clock(replayer: &mut Replayer, ms: u64) -> Result<(), CheckKind>
+    ensures right { (events : List Event) → Stands replayer.old events → OnOk result
+        ((fault_in replayer.old.settings events (recorded.Clock ms) ≡ None) × Stands replayer.new (events ++ event.Clock ms ∷ [])) }
+    ensures wrong { (events : List Event) → Stands replayer.old events → IfErr result (λ k. fault_in replayer.old.settings events (recorded.Clock ms) ≡ Some k) }
+    ensures settings { replayer.new.settings ≡ replayer.old.settings }
 {
-    match keeper.clock(ms) {
+    match replayer.clock(ms) {
         Ok(()) => Ok(()),
         Err(_) => Err(CheckKind::Refused),
     }
 }
 
 /// Hands out the reply to a request, where it is open and this is its reply.
-fn collect(keeper: &mut Keeper, ask: u64, outcome: Outcome) -> Result<(), CheckKind>
-    ensures right { (events : List Event) → Stands keeper.old events → OnOk result
-        ((fault_in keeper.old.settings events (recorded.Collect ask outcome) ≡ None) × Stands keeper.new (events ++ event.Collect ask ∷ [])) }
-    ensures wrong { (events : List Event) → Stands keeper.old events
-        → IfErr result (λ k. fault_in keeper.old.settings events (recorded.Collect ask outcome) ≡ Some k) }
-    ensures settings { keeper.new.settings ≡ keeper.old.settings }
+fn collect(replayer: &mut Replayer, ask: u64, outcome: Outcome) -> Result<(), CheckKind>
+    ensures right { (events : List Event) → Stands replayer.old events → OnOk result
+        ((fault_in replayer.old.settings events (recorded.Collect ask outcome) ≡ None) × Stands replayer.new (events ++ event.Collect ask ∷ [])) }
+    ensures wrong { (events : List Event) → Stands replayer.old events
+        → IfErr result (λ k. fault_in replayer.old.settings events (recorded.Collect ask outcome) ≡ Some k) }
+    ensures settings { replayer.new.settings ≡ replayer.old.settings }
 {
-    if !keeper.room().is_open(ask) {
+    if !replayer.room().is_open(ask) {
         return Err(CheckKind::Refused);
     }
-    let told = outcome_in(&keeper.collect(ask));
+    let told = outcome_in(&replayer.collect(ask));
     if is_same(Some(outcome), told) {
         Ok(())
     } else {
@@ -114,13 +114,13 @@ fn collect(keeper: &mut Keeper, ask: u64, outcome: Outcome) -> Result<(), CheckK
 }
 
 /// Gives a request up, where it is open.
-fn close(keeper: &mut Keeper, ask: u64) -> Result<(), CheckKind>
-    ensures right { (events : List Event) → Stands keeper.old events → OnOk result
-        ((fault_in keeper.old.settings events (recorded.Close ask) ≡ None) × Stands keeper.new (events ++ event.Close ask ∷ [])) }
-    ensures wrong { (events : List Event) → Stands keeper.old events → IfErr result (λ k. fault_in keeper.old.settings events (recorded.Close ask) ≡ Some k) }
-    ensures settings { keeper.new.settings ≡ keeper.old.settings }
+fn close(replayer: &mut Replayer, ask: u64) -> Result<(), CheckKind>
+    ensures right { (events : List Event) → Stands replayer.old events → OnOk result
+        ((fault_in replayer.old.settings events (recorded.Close ask) ≡ None) × Stands replayer.new (events ++ event.Close ask ∷ [])) }
+    ensures wrong { (events : List Event) → Stands replayer.old events → IfErr result (λ k. fault_in replayer.old.settings events (recorded.Close ask) ≡ Some k) }
+    ensures settings { replayer.new.settings ≡ replayer.old.settings }
 {
-    if keeper.close(ask) {
+    if replayer.close(ask) {
         Ok(())
     } else {
         Err(CheckKind::Refused)

@@ -10,7 +10,7 @@ ghost use Rattle.ll_connection.specs.Stands.{IsTurn, open_in, opened};
 use crate::open::Open;
 use crate::sent::Sent;
 use indexmap::IndexMap;
-use ll_channels::Declared;
+use ll_channels::Channels;
 use ll_rooms::{Owner, Rooms};
 use ll_script::push_shut;
 use ll_session::Session;
@@ -60,7 +60,7 @@ impl Connections {
     pub fn bytes(
         &mut self,
         rooms: &mut Rooms,
-        declared: &Declared,
+        declared: &Channels,
         number: u64,
         piece: &[u8],
     ) -> Result<Sent, AllocError>
@@ -97,7 +97,7 @@ impl Connections {
     pub fn reply(
         &mut self,
         rooms: &mut Rooms,
-        declared: &Declared,
+        declared: &Channels,
         number: u64,
         reply: Reply,
     ) -> Result<Sent, AllocError>

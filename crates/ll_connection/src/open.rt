@@ -7,7 +7,7 @@ ghost use Rattle.ll_connection.specs.Visit as visit;
 ghost use Rattle.ll_connection.specs.Stands.{AreTold, IsStill, IsToldVisit, IsVisit};
 
 use crate::sent::Sent;
-use ll_channels::Declared;
+use ll_channels::Channels;
 use ll_directive::{TargetFault, Want};
 use ll_rooms::{Answer as Said, AskStop, Owner, Rooms};
 use ll_script::push_sent;
@@ -27,7 +27,7 @@ impl Open {
     pub(crate) fn arrive(
         &mut self,
         rooms: &mut Rooms,
-        declared: &Declared,
+        declared: &Channels,
         piece: &[u8],
         sent: &mut Sent,
     ) -> Result<(), AllocError>
@@ -45,7 +45,7 @@ impl Open {
     pub(crate) fn release(
         &mut self,
         rooms: &mut Rooms,
-        declared: &Declared,
+        declared: &Channels,
         reply: Reply,
         sent: &mut Sent,
     ) -> Result<(), AllocError>
@@ -81,7 +81,7 @@ impl Open {
     fn hand_in(
         &mut self,
         rooms: &mut Rooms,
-        declared: &Declared,
+        declared: &Channels,
         sent: &mut Sent,
     ) -> Result<(), AllocError>
         ensures handed_in { (w : World) → rooms.old ≡ kept_world w → declared.now ≡ all_settings w
@@ -99,7 +99,7 @@ impl Open {
     }
 
     /// Hands in the next request, where there is one. Answers whether another may follow.
-    fn step(&mut self, rooms: &mut Rooms, declared: &Declared) -> Result<bool, AllocError>
+    fn step(&mut self, rooms: &mut Rooms, declared: &Channels) -> Result<bool, AllocError>
         ensures stepped { (w : World) → rooms.old ≡ kept_world w → declared.now ≡ all_settings w
             → OnOk result ((luck : visit.Luck) × IsVisit self.new.session rooms.new (visit.step luck self.old.number (record { session = self.old.session; rooms = w }))) }
         ensures last { IfOk result (λ more. more ≡ false → IsStill self.old.number self.new.session) }
@@ -142,7 +142,7 @@ impl Open {
     fn ask(
         &self,
         rooms: &mut Rooms,
-        declared: &Declared,
+        declared: &Channels,
         want: Want,
     ) -> Result<Option<Answer>, AllocError>
         ensures asked { (w : World) → rooms.old ≡ kept_world w → declared.now ≡ all_settings w

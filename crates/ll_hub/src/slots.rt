@@ -9,7 +9,7 @@ ghost use Rattle.ll_locked.specs.Told.{IsDecided, IsReadingRefused, IsTotal};
 ghost use Rattle.ll_room.specs.declared.stamped.Stamp.TheVariants as stamp;
 
 use crate::counted::Counted;
-use ll_channels::Declared;
+use ll_channels::Channels;
 use ll_item::Settings;
 use ll_ledger::{ChannelCounts, Ledgers};
 use ll_locked::{HubFault, Known, Total, Tried};
@@ -30,7 +30,7 @@ pub(crate) struct Slot<L: Ledgers> {
 /// Channels under a lock each, found by their names and their places.
 pub(crate) struct Slots<L: Ledgers> {
     alloc: Global,
-    declared: Declared,
+    declared: Channels,
     slots: Vec<Slot<L>>,
 }
 
@@ -68,7 +68,7 @@ impl<L: Ledgers> Slots<L> {
     {
         Slots {
             alloc,
-            declared: Declared::new(alloc),
+            declared: Channels::new(alloc),
             slots: Vec::new(alloc),
         }
     }
@@ -279,7 +279,7 @@ impl<L: Ledgers> Slot<L> {
     /// Closes what is held, tells what the channel has come to, and gives its shares. Notes where it isn't the channel of this place.
     fn finish(
         self,
-        declared: &Declared,
+        declared: &Channels,
         place: usize,
         at_home: &mut bool,
     ) -> (Total, ChannelCounts<L>)
@@ -307,7 +307,7 @@ fn left<R: Clock>(rt: &R, start: Option<Instant>, limit: Duration) -> Option<Dur
 }
 
 /// Whether this is the channel at this place.
-fn is_at<L: Ledgers>(channel: &Counted<L>, declared: &Declared, place: usize) -> bool
+fn is_at<L: Ledgers>(channel: &Counted<L>, declared: &Channels, place: usize) -> bool
     ensures { (settings : Configuration) → IsTrue result → slice_get declared.now place ≡ Some settings → IsAt channel.now place settings }
 {
     match declared.get(place) {

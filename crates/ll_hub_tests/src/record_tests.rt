@@ -11,7 +11,7 @@ use ll_directive::read_target;
 use ll_hub::{Blanks, Hub, Ledgers, Pass, Sink};
 use ll_item::Item;
 use ll_record::Chunk;
-use ll_room::Keeper;
+use ll_room::Replayer;
 use ll_verdict::Reply;
 use std::alloc::Global;
 use std::marker::Brand;
@@ -156,15 +156,15 @@ fn playlist(reply: &Option<Reply>) -> &str {
 }
 
 /// Publishes an item where it is kept without a hub.
-fn keep(rt: &impl Abort, alloc: Global, keeper: &mut Keeper, line: &str) {
-    let item = Item::read(alloc, keeper.room().settings(), line).expect(rt, "an item");
-    assert!(rt; keeper.publish(item).is_ok());
+fn keep(rt: &impl Abort, alloc: Global, replayer: &mut Replayer, line: &str) {
+    let item = Item::read(alloc, replayer.room().settings(), line).expect(rt, "an item");
+    assert!(rt; replayer.publish(item).is_ok());
 }
 
 /// What is answered where the items are kept without a hub.
-fn kept_reply(rt: &impl Abort, alloc: Global, keeper: &mut Keeper) -> Option<Reply> {
+fn kept_reply(rt: &impl Abort, alloc: Global, replayer: &mut Replayer) -> Option<Reply> {
     let want = read_target(alloc, DOOR_NOW.as_bytes()).expect(rt, "a target");
-    let answer = keeper.ask(want).ok()??;
+    let answer = replayer.ask(want).ok()??;
     Some(answer.into_inner())
 }
 
@@ -174,13 +174,13 @@ fn publish_in_both<L: Ledgers, R: Wait + Abort>(
     alloc: Global,
     hub: &Hub<L>,
     pass: &mut Pass<L>,
-    keeper: &mut Keeper,
+    replayer: &mut Replayer,
     line: &str,
 ) {
     published(rt, alloc, hub, pass, 1, line);
     let found = reply(rt, alloc, hub, &Stopped, pass, 1, DOOR_NOW).expect(rt, "a reply");
-    keep(rt, alloc, keeper, line);
-    let expected = kept_reply(rt, alloc, keeper);
+    keep(rt, alloc, replayer, line);
+    let expected = kept_reply(rt, alloc, replayer);
     same(rt, line, playlist(&found), playlist(&expected));
 }
 
@@ -209,9 +209,9 @@ fn publish_each<L: Ledgers, R: Wait + Abort>(
     pass: &mut Pass<L>,
 ) {
     let settings = settings(rt, alloc, DOOR);
-    let mut keeper = Keeper::new(alloc, 1, settings).expect(rt, "a keeper");
+    let mut replayer = Replayer::new(alloc, 1, settings).expect(rt, "a replayer");
     for line in ITEMS.lines() {
-        publish_in_both(rt, alloc, hub, pass, &mut keeper, line);
+        publish_in_both(rt, alloc, hub, pass, &mut replayer, line);
     }
 }
 

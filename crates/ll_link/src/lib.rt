@@ -1,11 +1,11 @@
 //! Connections of players and publishers on a hub, and the workers that serve them.
 #![tactic(auto)]
 
-mod desk;
 mod fault;
 mod gate;
 mod player;
 mod publisher;
+mod service;
 mod workers;
 
 pub use fault::LinkFault;

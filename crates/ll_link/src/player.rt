@@ -9,9 +9,9 @@ ghost use Rattle.ll_link.specs.Answers.{unavailable_by};
 ghost use Rattle.ll_link.specs.Faults.{IsOwn, IsTrue};
 ghost use Rattle.ll_link.specs.Reads.{HasEnded, IsReadWithin, stays_or_ends};
 
-use crate::desk::{Desk, HandedOut};
 use crate::fault::LinkFault;
 use crate::gate::Gate;
+use crate::service::{HandedOut, Service};
 use crate::workers::PIECE;
 use ll_device::{Link, write_both};
 use ll_directive::{TargetFault, Want};
@@ -28,36 +28,36 @@ const LOOK: u64 = 1;
 
 /// Answers a player's requests, one after another, and counts the answers.
 pub(crate) fn serve<L: Ledgers, P: Link, C: Clock, G: Gate, K: Sink, R: Wait + time::Clock>(
-    desk: &Desk<'_, L, C, G, K, R>,
+    service: &Service<'_, L, C, G, K, R>,
     link: &mut P,
     pass: &mut Pass<L>,
 ) -> Result<u64, LinkFault>
     ensures faults { IsTrue result (P.failures link.old) (P.failures link.new) }
-    ensures few { IsReadWithin (P.inward link.old) (P.inward link.new) desk.now.reads }
-    ensures endless { IsErrOf result LinkFault.Endless → P.inward link.new ≡ looked_at desk.now.reads 0 (P.inward link.old) }
+    ensures few { IsReadWithin (P.inward link.old) (P.inward link.new) service.now.reads }
+    ensures endless { IsErrOf result LinkFault.Endless → P.inward link.new ≡ looked_at service.now.reads 0 (P.inward link.old) }
 {
-    let mut session = Session::new(desk.alloc);
-    let served = converse(desk, link, pass, &mut session);
+    let mut session = Session::new(service.alloc);
+    let served = converse(service, link, pass, &mut session);
     session.end();
     served
 }
 
 /// Reads requests and answers them, until either side ends the connection.
 fn converse<L: Ledgers, P: Link, C: Clock, G: Gate, K: Sink, R: Wait + time::Clock>(
-    desk: &Desk<'_, L, C, G, K, R>,
+    service: &Service<'_, L, C, G, K, R>,
     link: &mut P,
     pass: &mut Pass<L>,
     session: &mut Session,
 ) -> Result<u64, LinkFault>
     ensures faults { IsTrue result (P.failures link.old) (P.failures link.new) }
-    ensures few { IsReadWithin (P.inward link.old) (P.inward link.new) desk.now.reads }
-    ensures endless { IsErrOf result LinkFault.Endless → P.inward link.new ≡ looked_at desk.now.reads 0 (P.inward link.old) }
+    ensures few { IsReadWithin (P.inward link.old) (P.inward link.new) service.now.reads }
+    ensures endless { IsErrOf result LinkFault.Endless → P.inward link.new ≡ looked_at service.now.reads 0 (P.inward link.old) }
     ensures ended { OnOk result (session.new.shut ≡ false → HasEnded (P.inward link.old) (P.inward link.new)) }
 {
     let mut answers = 0;
     let mut piece = [0; PIECE];
-    for _ in 0..desk.reads {
-        let stays = answer(desk, link, pass, session, &mut answers)?;
+    for _ in 0..service.reads {
+        let stays = answer(service, link, pass, session, &mut answers)?;
         if !stays || session.shut() {
             return Ok(answers);
         }
@@ -74,7 +74,7 @@ fn converse<L: Ledgers, P: Link, C: Clock, G: Gate, K: Sink, R: Wait + time::Clo
 
 /// Answers all whole requests that came. Says whether the player stays: false, where it hung up while one was held.
 fn answer<L: Ledgers, P: Link, C: Clock, G: Gate, K: Sink, R: Wait + time::Clock>(
-    desk: &Desk<'_, L, C, G, K, R>,
+    service: &Service<'_, L, C, G, K, R>,
     link: &mut P,
     pass: &mut Pass<L>,
     session: &mut Session,
@@ -85,26 +85,26 @@ fn answer<L: Ledgers, P: Link, C: Clock, G: Gate, K: Sink, R: Wait + time::Clock
     ensures unread { OnErr result (P.inward link.new ≡ P.inward link.old) }
     ensures other { IfErr result (λ fault. fault ≢ LinkFault.Endless) }
 {
-    for _ in desk.rt.forever() {
+    for _ in service.rt.forever() {
         let want = session.next_want()?;
-        send(desk, link, session, answers)?;
+        send(service, link, session, answers)?;
         let Some(want) = want else {
             return Ok(true);
         };
-        let Some(answer) = ask(desk, link, pass, session, want)? else {
+        let Some(answer) = ask(service, link, pass, session, want)? else {
             return Ok(false);
         };
         if session.waiting() {
             session.answered(&answer)?;
         }
-        send(desk, link, session, answers)?;
+        send(service, link, session, answers)?;
     }
     unreachable!()
 }
 
 /// Sends the answers that are there, each in one write where the link takes it.
 fn send<L: Ledgers, P: Link, C, G: Gate, K, R>(
-    desk: &Desk<'_, L, C, G, K, R>,
+    service: &Service<'_, L, C, G, K, R>,
     link: &mut P,
     session: &mut Session,
     answers: &mut u64,
@@ -117,7 +117,7 @@ fn send<L: Ledgers, P: Link, C, G: Gate, K, R>(
 {
     while let Some((head, body)) = session.first_answer() {
         *answers = answers.saturating_add(1);
-        desk.gate.pass(*answers);
+        service.gate.pass(*answers);
         match write_both(link, head, body) {
             Ok(()) => session.first_sent(),
             Err(_) => return Err(LinkFault::Write),
@@ -129,7 +129,7 @@ fn send<L: Ledgers, P: Link, C, G: Gate, K, R>(
 /// What a request is answered; nothing, where its player hung up while it was held. Where the record of its channel is full, that is
 /// handed out and the request made once more.
 fn ask<L: Ledgers, P: Link, C: Clock, G, K: Sink, R: Wait + time::Clock>(
-    desk: &Desk<'_, L, C, G, K, R>,
+    service: &Service<'_, L, C, G, K, R>,
     link: &mut P,
     pass: &mut Pass<L>,
     session: &mut Session,
@@ -139,15 +139,15 @@ fn ask<L: Ledgers, P: Link, C: Clock, G, K: Sink, R: Wait + time::Clock>(
     ensures looked { IfOk result (λ answer. P.inward link.new ≡ stays_or_ends (is_some answer) (P.inward link.old)) }
     ensures unread { OnErr result (P.inward link.new ≡ P.inward link.old) }
     ensures other { IfErr result (λ fault. fault ≢ LinkFault.Endless) }
-    ensures unknown { channel_of_name desk.now.hub.now 0 want.channel ≡ None → result ≡ Ok (Some (Answer.Target TargetFault.NotFound)) }
+    ensures unknown { channel_of_name service.now.hub.now 0 want.channel ≡ None → result ≡ Ok (Some (Answer.Target TargetFault.NotFound)) }
 {
-    let Some((channel, _)) = desk.hub.find(want.channel()) else {
+    let Some((channel, _)) = service.hub.find(want.channel()) else {
         return Ok(Some(Answer::Target(TargetFault::NotFound)));
     };
     let Ok(again) = want.copy() else {
         return Ok(Some(Answer::Unavailable(Unavailable::Memory)));
     };
-    match ask_in(desk, link, pass, session, channel, want, again) {
+    match ask_in(service, link, pass, session, channel, want, again) {
         Ok((answer, _)) => Ok(answer),
         Err(fault) => Err(fault),
     }
@@ -156,7 +156,7 @@ fn ask<L: Ledgers, P: Link, C: Clock, G, K: Sink, R: Wait + time::Clock>(
 /// What a request of the channel at this place is answered, where the second is a copy of it. Where the record of the channel is full,
 /// that is handed out and the copy made in its place: the last answer, and whether it was handed out.
 fn ask_in<L: Ledgers, P: Link, C: Clock, G, K: Sink, R: Wait + time::Clock>(
-    desk: &Desk<'_, L, C, G, K, R>,
+    service: &Service<'_, L, C, G, K, R>,
     link: &mut P,
     pass: &mut Pass<L>,
     session: &mut Session,
@@ -170,15 +170,15 @@ fn ask_in<L: Ledgers, P: Link, C: Clock, G, K: Sink, R: Wait + time::Clock>(
     ensures other { IfErr result (λ fault. fault ≢ LinkFault.Endless) }
     ensures full { IfOk result (λ told. told.0 ≡ Some (Answer.Unavailable Unavailable.RecordFull) → told.1 ≡ Some channel) }
 {
-    let Some(first) = ask_once(desk, link, pass, session, channel, want)? else {
+    let Some(first) = ask_once(service, link, pass, session, channel, want)? else {
         return Ok((None, None));
     };
-    ask_again(desk, link, pass, session, channel, again, first)
+    ask_again(service, link, pass, session, channel, again, first)
 }
 
 /// What a request comes to that was answered so at first: this answer, unless the record of the channel was full.
 fn ask_again<L: Ledgers, P: Link, C: Clock, G, K: Sink, R: Wait + time::Clock>(
-    desk: &Desk<'_, L, C, G, K, R>,
+    service: &Service<'_, L, C, G, K, R>,
     link: &mut P,
     pass: &mut Pass<L>,
     session: &mut Session,
@@ -196,8 +196,8 @@ fn ask_again<L: Ledgers, P: Link, C: Clock, G, K: Sink, R: Wait + time::Clock>(
     if !is_full(&first) {
         return Ok((Some(first), None));
     }
-    let handed = desk.hand_out(channel)?;
-    let second = ask_once(desk, link, pass, session, channel, want)?;
+    let handed = service.hand_out(channel)?;
+    let second = ask_once(service, link, pass, session, channel, want)?;
     Ok((second, Some(handed)))
 }
 
@@ -210,7 +210,7 @@ fn is_full(answer: &Answer) -> bool
 
 /// What a request of the channel at this place is answered. Where it has to wait, its reply is waited for.
 fn ask_once<L: Ledgers, P: Link, C: Clock, G, K: Sink, R: Wait + time::Clock>(
-    desk: &Desk<'_, L, C, G, K, R>,
+    service: &Service<'_, L, C, G, K, R>,
     link: &mut P,
     pass: &mut Pass<L>,
     session: &mut Session,
@@ -222,16 +222,19 @@ fn ask_once<L: Ledgers, P: Link, C: Clock, G, K: Sink, R: Wait + time::Clock>(
     ensures unread { OnErr result (P.inward link.new ≡ P.inward link.old) }
     ensures other { IfErr result (λ fault. fault ≢ LinkFault.Endless) }
 {
-    match desk.hub.ask(desk.rt, desk.clock, pass, channel, want) {
+    match service
+        .hub
+        .ask(service.rt, service.clock, pass, channel, want)
+    {
         Ok(HubAsked::Now(reply)) => Ok(Some(Answer::Reply(reply.into_inner()))),
-        Ok(HubAsked::Held(claim)) => hold(desk, link, pass, session, claim),
+        Ok(HubAsked::Held(claim)) => hold(service, link, pass, session, claim),
         Err(fault) => Ok(Some(unavailable(fault)?)),
     }
 }
 
 /// The reply to a request that is held. Where too many bytes wait after it, it is given up, and the session has shut.
 fn hold<L: Ledgers, P: Link, C, G, K: Sink, R: Wait + time::Clock>(
-    desk: &Desk<'_, L, C, G, K, R>,
+    service: &Service<'_, L, C, G, K, R>,
     link: &mut P,
     pass: &mut Pass<L>,
     session: &mut Session,
@@ -244,16 +247,16 @@ fn hold<L: Ledgers, P: Link, C, G, K: Sink, R: Wait + time::Clock>(
 {
     let fed = session.feed(&[]);
     if fed.is_err() || session.shut() {
-        desk.hub.close(desk.rt, claim);
+        service.hub.close(service.rt, claim);
         fed?;
         return Ok(Some(Answer::Unavailable(Unavailable::Memory)));
     }
-    wait(desk, link, pass, claim)
+    wait(service, link, pass, claim)
 }
 
 /// The reply to a request that is held. Where its player has hung up, it is given up, and there is none.
 fn wait<L: Ledgers, P: Link, C, G, K: Sink, R: Wait + time::Clock>(
-    desk: &Desk<'_, L, C, G, K, R>,
+    service: &Service<'_, L, C, G, K, R>,
     link: &mut P,
     pass: &mut Pass<L>,
     claim: Claim,
@@ -265,14 +268,14 @@ fn wait<L: Ledgers, P: Link, C, G, K: Sink, R: Wait + time::Clock>(
 {
     let limit = Duration::from_secs(LOOK);
     let mut held = claim;
-    for _ in desk.rt.forever() {
-        let still = match desk.hub.wait_within(desk.rt, pass, held, limit) {
+    for _ in service.rt.forever() {
+        let still = match service.hub.wait_within(service.rt, pass, held, limit) {
             Ok(Waited::Reply(reply)) => return Ok(Some(Answer::Reply(reply.into_inner()))),
             Ok(Waited::Still(claim)) => claim,
             Err(_) => return Err(LinkFault::Hub),
         };
         if link.gone() {
-            desk.hub.close(desk.rt, still);
+            service.hub.close(service.rt, still);
             return Ok(None);
         }
         held = still;

@@ -10,9 +10,9 @@ ghost use Rattle.ll_link.specs.Answers.{refused_before, refused_by};
 ghost use Rattle.ll_link.specs.Faults.{IsOwn, IsTrue};
 ghost use Rattle.ll_link.specs.Reads.{HasEnded, IsReadWithin};
 
-use crate::desk::{Desk, HandedOut};
 use crate::fault::LinkFault;
 use crate::gate::Gate;
+use crate::service::{HandedOut, Service};
 use crate::workers::PIECE;
 use ll_device::{Link, write_all};
 use ll_hub::{HubFault, Ledgers, Pass, RoomFault, Sink};
@@ -22,19 +22,19 @@ use std::sync::Wait;
 
 /// Publishes what a publisher's lines announce, answers each, and counts the answers.
 pub(crate) fn serve<L: Ledgers, P: Link, C, G: Gate, K: Sink, R: Wait>(
-    desk: &Desk<'_, L, C, G, K, R>,
+    service: &Service<'_, L, C, G, K, R>,
     link: &mut P,
     pass: &mut Pass<L>,
 ) -> Result<u64, LinkFault>
     ensures faults { IsTrue result (P.failures link.old) (P.failures link.new) }
-    ensures few { IsReadWithin (P.inward link.old) (P.inward link.new) desk.now.reads }
-    ensures endless { IsErrOf result LinkFault.Endless → P.inward link.new ≡ looked_at desk.now.reads 0 (P.inward link.old) }
+    ensures few { IsReadWithin (P.inward link.old) (P.inward link.new) service.now.reads }
+    ensures endless { IsErrOf result LinkFault.Endless → P.inward link.new ≡ looked_at service.now.reads 0 (P.inward link.old) }
     ensures ended { OnOk result (HasEnded (P.inward link.old) (P.inward link.new)) }
 {
-    let mut feed = Feed::new(desk.alloc);
+    let mut feed = Feed::new(service.alloc);
     let mut answers = 0;
     let mut piece = [0; PIECE];
-    for _ in 0..desk.reads {
+    for _ in 0..service.reads {
         let Ok(count) = link.read(&mut piece) else {
             return Err(LinkFault::Read);
         };
@@ -42,14 +42,14 @@ pub(crate) fn serve<L: Ledgers, P: Link, C, G: Gate, K: Sink, R: Wait>(
             return Ok(answers);
         }
         feed.take(&piece[..count])?;
-        answer(desk, link, pass, &mut feed, &mut answers)?;
+        answer(service, link, pass, &mut feed, &mut answers)?;
     }
     Err(LinkFault::Endless)
 }
 
 /// Answers all whole lines that came.
 fn answer<L: Ledgers, P: Link, C, G: Gate, K: Sink, R: Wait>(
-    desk: &Desk<'_, L, C, G, K, R>,
+    service: &Service<'_, L, C, G, K, R>,
     link: &mut P,
     pass: &mut Pass<L>,
     feed: &mut Feed,
@@ -59,21 +59,21 @@ fn answer<L: Ledgers, P: Link, C, G: Gate, K: Sink, R: Wait>(
     ensures unread { P.inward link.new ≡ P.inward link.old }
     ensures other { IfErr result (λ fault. fault ≢ LinkFault.Endless) }
 {
-    for _ in desk.rt.forever() {
+    for _ in service.rt.forever() {
         let Some(line) = feed.next() else {
             return Ok(());
         };
-        let reply = publish(desk, pass, line)?;
+        let reply = publish(service, pass, line)?;
         *answers = answers.saturating_add(1);
-        desk.gate.pass(*answers);
-        tell(desk, link, &reply)?;
+        service.gate.pass(*answers);
+        tell(service, link, &reply)?;
     }
     unreachable!()
 }
 
 /// Sends the line that answers a publisher's.
 fn tell<L: Ledgers, P: Link, C, G, K, R>(
-    desk: &Desk<'_, L, C, G, K, R>,
+    service: &Service<'_, L, C, G, K, R>,
     link: &mut P,
     reply: &Result<u64, Refusal>,
 ) -> Result<(), LinkFault>
@@ -82,7 +82,7 @@ fn tell<L: Ledgers, P: Link, C, G, K, R>(
     ensures other { IfErr result (λ fault. fault ≢ LinkFault.Endless) }
     ensures sent { OnOk result (Appends (P.written link.old) (P.written link.new) (reply_line reply.now)) }
 {
-    let text = reply_text(desk.alloc, reply)?;
+    let text = reply_text(service.alloc, reply)?;
     match write_all(link, text.as_bytes()) {
         Ok(()) => Ok(()),
         Err(_) => Err(LinkFault::Write),
@@ -91,22 +91,22 @@ fn tell<L: Ledgers, P: Link, C, G, K, R>(
 
 /// Publishes what a line announces: how many items its channel has accepted with it, or why it is refused.
 fn publish<L: Ledgers, C, G, K: Sink, R: Wait>(
-    desk: &Desk<'_, L, C, G, K, R>,
+    service: &Service<'_, L, C, G, K, R>,
     pass: &mut Pass<L>,
     line: Line<'_>,
 ) -> Result<Result<u64, Refusal>, LinkFault>
     ensures own { IsOwn result }
-    ensures refused { (reason : Refusal) → refused_before desk.now.hub.now (meant line.entry) ≡ Some reason → result ≡ Ok (Err reason) }
+    ensures refused { (reason : Refusal) → refused_before service.now.hub.now (meant line.entry) ≡ Some reason → result ≡ Ok (Err reason) }
 {
     let (name, text) = match line {
         Line::Item(name, text) => (name, text),
         Line::Bad => return Ok(Err(Refusal::BadLine)),
         Line::TooLong => return Ok(Err(Refusal::LineTooLong)),
     };
-    let Some((channel, settings)) = desk.hub.find(name) else {
+    let Some((channel, settings)) = service.hub.find(name) else {
         return Ok(Err(Refusal::UnknownChannel));
     };
-    match publish_to(desk, pass, channel, settings, text) {
+    match publish_to(service, pass, channel, settings, text) {
         Ok((answer, _)) => Ok(answer),
         Err(fault) => Err(fault),
     }
@@ -115,7 +115,7 @@ fn publish<L: Ledgers, C, G, K: Sink, R: Wait>(
 /// Publishes an item that is spelled so, in the channel at this place. Where the record of the channel is full, that is handed out and the
 /// item published once more: the last answer, and whether it was handed out.
 fn publish_to<L: Ledgers, C, G, K: Sink, R: Wait>(
-    desk: &Desk<'_, L, C, G, K, R>,
+    service: &Service<'_, L, C, G, K, R>,
     pass: &mut Pass<L>,
     channel: usize,
     settings: &Settings,
@@ -125,13 +125,13 @@ fn publish_to<L: Ledgers, C, G, K: Sink, R: Wait>(
     ensures refused { (fault : ItemFault) → item_in settings.now text.now ≡ Err fault → result ≡ Ok (Err (item_refusal fault), None) }
     ensures full { IfOk result (λ told. told.0 ≡ Err Refusal.RecordFull → told.1 ≡ Some channel) }
 {
-    let first = publish_once(desk, pass, channel, settings, text)?;
-    publish_again(desk, pass, channel, settings, text, first)
+    let first = publish_once(service, pass, channel, settings, text)?;
+    publish_again(service, pass, channel, settings, text, first)
 }
 
 /// What publishing an item comes to that was answered so at first: this answer, unless the record of the channel was full.
 fn publish_again<L: Ledgers, C, G, K: Sink, R: Wait>(
-    desk: &Desk<'_, L, C, G, K, R>,
+    service: &Service<'_, L, C, G, K, R>,
     pass: &mut Pass<L>,
     channel: usize,
     settings: &Settings,
@@ -145,8 +145,8 @@ fn publish_again<L: Ledgers, C, G, K: Sink, R: Wait>(
     if !is_full(&first) {
         return Ok((first, None));
     }
-    let handed = desk.hand_out(channel)?;
-    let second = publish_once(desk, pass, channel, settings, text)?;
+    let handed = service.hand_out(channel)?;
+    let second = publish_once(service, pass, channel, settings, text)?;
     Ok((second, Some(handed)))
 }
 
@@ -159,7 +159,7 @@ fn is_full(answer: &Result<u64, Refusal>) -> bool
 
 /// Publishes an item that is spelled so, in the channel at this place.
 fn publish_once<L: Ledgers, C, G, K, R: Wait>(
-    desk: &Desk<'_, L, C, G, K, R>,
+    service: &Service<'_, L, C, G, K, R>,
     pass: &mut Pass<L>,
     channel: usize,
     settings: &Settings,
@@ -168,11 +168,11 @@ fn publish_once<L: Ledgers, C, G, K, R: Wait>(
     ensures own { IsOwn result }
     ensures refused { (fault : ItemFault) → item_in settings.now text.now ≡ Err fault → result ≡ Ok (Err (item_refusal fault)) }
 {
-    let item = match Item::read(desk.alloc, settings, text) {
+    let item = match Item::read(service.alloc, settings, text) {
         Ok(item) => item,
         Err(fault) => return Ok(Err(Refusal::from(fault))),
     };
-    match desk.hub.publish(desk.rt, pass, channel, item) {
+    match service.hub.publish(service.rt, pass, channel, item) {
         Ok(count) => Ok(Ok(count.into_inner())),
         Err(fault) => Ok(Err(refusal(fault)?)),
     }

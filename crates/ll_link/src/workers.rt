@@ -5,9 +5,9 @@ ghost use Rattle.ll_device.specs.Inward.{looked_at};
 ghost use Rattle.ll_link.specs.Faults.{IsTrue};
 ghost use Rattle.ll_link.specs.Reads.{HasEnded, IsReadWithin};
 
-use crate::desk::Desk;
 use crate::fault::LinkFault;
 use crate::gate::Gate;
+use crate::service::Service;
 use crate::{player, publisher};
 use crossbeam_channel::{Receiver, Sender};
 use ll_device::{CountedLink, Link, Role, Source};
@@ -67,7 +67,7 @@ pub fn serve_link_within<L: Ledgers, P: Link, C: Clock, G: Gate, K: Sink, R: Wai
     ensures endless { IsErrOf result LinkFault.Endless → P.inward link.new ≡ looked_at (min reads (2 ^ 32)) 0 (P.inward link.old) }
     ensures ended { role ≡ Role.Publisher → OnOk result (HasEnded (P.inward link.old) (P.inward link.new)) }
 {
-    let desk = Desk {
+    let service = Service {
         rt,
         alloc,
         clock,
@@ -77,8 +77,8 @@ pub fn serve_link_within<L: Ledgers, P: Link, C: Clock, G: Gate, K: Sink, R: Wai
         reads: reads.min(READS),
     };
     match role {
-        Role::Player => player::serve(&desk, link, pass),
-        Role::Publisher => publisher::serve(&desk, link, pass),
+        Role::Player => player::serve(&service, link, pass),
+        Role::Publisher => publisher::serve(&service, link, pass),
     }
 }
 

@@ -10,7 +10,7 @@ use Rattle.ll_replay.specs.Cuts.{IsCutBetween}
 use Rattle.ll_replay.specs.Kept.{Kept, Says, Stands, told}
 use Rattle.ll_device.specs.Written.{AppendsPrefix}
 use Rattle.ll_replay.specs.Stream.{StopsBetween}
-use Rattle.ll_replay.specs.Script.{Script, rest_at, so_many, tick}
+use Rattle.ll_replay.specs.Script.{Script, rest_at, so_many, next_reply}
 use Rattle.ll_replay.specs.declared.outcome.RunFault.{RunFault}
 use Rattle.ll_replay.specs.declared.outcome.RunFault.TheVariants as fault
 use Rattle.ll_replay.proofs.ScriptLaws.{Follows}
@@ -64,9 +64,9 @@ cut-later base written w v u fault.Endless a c = c
 -- ---- replies, one after another
 
 -- where none is due, none is told, whatever memory is found
-pub all-still : (place : ℕ) (w : Script) (list : List (List Luck)) → ((lucks : List Luck) → tick place w lucks ≡ w) → fold (tick place) w list ≡ w
+pub all-still : (place : ℕ) (w : Script) (list : List (List Luck)) → ((lucks : List Luck) → next_reply place w lucks ≡ w) → fold (next_reply place) w list ≡ w
 all-still place w [] still = refl
-all-still place w (lucks ∷ list) still = ap (λ v. fold (tick place) v list) (still lucks) ∙ all-still place w list still
+all-still place w (lucks ∷ list) still = ap (λ v. fold (next_reply place) v list) (still lucks) ∙ all-still place w list still
 
 so_many-all : (n : ℕ) (list : List (List Luck)) → length list ≡ n → so_many n list ≡ list
 so_many-all zero [] e = refl
@@ -83,11 +83,11 @@ so_many-more (suc n) (lucks ∷ list) h =
 
 -- these are told first, and then the others that are due
 pub rest_at-more : (replies : List (List Luck)) (place : ℕ) (w : Script) → length replies ≤ length w.rooms.waits
-    → rest_at replies place w ≡ fold (tick place) (fold (tick place) w replies) (so_many (length w.rooms.waits - length replies) [])
+    → rest_at replies place w ≡ fold (next_reply place) (fold (next_reply place) w replies) (so_many (length w.rooms.waits - length replies) [])
 rest_at-more replies place w h =
-    ap (fold (tick place) w) (so_many-more (length w.rooms.waits) replies h)
-    ∙ fold-append (tick place) w replies (so_many (length w.rooms.waits - length replies) [])
+    ap (fold (next_reply place) w) (so_many-more (length w.rooms.waits) replies h)
+    ∙ fold-append (next_reply place) w replies (so_many (length w.rooms.waits - length replies) [])
 
 -- these are all
-pub rest_at-all : (replies : List (List Luck)) (place : ℕ) (w : Script) → length replies ≡ length w.rooms.waits → rest_at replies place w ≡ fold (tick place) w replies
-rest_at-all replies place w e = ap (fold (tick place) w) (so_many-all (length w.rooms.waits) replies e)
+pub rest_at-all : (replies : List (List Luck)) (place : ℕ) (w : Script) → length replies ≡ length w.rooms.waits → rest_at replies place w ≡ fold (next_reply place) w replies
+rest_at-all replies place w e = ap (fold (next_reply place) w) (so_many-all (length w.rooms.waits) replies e)

@@ -14,18 +14,18 @@ use Rattle.ll_script.specs.declared.act.Act.{Act}
 use Rattle.ll_script.specs.declared.act.Act.TheVariants.{Clock}
 use Rattle.ll_replay.specs.Cuts.{IsCutBetween}
 use Rattle.ll_replay.specs.Kept.{Keeps, Kept, Says, Stands, kept_script, met, told}
-use Rattle.ll_replay.specs.Script.{Lot, Script, act, acted, done, makes_due, rest, rest_at, so_many, tick, with_lots}
+use Rattle.ll_replay.specs.Script.{Lot, Script, act, acted, done, makes_due, rest, rest_at, so_many, next_reply, with_lots}
 use Rattle.ll_replay.specs.declared.outcome.RunFault.{RunFault}
 use Rattle.ll_replay.specs.declared.outcome.RunFault.TheVariants as fault
 use Rattle.ll_replay.proofs.DriverLemmas.{all-still, cut-extends, cut-later, rest_at-all, rest_at-more, said, said-cut, stops-before}
-use Rattle.ll_replay.proofs.ScriptLaws.{Follows, act-follows, all_done-follow, done-follows, rest-follows, tick-follows, ticks-follow}
+use Rattle.ll_replay.proofs.ScriptLaws.{Follows, act-follows, all_done-follow, done-follows, rest-follows, next_reply-follows, ticks-follow}
 
 -- ---- the replies that are due
 
 -- so many replies were written
 abbrev pub Goes : (first now : Kept) (before mid : Option (List ℕ)) (place n : ℕ) → Type 0
 Goes first now before mid place n = (w : Script) (base : Option (List ℕ)) → Stands first base before w
-    → (list : List (List Luck)) × (length list ≡ n) × Stands now base mid (fold (tick place) w list)
+    → (list : List (List Luck)) × (length list ≡ n) × Stands now base mid (fold (next_reply place) w list)
 
 -- with the rest of a channel's replies a driver stands
 abbrev pub Rests : (first now : Kept) (before after : Option (List ℕ)) (place : ℕ) → Type 0
@@ -42,16 +42,16 @@ bound first w n e same = e ∙ ap (λ (k : Kept). length k.rooms.waits) same
 
 -- one more is written
 pub rest-next : (first now new : Kept) (before mid after : Option (List ℕ)) (place n : ℕ) (answer : Option (Vec ℕ Global)) → Goes first now before mid place n
-    → ((w : Script) → Keeps now w → (lucks : List Luck) × Says new answer w (tick place w lucks)) → Appends mid after (told answer) → Goes first new before after place (n + 1)
+    → ((w : Script) → Keeps now w → (lucks : List Luck) × Says new answer w (next_reply place w lucks)) → Appends mid after (told answer) → Goes first new before after place (n + 1)
 rest-next first now new before mid after place n answer goes says wrote w base s =
     let t = goes w base s in
-    let v = fold (tick place) w t.0 in
+    let v = fold (next_reply place) w t.0 in
     let next = says v t.2.keeps in
     let count : length (t.0 ++ next.0 ∷ []) ≡ n + 1 = rw length-append (omega (arith, t.1)) in (
       t.0 ++ next.0 ∷ [],
       count,
-      subst (Stands new base after) (sym (fold-append (tick place) w t.0 (next.0 ∷ [])))
-          (said new now base mid after v (tick place v next.0) answer (tick-follows place v next.0) next.1 t.2 wrote),
+      subst (Stands new base after) (sym (fold-append (next_reply place) w t.0 (next.0 ∷ [])))
+          (said new now base mid after v (next_reply place v next.0) answer (next_reply-follows place v next.0) next.1 t.2 wrote),
     )
 
 -- all that were due are written
@@ -63,11 +63,11 @@ rest-all first now before mid place n m goes e last w base s =
 
 -- no further one is due
 pub rest-none : (first now new : Kept) (before mid : Option (List ℕ)) (place n m : ℕ) → Goes first now before mid place n → m ≡ length first.rooms.waits → n < m
-    → ((w : Script) → Keeps now w → (lucks : List Luck) × Says new None w (tick place w lucks)) → ((w : Script) → Keeps now w → (lucks : List Luck) → tick place w lucks ≡ w)
+    → ((w : Script) → Keeps now w → (lucks : List Luck) × Says new None w (next_reply place w lucks)) → ((w : Script) → Keeps now w → (lucks : List Luck) → next_reply place w lucks ≡ w)
     → Rests first new before mid place
 rest-none first now new before mid place n m goes e less says still w base s =
     let t = goes w base s in
-    let v = fold (tick place) w t.0 in
+    let v = fold (next_reply place) w t.0 in
     let none = still v t.2.keeps in
     let next = says v t.2.keeps in
     let long = bound first w m e s.keeps.stands in
@@ -76,22 +76,22 @@ rest-none first now new before mid place n m goes e less says still w base s =
 
 -- a fault in writing the next one
 pub rest-cut : (f : RunFault) (first now new : Kept) (before mid after : Option (List ℕ)) (place n m : ℕ) (answer : Option (Vec ℕ Global)) → Goes first now before mid place n
-    → m ≡ length first.rooms.waits → n < m → ((w : Script) → Keeps now w → (lucks : List Luck) × Says new answer w (tick place w lucks))
+    → m ≡ length first.rooms.waits → n < m → ((w : Script) → Keeps now w → (lucks : List Luck) × Says new answer w (next_reply place w lucks))
     → f ≡ fault.Write → AppendsPrefix mid after (told answer) → RestsCut first before after place f
 rest-cut f first now new before mid after place n m answer goes e less says kind prefix w base s =
     let t = goes w base s in
-    let v = fold (tick place) w t.0 in
+    let v = fold (next_reply place) w t.0 in
     let next = says v t.2.keeps in
     let long = bound first w m e s.keeps.stands in
     let replies = t.0 ++ next.0 ∷ [] in
     let count : length replies ≤ length w.rooms.waits = rw length-append (omega (arith, t.1, less, long)) in
     let later = so_many (length w.rooms.waits - length replies) [] in
-    let to = rest_at-more replies place w count ∙ ap (λ u. fold (tick place) u later) (fold-append (tick place) w t.0 (next.0 ∷ [])) in (
+    let to = rest_at-more replies place w count ∙ ap (λ u. fold (next_reply place) u later) (fold-append (next_reply place) w t.0 (next.0 ∷ [])) in (
       replies,
       cut-later base after w v (rest_at replies place w) f (ticks-follow place w t.0)
-          (cut-extends base after v (tick place v next.0) (rest_at replies place w) f t.2.goes_on (tick-follows place v next.0)
-          (subst (Follows (tick place v next.0)) (sym to) (ticks-follow place (tick place v next.0) later))
-          (said-cut new now base mid after v (tick place v next.0) answer f next.1 t.2 kind prefix)),
+          (cut-extends base after v (next_reply place v next.0) (rest_at replies place w) f t.2.goes_on (next_reply-follows place v next.0)
+          (subst (Follows (next_reply place v next.0)) (sym to) (ticks-follow place (next_reply place v next.0) later))
+          (said-cut new now base mid after v (next_reply place v next.0) answer f next.1 t.2 kind prefix)),
     )
 
 -- out of memory at the next one
@@ -99,7 +99,7 @@ pub rest-stops : (first now : Kept) (before mid : Option (List ℕ)) (place n m 
     → RestsCut first before mid place fault.Memory
 rest-stops first now before mid place n m goes e less w base s =
     let t = goes w base s in
-    let v = fold (tick place) w t.0 in
+    let v = fold (next_reply place) w t.0 in
     let long = bound first w m e s.keeps.stands in
     let later = so_many (length w.rooms.waits - length t.0) [] in
     let to = rest_at-more t.0 place w (omega (arith, less, long, t.1)) in (

@@ -18,7 +18,7 @@ use Rattle.ll_rooms.specs.World as rooms
 use Rattle.ll_rooms.specs.declared.answer.Answer as answer
 use Rattle.ll_rooms.specs.declared.answer.Answer.TheVariants as said
 use Rattle.ll_replay.specs.Kept.{met}
-use Rattle.ll_replay.specs.Script.{Script, Ending, LineTooLong, Lot, Marked, act, acted, counted, done, heard, line, line_by, makes_due, passed_on, passed_to, read_by, rest, rest_at, so_many, spelled, tick, turned, with_lots}
+use Rattle.ll_replay.specs.Script.{Script, Ending, LineTooLong, Lot, Marked, act, acted, counted, done, heard, line, line_by, makes_due, passed_on, passed_to, read_by, rest, rest_at, so_many, spelled, next_reply, turned, with_lots}
 
 -- a world that says more and ends as the first
 abbrev pub Follows : Script → Script → Type 0
@@ -66,15 +66,15 @@ all_passed_on-follow lucks w [] = follows_itself w w refl refl
 all_passed_on-follow lucks w (a ∷ answers) =
     follows_both w (passed_on lucks w a) (fold (passed_on lucks) (passed_on lucks w a) answers) (passed_on-follows lucks w a) (all_passed_on-follow lucks (passed_on lucks w a) answers)
 
-pub tick-follows : (place : ℕ) (w : Script) (lucks : List Luck) → Follows w (tick place w lucks)
-tick-follows place w lucks =
-    let v = rooms.tick place w.rooms in
-    follows_both w (heard w v) (tick place w lucks) (heard-follows w v) (all_passed_on-follow lucks (heard w v) v.answers)
+pub next_reply-follows : (place : ℕ) (w : Script) (lucks : List Luck) → Follows w (next_reply place w lucks)
+next_reply-follows place w lucks =
+    let v = rooms.next_reply place w.rooms in
+    follows_both w (heard w v) (next_reply place w lucks) (heard-follows w v) (all_passed_on-follow lucks (heard w v) v.answers)
 
-pub ticks-follow : (place : ℕ) (w : Script) (list : List (List Luck)) → Follows w (fold (tick place) w list)
+pub ticks-follow : (place : ℕ) (w : Script) (list : List (List Luck)) → Follows w (fold (next_reply place) w list)
 ticks-follow place w [] = follows_itself w w refl refl
 ticks-follow place w (lucks ∷ list) =
-    follows_both w (tick place w lucks) (fold (tick place) (tick place w lucks) list) (tick-follows place w lucks) (ticks-follow place (tick place w lucks) list)
+    follows_both w (next_reply place w lucks) (fold (next_reply place) (next_reply place w lucks) list) (next_reply-follows place w lucks) (ticks-follow place (next_reply place w lucks) list)
 
 pub rest_at-follows : (replies : List (List Luck)) (place : ℕ) (w : Script) → Follows w (rest_at replies place w)
 rest_at-follows replies place w = ticks-follow place w (so_many (length w.rooms.waits) replies)

@@ -14,7 +14,7 @@ use Rattle.ll_rooms.specs.declared.owner.Owner.TheVariants.{Connection}
 use Rattle.ll_item.specs.Settings.{Configuration}
 use Rattle.ll_session.specs.Talk.{SessionValue}
 use Rattle.ll_verdict.specs.declared.reply.Reply.{Reply}
-use Rattle.ll_rooms.proofs.SettingsLaws.{ask-keeps, close-keeps, tick-keeps}
+use Rattle.ll_rooms.proofs.SettingsLaws.{ask-keeps, close-keeps, next_reply-keeps}
 use Rattle.ll_rooms.specs.Kept as rooms
 use Rattle.ll_rooms.specs.Kept.{Leads, answers_of}
 use Rattle.ll_rooms.specs.World as world
@@ -22,7 +22,7 @@ use Rattle.ll_rooms.specs.World.{all_settings, count_end, silent}
 use Rattle.ll_rooms.specs.declared.answer.Answer as answer
 use Rattle.ll_rooms.specs.declared.answer.Answer.TheVariants as said
 use Rattle.ll_replay.specs.Kept.{Keeps, Kept, Says, kept_script, told}
-use Rattle.ll_replay.specs.Script.{Script, heard, passed_on, reply_count, spelled, tick, turned}
+use Rattle.ll_replay.specs.Script.{Script, heard, passed_on, reply_count, spelled, next_reply, turned}
 use Rattle.ll_replay.proofs.HeardLemmas.{hears, heard-result, heard-says, still-result}
 
 -- ---- whatever comes to a connection, the channels have the same settings
@@ -131,30 +131,30 @@ answers_are : (held : rooms.Kept) (a : Option answer.Answer) (w v : world.World)
 answers_are held a w v quiet leads = leads.answers ∙ ap (λ list. list ++ answers_of a) quiet
 
 module _ (old now : Kept) (held : rooms.Kept) (place : ℕ) (a : Option answer.Answer) (same : old ≡ now)
-    (leads : (v : world.World) → old.rooms ≡ rooms.kept_world v → Leads held a v (world.tick place v)) where
+    (leads : (v : world.World) → old.rooms ≡ rooms.kept_world v → Leads held a v (world.next_reply place v)) where
   here : (w : Script) → Keeps now w → Keeps old w
   here w k = subst (λ s. Keeps s w) (sym same) k
 
-  there : (w : Script) → Keeps old w → Leads held a w.rooms (world.tick place w.rooms)
+  there : (w : Script) → Keeps old w → Leads held a w.rooms (world.next_reply place w.rooms)
   there w q = leads w.rooms (ap (λ (s : Kept). s.rooms) q.stands)
 
   -- one to a connection
-  pub tick-passed : {E : Type 0} (r : Result (Option (Vec ℕ Global)) E) (n : ℕ) (reply : Reply) (mid new : Kept) → a ≡ Some (said.Replied (Connection n) reply)
+  pub next_reply-passed : {E : Type 0} (r : Result (Option (Vec ℕ Global)) E) (n : ℕ) (reply : Reply) (mid new : Kept) → a ≡ Some (said.Replied (Connection n) reply)
       → mid ≡ record old { rooms = held }
       → ((u : Script) → Keeps mid u → IfOk r (λ t. (lucks : List Luck) × Says new t u (turned u (connection.reply lucks n reply u.connections u.rooms))))
-      → (w : Script) → Keeps now w → IfOk r (λ t. (lucks : List Luck) × Says new t w (tick place w lucks))
-  tick-passed (Err e) n reply mid new is_a is_mid goes w k = tt
-  tick-passed (Ok t) n reply mid new is_a is_mid goes w k =
+      → (w : Script) → Keeps now w → IfOk r (λ t. (lucks : List Luck) × Says new t w (next_reply place w lucks))
+  next_reply-passed (Err e) n reply mid new is_a is_mid goes w k = tt
+  next_reply-passed (Ok t) n reply mid new is_a is_mid goes w k =
       let q = here w k in
-      let v = world.tick place w.rooms in
+      let v = world.next_reply place w.rooms in
       let quiet : old.replies ≡ min (old.replies + reply_count (answers_of a)) count_end =
       within old.replies w.replies count_end (ap (λ (s : Kept). s.replies) q.stands) ∙ ap (λ o. min (old.replies + reply_count (answers_of o)) count_end) (sym is_a) in
       let nothing : [] ≡ flat_map spelled (answers_of a) = ap (λ o. flat_map spelled (answers_of o)) (sym is_a) in
-      let first : Says (hears old held old.replies) None w (heard w v) = heard-says old held old.replies w v a None q (there w q) (tick-keeps w.rooms place) quiet nothing in
+      let first : Says (hears old held old.replies) None w (heard w v) = heard-says old held old.replies w v a None q (there w q) (next_reply-keeps w.rooms place) quiet nothing in
       let next = goes (heard w v) (subst (λ s. Keeps s (heard w v)) (sym is_mid) first.keeps) in
       let lucks = next.0 in
       let second = next.1 in
-      let to : tick place w lucks ≡ turned (heard w v) (connection.reply lucks n reply w.connections (silent v)) =
+      let to : next_reply place w lucks ≡ turned (heard w v) (connection.reply lucks n reply w.connections (silent v)) =
       ap (fold (passed_on lucks) (heard w v)) (answers_are held a w.rooms v q.silent (there w q) ∙ ap answers_of is_a) in (
         lucks,
         subst (Says new t w) (sym to)
@@ -165,22 +165,22 @@ module _ (old now : Kept) (held : rooms.Kept) (place : ℕ) (a : Option answer.A
       within n r e h = omega arith
 
   module _ (other : (lucks : List Luck) (w : Script) → fold (passed_on lucks) w (answers_of a) ≡ w) where
-    stays : (lucks : List Luck) (w : Script) → Keeps old w → tick place w lucks ≡ heard w (world.tick place w.rooms)
+    stays : (lucks : List Luck) (w : Script) → Keeps old w → next_reply place w lucks ≡ heard w (world.next_reply place w.rooms)
     stays lucks w q =
-        let v = world.tick place w.rooms in
+        let v = world.next_reply place w.rooms in
         ap (fold (passed_on lucks) (heard w v)) (answers_are held a w.rooms v q.silent (there w q)) ∙ other lucks (heard w v)
 
     -- any other
-    pub tick-heard : {E : Type 0} (r : Result (Option (Vec ℕ Global)) E) (new : Kept) → new ≡ hears old held (min (old.replies + reply_count (answers_of a)) count_end)
-        → IfOk r (λ t. told t ≡ flat_map spelled (answers_of a)) → (w : Script) → Keeps now w → IfOk r (λ t. (lucks : List Luck) × Says new t w (tick place w lucks))
-    tick-heard (Err e) new is text w k = tt
-    tick-heard (Ok t) new is text w k = (
+    pub next_reply-heard : {E : Type 0} (r : Result (Option (Vec ℕ Global)) E) (new : Kept) → new ≡ hears old held (min (old.replies + reply_count (answers_of a)) count_end)
+        → IfOk r (λ t. told t ≡ flat_map spelled (answers_of a)) → (w : Script) → Keeps now w → IfOk r (λ t. (lucks : List Luck) × Says new t w (next_reply place w lucks))
+    next_reply-heard (Err e) new is text w k = tt
+    next_reply-heard (Ok t) new is text w k = (
       [],
       subst (Says new t w) (sym (stays [] w (here w k)))
-          (heard-result {E = Unit} (Ok t) old now new held (world.tick place) a same (λ v. tick-keeps v place) leads is text w k),
+          (heard-result {E = Unit} (Ok t) old now new held (world.next_reply place) a same (λ v. next_reply-keeps v place) leads is text w k),
     )
 
-    pub tick-still : {E : Type 0} (r : Result (Option (Vec ℕ Global)) E) → ((v : world.World) → old.rooms ≡ rooms.kept_world v → a ≡ None → world.tick place v ≡ v)
-        → IfOk r (λ t. t ≡ None → a ≡ None) → (w : Script) → Keeps now w → IfOk r (λ t. t ≡ None → (lucks : List Luck) → tick place w lucks ≡ w)
-    tick-still (Err e) still none w k = tt
-    tick-still (Ok t) still none w k = λ nothing lucks. stays lucks w (here w k) ∙ still-result {E = Unit} (Ok t) old now (world.tick place) a same still none w k nothing
+    pub next_reply-still : {E : Type 0} (r : Result (Option (Vec ℕ Global)) E) → ((v : world.World) → old.rooms ≡ rooms.kept_world v → a ≡ None → world.next_reply place v ≡ v)
+        → IfOk r (λ t. t ≡ None → a ≡ None) → (w : Script) → Keeps now w → IfOk r (λ t. t ≡ None → (lucks : List Luck) → next_reply place w lucks ≡ w)
+    next_reply-still (Err e) still none w k = tt
+    next_reply-still (Ok t) still none w k = λ nothing lucks. stays lucks w (here w k) ∙ still-result {E = Unit} (Ok t) old now (world.next_reply place) a same still none w k nothing

@@ -152,8 +152,8 @@ abbrev pub ticked : Script → List Luck → rooms.World → Script
 ticked w lucks v = fold (passed_on lucks) (heard w v) v.answers
 
 -- of the replies of the channel at this place that are due, the one asked for first is written
-abbrev pub tick : ℕ → Script → List Luck → Script
-tick place w lucks = ticked w lucks (rooms.tick place w.rooms)
+abbrev pub next_reply : ℕ → Script → List Luck → Script
+next_reply place w lucks = ticked w lucks (rooms.next_reply place w.rooms)
 
 -- so many of these; where they are too few, all memory is found for the others
 abbrev pub so_many : ℕ → List (List Luck) → List (List Luck)
@@ -163,7 +163,7 @@ so_many (suc n) (lucks ∷ replies) = lucks ∷ so_many n replies
 
 -- all replies of the channel at this place that are due are written: no more than requests wait
 abbrev pub rest_at : List (List Luck) → ℕ → Script → Script
-rest_at replies place w = fold (tick place) w (so_many (length w.rooms.waits) replies)
+rest_at replies place w = fold (next_reply place) w (so_many (length w.rooms.waits) replies)
 
 -- the channel in which an act may make replies due: only an item and a reading of the clock make any due
 abbrev pub makes_due : Act → Option ℕ

@@ -12,7 +12,7 @@ ghost use Rattle.ll_replay.specs.Cuts.{IsCutBetween};
 
 use crate::answers::{refuse, replies_in, say, spell, to_connection};
 use crate::outcome::{RunFault, Summary};
-use ll_channels::Declared;
+use ll_channels::Channels;
 use ll_connection::{Connections, Sent};
 use ll_device::Writer;
 use ll_directive::{TargetFault, Want};
@@ -32,7 +32,7 @@ pub(crate) struct Driver {
     alloc: Global,
     rooms: Rooms,
     connections: Connections,
-    declared: Declared,
+    declared: Channels,
     lines: u64,
     last_id: Option<u64>,
     replies: u64,
@@ -73,7 +73,7 @@ impl Driver {
             alloc,
             rooms: Rooms::new(alloc),
             connections: Connections::new(alloc),
-            declared: Declared::new(alloc),
+            declared: Channels::new(alloc),
             lines: 0,
             last_id: None,
             replies: 0,
@@ -185,7 +185,7 @@ impl Driver {
         ensures write_failed { IsErrOf result RunFault.Write → W.failures writer.old < W.failures writer.new }
     {
         for _ in 0..self.rooms.waiting() {
-            match self.tick(place) {
+            match self.next_reply(place) {
                 Ok(Some(reply)) => say(Some(reply), writer)?,
                 Ok(None) => return Ok(()),
                 Err(AllocError) => return Err(RunFault::Memory),
@@ -195,9 +195,9 @@ impl Driver {
     }
 
     /// The first reply of the channel at this place that is due, where one is.
-    fn tick(&mut self, place: usize) -> Result<Option<Vec<u8>>, AllocError>
-        ensures says { (w : Script) → Keeps self.old w → IfOk result (λ a. (lucks : List Luck) × Says self.new a w (script.tick place w lucks)) }
-        ensures still { (w : Script) → Keeps self.old w → IfOk result (λ a. a ≡ None → (lucks : List Luck) → script.tick place w lucks ≡ w) }
+    fn next_reply(&mut self, place: usize) -> Result<Option<Vec<u8>>, AllocError>
+        ensures says { (w : Script) → Keeps self.old w → IfOk result (λ a. (lucks : List Luck) × Says self.new a w (script.next_reply place w lucks)) }
+        ensures still { (w : Script) → Keeps self.old w → IfOk result (λ a. a ≡ None → (lucks : List Luck) → script.next_reply place w lucks ≡ w) }
         ensures lines { OnOk result (self.new.lines ≡ self.old.lines) }
     {
         match to_connection(self.rooms.next_due(place)) {

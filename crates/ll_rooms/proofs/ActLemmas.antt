@@ -29,7 +29,7 @@ use Rattle.ll_rooms.specs.Waits.{is_of, is_under, under, wait_of, without}
 use Rattle.ll_rooms.specs.declared.owner.Owner.{Owner}
 use Rattle.ll_rooms.specs.declared.wait.Wait.{Wait}
 use Rattle.ll_rooms.specs.Kept.{AreTied, Kept, Leads, home_at, homes_from, kept_world, open_in}
-use Rattle.ll_rooms.specs.World.{Channel, World, count_end, event_count, is_brought, with_event, happens, waits_less, told, told_to, tick, tick_at, tick_of, first_due, offer, offer_at, offered, ask, ask_at, asked, asked_if, brought, close_at, clock, clock_at, clocked, declare}
+use Rattle.ll_rooms.specs.World.{Channel, World, count_end, event_count, is_brought, with_event, happens, waits_less, told, told_to, next_reply, next_reply_at, next_reply_of, first_due, offer, offer_at, offered, ask, ask_at, asked, asked_if, brought, close_at, clock, clock_at, clocked, declare}
 use Rattle.ll_rooms.specs.declared.answer.Answer.TheVariants.{Accepted, Refused, ClockRefused, Replied, Unavailable}
 use Rattle.ll_rooms.proofs.DueLemmas.{first_is, reply_is, ready_open, ready_reply}
 use Rattle.ll_rooms.proofs.StandLemmas.{GoesOn, changed, channel_of, homes_more, leads, no_channel, no_more, number_is, stands_for, stays}
@@ -108,8 +108,8 @@ ask_nowhere old w owner i want e at = no_channel old.rooms w.channels i (rooms_o
 pub clock_nowhere : (old : Kept) (w : World) (i ms : ℕ) → old ≡ kept_world w → slice_get old.rooms i ≡ None → Leads old None w (clock i ms w)
 clock_nowhere old w i ms e at = no_channel old.rooms w.channels i (rooms_of old w e) at (λ d. Leads old None w (clock_at w i ms d)) (stays old w e)
 
-pub tick_nowhere : (old : Kept) (w : World) (i : ℕ) → old ≡ kept_world w → slice_get old.rooms i ≡ None → Leads old None w (tick i w)
-tick_nowhere old w i e at = no_channel old.rooms w.channels i (rooms_of old w e) at (λ d. Leads old None w (tick_at w i d)) (stays old w e)
+pub next_reply_nowhere : (old : Kept) (w : World) (i : ℕ) → old ≡ kept_world w → slice_get old.rooms i ≡ None → Leads old None w (next_reply i w)
+next_reply_nowhere old w i e at = no_channel old.rooms w.channels i (rooms_of old w e) at (λ d. Leads old None w (next_reply_at w i d)) (stays old w e)
 
 -- ---- an item
 
@@ -314,12 +314,12 @@ told_there old w i t c h h2 x s r e is same goes here found there due k =
 -- the reply of a channel that is due first is told
 pub ticked : (old : Kept) (w : World) (i t : ℕ) (h h2 : Home) (p : Ticket) (m : Mark Reply) (x : Wait) → old ≡ kept_world w → slice_get old.rooms i ≡ Some h → IsSame h h2
     → GoesOn h h2 (Collect p.ticket) → p.ticket ≡ t → first_ready h.slots ≡ Some t → under i t old.waits ≡ Some x → Got m ≡ room.collected h p
-    → Leads (record { rooms = slice_set old.rooms i h2; waits = without i t old.waits; events = old.events }) (Some (Replied x.owner m.value)) w (tick i w)
+    → Leads (record { rooms = slice_set old.rooms i h2; waits = without i t old.waits; events = old.events }) (Some (Replied x.owner m.value)) w (next_reply i w)
 ticked old w i t h h2 p m x e at same goes pt ready found handed =
     channel_of old.rooms w.channels i h (rooms_of old w e) at
-    (λ d. Leads (record { rooms = slice_set old.rooms i h2; waits = without i t old.waits; events = old.events }) (Some (Replied x.owner m.value)) w (tick_at w i d))
+    (λ d. Leads (record { rooms = slice_set old.rooms i h2; waits = without i t old.waits; events = old.events }) (Some (Replied x.owner m.value)) w (next_reply_at w i d))
     (λ c there is. due_by i t c h (first_due c.settings c.events) is ready refl
-    (λ o. Leads (record { rooms = slice_set old.rooms i h2; waits = without i t old.waits; events = old.events }) (Some (Replied x.owner m.value)) w (tick_of w i c o))
+    (λ o. Leads (record { rooms = slice_set old.rooms i h2; waits = without i t old.waits; events = old.events }) (Some (Replied x.owner m.value)) w (next_reply_of w i c o))
     (λ r due k. by_reply c there is r due k (reply_at t h.slots) refl (ap (λ n. option_map reply_of (reply_at n h.slots)) (sym pt) ∙ handed_is h p m handed)))
   where
     by_reply : (c : Channel) → slice_get w.channels i ≡ Some c → h ≡ home_at i c → (r : Request) → first_due c.settings c.events ≡ Some r → r.ticket ≡ t → (o : Option Settled) → reply_at t h.slots ≡ o → option_map reply_of o ≡ Some m.value
@@ -337,21 +337,21 @@ idle_by c events (Some r) e idle P p =
 
 -- nothing is due
 pub idle : (old : Kept) (w : World) (i : ℕ) (h h2 : Home) → old ≡ kept_world w → slice_get old.rooms i ≡ Some h → h2 ≡ h → first_ready h.slots ≡ None
-    → Leads (record { rooms = slice_set old.rooms i h2; waits = old.waits; events = old.events }) None w (tick i w)
+    → Leads (record { rooms = slice_set old.rooms i h2; waits = old.waits; events = old.events }) None w (next_reply i w)
 idle old w i h h2 e at u none =
     channel_of old.rooms w.channels i h (rooms_of old w e) at
-    (λ d. Leads (record { rooms = slice_set old.rooms i h2; waits = old.waits; events = old.events }) None w (tick_at w i d))
+    (λ d. Leads (record { rooms = slice_set old.rooms i h2; waits = old.waits; events = old.events }) None w (next_reply_at w i d))
     (λ c there is. idle_by c.settings c.events (first_due c.settings c.events) refl (ap (λ (h : Home). first_ready h.slots) (sym is) ∙ none)
-    (λ o. Leads (record { rooms = slice_set old.rooms i h2; waits = old.waits; events = old.events }) None w (tick_of w i c o))
+    (λ o. Leads (record { rooms = slice_set old.rooms i h2; waits = old.waits; events = old.events }) None w (next_reply_of w i c o))
     (leads (slice_set old.rooms i h2) old.waits old.events None w w (unset old.rooms i h h2 at u ∙ rooms_of old w e) (waits_of old w e) (events_of old w e) (stays old w e).answers))
 
-pub still_nowhere : (old : Kept) (w : World) (i : ℕ) → old ≡ kept_world w → slice_get old.rooms i ≡ None → tick i w ≡ w
-still_nowhere old w i e at = no_channel old.rooms w.channels i (rooms_of old w e) at (λ d. tick_at w i d ≡ w) refl
+pub still_nowhere : (old : Kept) (w : World) (i : ℕ) → old ≡ kept_world w → slice_get old.rooms i ≡ None → next_reply i w ≡ w
+still_nowhere old w i e at = no_channel old.rooms w.channels i (rooms_of old w e) at (λ d. next_reply_at w i d ≡ w) refl
 
-pub still_idle : (old : Kept) (w : World) (i : ℕ) (h : Home) → old ≡ kept_world w → slice_get old.rooms i ≡ Some h → first_ready h.slots ≡ None → tick i w ≡ w
+pub still_idle : (old : Kept) (w : World) (i : ℕ) (h : Home) → old ≡ kept_world w → slice_get old.rooms i ≡ Some h → first_ready h.slots ≡ None → next_reply i w ≡ w
 still_idle old w i h e at none =
-    channel_of old.rooms w.channels i h (rooms_of old w e) at (λ d. tick_at w i d ≡ w)
-    (λ c there is. idle_by c.settings c.events (first_due c.settings c.events) refl (ap (λ (h : Home). first_ready h.slots) (sym is) ∙ none) (λ o. tick_of w i c o ≡ w) refl)
+    channel_of old.rooms w.channels i h (rooms_of old w e) at (λ d. next_reply_at w i d ≡ w)
+    (λ c there is. idle_by c.settings c.events (first_due c.settings c.events) refl (ap (λ (h : Home). first_ready h.slots) (sym is) ∙ none) (λ o. next_reply_of w i c o ≡ w) refl)
 
 -- ---- a request is given up
 

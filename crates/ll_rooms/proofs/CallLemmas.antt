@@ -20,7 +20,7 @@ use Rattle.ll_rooms.specs.Waits.{is_under, parked_of, under, without}
 use Rattle.ll_rooms.specs.declared.owner.Owner.{Owner}
 use Rattle.ll_rooms.specs.declared.wait.Wait.{Wait}
 use Rattle.ll_rooms.specs.Kept.{AreTied, Kept, Leads, kept_world}
-use Rattle.ll_rooms.specs.World.{World, ask, clock, close_at, tick}
+use Rattle.ll_rooms.specs.World.{World, ask, clock, close_at, next_reply}
 use Rattle.ll_rooms.specs.declared.answer.Answer.TheVariants.{ClockRefused, Replied}
 use Rattle.ll_rooms.proofs.ActLemmas.{Answered, own_test, asked_held, held_is, clock_full, clock_range, closes, gave_up, gets, one_more, ready_waits, ticked}
 use Rattle.ll_rooms.proofs.DueLemmas.{find_passes}
@@ -84,10 +84,10 @@ tied_gave_up rooms waits waits2 i t h h2 p tied at same goes fewer value left =
 pub told_due : (rooms : List Home) (waits waits2 : List Wait) (n : ℕ) (w : World) (i t : ℕ) (h h2 : Home) (p : Ticket) (m : Mark Reply) (v : Reply) (x : Wait)
     → kept_of rooms waits n ≡ kept_world w → slice_get rooms i ≡ Some h → IsSame h h2 → GoesOn h h2 (Collect p.ticket) → first_ready h.slots ≡ Some t → Some x ≡ under i t waits
     → Some p ≡ option_map parked_of (under i t waits) → waits2 ≡ without i t waits → Got m ≡ room.collected h p → v ≡ m.value
-    → Leads (kept_of (slice_set rooms i h2) waits2 n) (Some (Replied x.owner v)) w (tick i w)
+    → Leads (kept_of (slice_set rooms i h2) waits2 n) (Some (Replied x.owner v)) w (next_reply i w)
 told_due rooms waits waits2 n w i t h h2 p m v x e at same goes ready found value left handed is =
-    subst (λ v. Leads (kept_of (slice_set rooms i h2) waits2 n) (Some (Replied x.owner v)) w (tick i w)) (sym is)
-    (subst (λ xs. Leads (kept_of (slice_set rooms i h2) xs n) (Some (Replied x.owner m.value)) w (tick i w)) (sym left)
+    subst (λ v. Leads (kept_of (slice_set rooms i h2) waits2 n) (Some (Replied x.owner v)) w (next_reply i w)) (sym is)
+    (subst (λ xs. Leads (kept_of (slice_set rooms i h2) xs n) (Some (Replied x.owner m.value)) w (next_reply i w)) (sym left)
     (ticked (kept_of rooms waits n) w i t h h2 p m x e at same goes (ticket_is i t p waits value) ready (sym found) handed))
 
 pub gave_up_one : (rooms : List Home) (waits waits2 : List Wait) (n n2 : ℕ) (w : World) (x : Wait) (h h2 : Home) (p : Ticket)

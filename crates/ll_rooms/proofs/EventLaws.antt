@@ -12,7 +12,7 @@ use Rattle.ll_verdict.specs.Verdict.{Request, at_once, held, reply}
 use Rattle.ll_rendition.specs.declared.fault.PublishFault.{PublishFault}
 use Rattle.ll_verdict.specs.declared.reply.Reply.{Reply}
 use Rattle.ll_verdict.specs.declared.reply.Settled.{Settled}
-use Rattle.ll_rooms.specs.World.{Channel, World, ask, ask_at, asked, asked_if, clock, clock_at, clock_refusal, clocked, close, close_at, close_of, first_due, happens, offer, offer_at, offered, tick, tick_at, tick_of, told, told_to, with_event}
+use Rattle.ll_rooms.specs.World.{Channel, World, ask, ask_at, asked, asked_if, clock, clock_at, clock_refusal, clocked, close, close_at, close_of, first_due, happens, offer, offer_at, offered, next_reply, next_reply_at, next_reply_of, told, told_to, with_event}
 
 -- where the event may happen
 module _ (Q : List Channel → Type 0) (May : Event → Type 0)
@@ -69,17 +69,17 @@ module _ (Q : List Channel → Type 0) (May : Event → Type 0)
   told-keeps w owner None q = q
   told-keeps w owner (Some s) q = q
 
-  pub tick-keeps : (w : World) (i : ℕ) → ((t : ℕ) → May (Collect t)) → Q w.channels → Q (tick i w).channels
-  tick-keeps w i m q = at (slice_get w.channels i) refl
+  pub next_reply-keeps : (w : World) (i : ℕ) → ((t : ℕ) → May (Collect t)) → Q w.channels → Q (next_reply i w).channels
+  next_reply-keeps w i m q = at (slice_get w.channels i) refl
     where
       by : (c : Channel) (r : Request) (o : Option Wait) → slice_get w.channels i ≡ Some c → Q (told_to w i c r o).channels
       by c r None h = q
       by c r (Some x) h = told-keeps (happens w i c (Collect r.ticket)) x.owner (reply c.settings c.events r) (keeps w.channels i c (Collect r.ticket) (m r.ticket) h q)
 
-      due : (c : Channel) (o : Option Request) → slice_get w.channels i ≡ Some c → Q (tick_of w i c o).channels
+      due : (c : Channel) (o : Option Request) → slice_get w.channels i ≡ Some c → Q (next_reply_of w i c o).channels
       due c None h = q
       due c (Some r) h = by c r (under i r.ticket w.waits) h
 
-      at : (o : Option Channel) → slice_get w.channels i ≡ o → Q (tick_at w i o).channels
+      at : (o : Option Channel) → slice_get w.channels i ≡ o → Q (next_reply_at w i o).channels
       at None h = q
       at (Some c) h = due c (first_due c.settings c.events) h

@@ -40,5 +40,5 @@ module _ (w : rooms.World) where
   pub clock-keeps : (i ms : ℕ) → rooms.all_settings (rooms.clock i ms w) ≡ rooms.all_settings w
   clock-keeps i ms = events.clock-keeps Same Any same w i ms tt refl
 
-  pub tick-keeps : (i : ℕ) → rooms.all_settings (rooms.tick i w) ≡ rooms.all_settings w
-  tick-keeps i = events.tick-keeps Same Any same w i (λ t. tt) refl
+  pub next_reply-keeps : (i : ℕ) → rooms.all_settings (rooms.next_reply i w) ≡ rooms.all_settings w
+  next_reply-keeps i = events.next_reply-keeps Same Any same w i (λ t. tt) refl

@@ -29,7 +29,7 @@ use Rattle.ll_rooms.specs.Waits.{under, wait_of, without}
 use Rattle.ll_rooms.specs.declared.owner.Owner.{Owner}
 use Rattle.ll_rooms.specs.declared.wait.Wait.{Wait}
 use Rattle.ll_rooms.specs.Kept.{tickets_at}
-use Rattle.ll_rooms.specs.World.{Channel, World, ask, ask_at, asked, asked_if, clock, clock_at, clock_refusal, clocked, close, close_at, close_of, declare, first_due, happens, is_due, offer, offer_at, offered, tick, tick_at, tick_of, told, told_to, waits_less, with_event}
+use Rattle.ll_rooms.specs.World.{Channel, World, ask, ask_at, asked, asked_if, clock, clock_at, clock_refusal, clocked, close, close_at, close_of, declare, first_due, happens, is_due, offer, offer_at, offered, next_reply, next_reply_at, next_reply_of, told, told_to, waits_less, with_event}
 use Rattle.ll_rooms.proofs.DueLemmas.{find_passes, reply_is}
 use Rattle.ll_rooms.proofs.TieLemmas.{any_map, append_none, equal, find_any, get_other, get_set, none_some, same_test, tickets_drop, tickets_more, tickets_other, turn}
 
@@ -301,8 +301,8 @@ told-open : (w : World) (i t : ℕ) (owner : Owner) (s : Option Settled) → Are
 told-open w i t owner None tied = tied
 told-open w i t owner (Some s) tied = tied
 
-pub tick-open : (w : World) (i : ℕ) → IsOpen w → IsOpen (tick i w)
-tick-open w i tied = at (slice_get w.channels i) refl
+pub next_reply-open : (w : World) (i : ℕ) → IsOpen w → IsOpen (next_reply i w)
+next_reply-open w i tied = at (slice_get w.channels i) refl
   where
     found : (c : Channel) (r : Request) (o : Option Wait) → slice_get w.channels i ≡ Some c → first_due c.settings c.events ≡ Some r → IsOpen (told_to w i c r o)
     found c r None h due = tied
@@ -310,10 +310,10 @@ tick-open w i tied = at (slice_get w.channels i) refl
         told-open (happens w i c (Collect r.ticket)) i r.ticket x.owner (reply c.settings c.events r)
         (changed_less w.channels w.waits i r.ticket c (with_event (Collect r.ticket) c) tied h (opens-collect c r.ticket (due-ready c r due)))
 
-    by : (c : Channel) (o : Option Request) → slice_get w.channels i ≡ Some c → first_due c.settings c.events ≡ o → IsOpen (tick_of w i c o)
+    by : (c : Channel) (o : Option Request) → slice_get w.channels i ≡ Some c → first_due c.settings c.events ≡ o → IsOpen (next_reply_of w i c o)
     by c None h due = tied
     by c (Some r) h due = found c r (under i r.ticket w.waits) h due
 
-    at : (o : Option Channel) → slice_get w.channels i ≡ o → IsOpen (tick_at w i o)
+    at : (o : Option Channel) → slice_get w.channels i ≡ o → IsOpen (next_reply_at w i o)
     at None h = tied
     at (Some c) h = by c (first_due c.settings c.events) h refl

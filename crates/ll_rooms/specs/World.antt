@@ -147,17 +147,17 @@ told_to w place channel r None = w
 told_to w place channel r (Some x) =
     waits_less (told (happens w place channel (Collect r.ticket)) x.owner (reply channel.settings channel.events r)) place r.ticket
 
-abbrev pub tick_of : World → ℕ → Channel → Option Request → World
-tick_of w place channel None = w
-tick_of w place channel (Some r) = told_to w place channel r (under place r.ticket w.waits)
+abbrev pub next_reply_of : World → ℕ → Channel → Option Request → World
+next_reply_of w place channel None = w
+next_reply_of w place channel (Some r) = told_to w place channel r (under place r.ticket w.waits)
 
-abbrev pub tick_at : World → ℕ → Option Channel → World
-tick_at w place None = w
-tick_at w place (Some channel) = tick_of w place channel (first_due channel.settings channel.events)
+abbrev pub next_reply_at : World → ℕ → Option Channel → World
+next_reply_at w place None = w
+next_reply_at w place (Some channel) = next_reply_of w place channel (first_due channel.settings channel.events)
 
 -- of the replies of the channel at this place that are due, the one asked for first is told
-abbrev pub tick : ℕ → World → World
-tick place w = tick_at w place (slice_get w.channels place)
+abbrev pub next_reply : ℕ → World → World
+next_reply place w = next_reply_at w place (slice_get w.channels place)
 
 abbrev pub repeat : {W : Type 0} → (W → W) → ℕ → W → W
 repeat f zero w = w
@@ -165,7 +165,7 @@ repeat f (suc n) w = f (repeat f n w)
 
 -- all replies of the channel at this place that are due are told: no more than requests wait
 abbrev pub rest : ℕ → World → World
-rest place w = repeat (tick place) (length w.waits) w
+rest place w = repeat (next_reply place) (length w.waits) w
 
 -- at the end all requests that wait are given up
 abbrev pub finish : World → World

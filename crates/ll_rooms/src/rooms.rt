@@ -180,8 +180,8 @@ impl Rooms {
 
     /// Tells the first reply of the channel at this place that is due; none where nothing is due there.
     pub fn next_due(&mut self, place: usize) -> Option<Answer>
-        ensures told { (w : World) → self.old ≡ kept_world w → Leads self.new result w (world.tick place w) }
-        ensures still { (w : World) → self.old ≡ kept_world w → result ≡ None → world.tick place w ≡ w }
+        ensures told { (w : World) → self.old ≡ kept_world w → Leads self.new result w (world.next_reply place w) }
+        ensures still { (w : World) → self.old ≡ kept_world w → result ≡ None → world.next_reply place w ≡ w }
     {
         let room = self.rooms.get_mut(place)?;
         let ticket = room.next_ready()?;

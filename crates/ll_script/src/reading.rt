@@ -13,7 +13,7 @@ ghost use Rattle.ll_script.specs.Reads.{IsRead};
 use crate::act::{Act, Acts};
 use crate::hex::{is_hex, read_hex};
 use ll_attr::{after, cut, parse_number};
-use ll_channels::Declared;
+use ll_channels::Channels;
 use ll_directive::{TargetFault, named_channel, read_target};
 use ll_item::{Item, Settings, SettingsFault};
 use ll_publish::{Line, Refusal};
@@ -41,7 +41,7 @@ pub enum LineFault {
 /// line that has its place.
 pub fn read_line(
     alloc: Global,
-    declared: &Declared,
+    declared: &Channels,
     last: Option<u64>,
     line: &[u8],
 ) -> Result<Acts, LineFault>
@@ -55,7 +55,7 @@ pub fn read_line(
 /// What a line makes happen.
 fn read_any(
     alloc: Global,
-    declared: &Declared,
+    declared: &Channels,
     last: Option<u64>,
     line: &[u8],
 ) -> Result<Acts, LineFault>
@@ -97,7 +97,7 @@ fn published(line: &[u8]) -> Option<&[u8]>
 /// What a line makes happen that is no publisher's.
 fn read_other(
     alloc: Global,
-    declared: &Declared,
+    declared: &Channels,
     last: Option<u64>,
     line: &str,
 ) -> Result<Acts, LineFault>
@@ -123,7 +123,7 @@ fn read_other(
 }
 
 /// A publisher's line. None is too long.
-fn read_offer(alloc: Global, declared: &Declared, text: &[u8]) -> Result<Acts, LineFault>
+fn read_offer(alloc: Global, declared: &Channels, text: &[u8]) -> Result<Acts, LineFault>
     ensures { IsRead declared.now (Some (spec.offer declared.now text.now ∷ [])) result }
 {
     let (name, line) = match Line::of(text) {
@@ -155,7 +155,7 @@ fn read_item(
 /// A request whose number rises.
 fn read_get(
     alloc: Global,
-    declared: &Declared,
+    declared: &Channels,
     last: Option<u64>,
     text: &str,
 ) -> Result<Acts, LineFault>
@@ -187,7 +187,7 @@ fn get_words(last: Option<u64>, text: &str) -> Option<(u64, &str)>
 }
 
 /// What a request of this number for this target makes happen.
-fn read_ask(alloc: Global, declared: &Declared, id: u64, target: &str) -> Result<Acts, LineFault>
+fn read_ask(alloc: Global, declared: &Channels, id: u64, target: &str) -> Result<Acts, LineFault>
     ensures { IsRead declared.now (Some (spec.ask declared.now id (want_in target.now) ∷ [])) result }
 {
     match read_target(alloc, target.as_bytes()) {
@@ -207,7 +207,7 @@ fn read_ask(alloc: Global, declared: &Declared, id: u64, target: &str) -> Result
 }
 
 /// What a request is answered for whose target no memory was found: a channel that isn't there is told so all the same.
-fn unread_fault(declared: &Declared, target: &str) -> TargetFault
+fn unread_fault(declared: &Channels, target: &str) -> TargetFault
     ensures { (want : WantValue) → want_in target.now ≡ Ok want
         → result ≡ if is_some (channel_of_name declared.now 0 want.channel) then TargetFault.Memory else TargetFault.NotFound }
 {
@@ -282,7 +282,7 @@ fn read_drop(text: &str) -> Result<Acts, LineFault>
 }
 
 /// A new channel, whose name no other has.
-fn read_declaration(alloc: Global, declared: &Declared, line: &str) -> Result<Acts, LineFault>
+fn read_declaration(alloc: Global, declared: &Channels, line: &str) -> Result<Acts, LineFault>
     ensures { IsRead declared.now (alone (spec.declaration declared.now (settings_in line.now))) result }
 {
     if is_declared(declared, line) {
@@ -296,7 +296,7 @@ fn read_declaration(alloc: Global, declared: &Declared, line: &str) -> Result<Ac
 }
 
 /// Whether a settings line names a channel that is declared. It takes no memory.
-fn is_declared(declared: &Declared, line: &str) -> bool
+fn is_declared(declared: &Channels, line: &str) -> bool
     ensures { (c : Configuration) → settings_in line.now ≡ Ok c → result ≡ is_some (channel_of_name declared.now 0 c.channel) }
 {
     match second_word(line) {

@@ -17,7 +17,7 @@ use Rattle.ll_rooms.proofs.TieLemmas.{some_is}
 use Rattle.ll_rooms.specs.declared.answer.Answer as answer
 use Rattle.ll_rooms.specs.declared.answer.Answer.TheVariants as said
 use Rattle.ll_replay.specs.Stream.{come_to}
-use Rattle.ll_replay.specs.Script.{Ending, Lot, Marked, Script, act, acted, counted, done, done_as, heard, line, line_by, makes_due, passed_on, plain, read_by, rest, so_many, start, tick, with_lots}
+use Rattle.ll_replay.specs.Script.{Ending, Lot, Marked, Script, act, acted, counted, done, done_as, heard, line, line_by, makes_due, passed_on, plain, read_by, rest, so_many, start, next_reply, with_lots}
 use Rattle.ll_script_laws.proofs.ActLemmas.{AreSound, IsSound, acts-sound, starved-sound}
 use Rattle.ll_script_laws.proofs.ItemTexts.{IsRead}
 
@@ -84,12 +84,12 @@ all_passed_on-kept : (lucks : List Luck) (w : Script) (answers : List answer.Ans
 all_passed_on-kept lucks w [] k = k
 all_passed_on-kept lucks w (a ∷ answers) k = all_passed_on-kept lucks (passed_on lucks w a) answers (passed_on-kept lucks w a k)
 
-ticks-kept : (place : ℕ) (replies : List (List Luck)) (w : Script) → AreKept w.rooms → AreKept (fold (tick place) w replies).rooms
+ticks-kept : (place : ℕ) (replies : List (List Luck)) (w : Script) → AreKept w.rooms → AreKept (fold (next_reply place) w replies).rooms
 ticks-kept place [] w k = k
 ticks-kept place (lucks ∷ replies) w k =
-    let u = rooms.tick place w.rooms in
-    ticks-kept place replies (tick place w lucks)
-    (all_passed_on-kept lucks (heard w u) u.answers (events.tick-keeps (Each IsKept) IsHeard one-kept w.rooms place (λ t. tt) k))
+    let u = rooms.next_reply place w.rooms in
+    ticks-kept place replies (next_reply place w lucks)
+    (all_passed_on-kept lucks (heard w u) u.answers (events.next_reply-keeps (Each IsKept) IsHeard one-kept w.rooms place (λ t. tt) k))
 
 rest-kept : (replies : List (List Luck)) (place : Option ℕ) (w : Script) → AreKept w.rooms → AreKept (rest replies place w).rooms
 rest-kept replies None w k = k

@@ -18,12 +18,12 @@ use Rattle.ll_verdict.specs.Verdict.{Request, reply, reply_of, at_once, held}
 use Rattle.ll_verdict.specs.declared.reply.Reply.{Reply}
 use Rattle.ll_verdict.specs.declared.reply.Settled.{Settled}
 use Rattle.ll_rooms.specs.World as rooms
-use Rattle.ll_rooms.specs.World.{Channel, World, first_due, happens, tick_at, tick_of, told, told_to, waits_less}
+use Rattle.ll_rooms.specs.World.{Channel, World, first_due, happens, next_reply_at, next_reply_of, told, told_to, waits_less}
 use Rattle.ll_rooms.specs.declared.answer.Answer as answer
 use Rattle.ll_rooms.specs.declared.answer.Answer.TheVariants as said
 use Rattle.ll_rooms.proofs.TieLemmas.{none_some, same_test, some_is}
-use Rattle.ll_rooms.proofs.WaitLemmas.{IsOpen, ask-open, clock-open, close-open, declare-open, due_waits, offer-open, opens, tick-open, due_told, once_each}
-use Rattle.ll_replay.specs.Script.{Ending, Lot, Marked, Script, act, done, heard, passed_on, start, tick, turned}
+use Rattle.ll_rooms.proofs.WaitLemmas.{IsOpen, ask-open, clock-open, close-open, declare-open, due_waits, offer-open, opens, next_reply-open, due_told, once_each}
+use Rattle.ll_replay.specs.Script.{Ending, Lot, Marked, Script, act, done, heard, passed_on, start, next_reply, turned}
 use Rattle.ll_replay.specs.Stream.{come_to}
 use Rattle.ll_directive.specs.Targets.{WantValue}
 use Rattle.ll_item.specs.declared.item.Item.{Item}
@@ -166,7 +166,7 @@ pub data Ticks (w : World) (place : ℕ) (v : World) : Type 0 where
   Tells : (c : Channel) (r : Request) (x : Wait) (s : Settled) → slice_get w.channels place ≡ Some c → first_due c.settings c.events ≡ Some r
       → under place r.ticket w.waits ≡ Some x → reply c.settings c.events r ≡ Some s → v ≡ told_in w place c r x s → Ticks w place v
 
-pub ticks : (w : World) (place : ℕ) → IsOpen w → Ticks w place (rooms.tick place w)
+pub ticks : (w : World) (place : ℕ) → IsOpen w → Ticks w place (rooms.next_reply place w)
 ticks w place tied = at (slice_get w.channels place) refl
   where
     told_by : (c : Channel) (r : Request) (x : Wait) (o : Option Settled) → slice_get w.channels place ≡ Some c → first_due c.settings c.events ≡ Some r
@@ -180,16 +180,16 @@ ticks w place tied = at (slice_get w.channels place) refl
     found c r None at is e = let never : false ≡ true = ap is_some (sym e) ∙ due_waits w place c r tied at is in absurd (cc)
     found c r (Some x) at is e = told_by c r x (reply c.settings c.events r) at is e refl
 
-    by : (c : Channel) (o : Option Request) → slice_get w.channels place ≡ Some c → first_due c.settings c.events ≡ o → Ticks w place (tick_of w place c o)
+    by : (c : Channel) (o : Option Request) → slice_get w.channels place ≡ Some c → first_due c.settings c.events ≡ o → Ticks w place (next_reply_of w place c o)
     by c None at is = Nothing (λ d there. ap (λ (c : Channel). first_due c.settings c.events) (some_is d c (sym there ∙ at)) ∙ is) refl
     by c (Some r) at is = found c r (under place r.ticket w.waits) at is refl
 
-    at : (o : Option Channel) → slice_get w.channels place ≡ o → Ticks w place (tick_at w place o)
+    at : (o : Option Channel) → slice_get w.channels place ≡ o → Ticks w place (next_reply_at w place o)
     at None e = Nothing (λ d there. absurd (none_some d (sym e ∙ there))) refl
     at (Some c) e = by c (first_due c.settings c.events) e refl
 
-pub tick-holds : (place : ℕ) (w : Script) (lucks : List Luck) → Holds w → Holds (tick place w lucks)
-tick-holds place w lucks h = by (rooms.tick place w.rooms) (ticks w.rooms place h.met.rooms) (tick-open w.rooms place h.met.rooms)
+pub next_reply-holds : (place : ℕ) (w : Script) (lucks : List Luck) → Holds w → Holds (next_reply place w lucks)
+next_reply-holds place w lucks h = by (rooms.next_reply place w.rooms) (ticks w.rooms place h.met.rooms) (next_reply-open w.rooms place h.met.rooms)
   where
     passed : (t : ℕ) (x : Wait) (o : Owner) (a : Reply) (v : World) → under place t w.rooms.waits ≡ Some x → x.owner ≡ o → v.waits ≡ without place t w.rooms.waits → IsOpen v
         → Holds (fold (passed_on lucks) (heard w v) (said.Replied o a ∷ []))
@@ -239,15 +239,15 @@ Always list w = Holds w
 
 pub done-holds : (w : Script) (a : Lot × Act) → Holds w → Holds (done w a)
 done-holds w a h =
-    done-keeps Always (λ list lucks w a h. act-holds lucks w a h) (λ list place w lucks h. tick-holds place w lucks h) (λ list w a h. h) [] w a h
+    done-keeps Always (λ list lucks w a h. act-holds lucks w a h) (λ list place w lucks h. next_reply-holds place w lucks h) (λ list w a h. h) [] w a h
 
 all-hold : (list : List (Lot × Act)) (w : Script) → Holds w → Holds (fold done w list)
 all-hold [] w h = h
 all-hold (a ∷ list) w h = all-hold list (done w a) (done-holds w a h)
 
-ticks-hold : (place : ℕ) (replies : List (List Luck)) (w : Script) → Holds w → Holds (fold (tick place) w replies)
+ticks-hold : (place : ℕ) (replies : List (List Luck)) (w : Script) → Holds w → Holds (fold (next_reply place) w replies)
 ticks-hold place [] w h = h
-ticks-hold place (lucks ∷ replies) w h = ticks-hold place replies (tick place w lucks) (tick-holds place w lucks h)
+ticks-hold place (lucks ∷ replies) w h = ticks-hold place replies (next_reply place w lucks) (next_reply-holds place w lucks h)
 
 lines-hold : (ls : List Marked) → Holds (come_to ls)
 lines-hold ls = lines-keep Always (λ list w a h. done-holds w a h) (λ list w lines ending h. same-holds w lines ending h) [] start ls start-holds

@@ -144,6 +144,6 @@ idle ls n s e =
     let h =
     lines-keep Always
     (done-keeps Always (λ list lucks w a h. act-idle lucks w a h)
-    (λ list place w lucks h. passed-idle lucks (heard w (rooms.tick place w.rooms)) (rooms.tick place w.rooms).answers h) (λ list w a h. h))
+    (λ list place w lucks h. passed-idle lucks (heard w (rooms.next_reply place w.rooms)) (rooms.next_reply place w.rooms).answers h) (λ list w a h. h))
     (λ list w lines ending h. h) [] start ls (λ n s e. absurd (none_some (Some s) e)) in
     h n s e

@@ -30,7 +30,7 @@ use Rattle.ll_rooms.specs.declared.answer.Answer.TheVariants as said
 use Rattle.ll_rooms.proofs.EventLaws as events
 use Rattle.ll_rooms.proofs.TieLemmas.{equal, get_other, get_set, none_some, same_test, some_is}
 use Rattle.ll_rooms.proofs.WaitLemmas.{IsOpen, opens}
-use Rattle.ll_replay.specs.Script.{Lot, Marked, Script, act, done, done_as, heard, line, passed_on, passed_to, rest_at, so_many, start, tick}
+use Rattle.ll_replay.specs.Script.{Lot, Marked, Script, act, done, done_as, heard, line, passed_on, passed_to, rest_at, so_many, start, next_reply}
 use Rattle.ll_script_laws.proofs.ActLemmas.{AreSound, IsSound, acts-sound, starved-sound}
 use Rattle.ll_script_laws.proofs.CalmLemmas.{IsCalm, IsSilent, calm-none, none-calm, silent-calm, told-calm}
 use Rattle.ll_script_laws.proofs.DueLemmas as due
@@ -82,9 +82,9 @@ module _ (most : ℕ → ℕ) where
 swap : (place j k l : ℕ) → (j == place) ≡ false → at_most place k j ≡ at_most place l j
 swap place j k l f = ap (λ b. if b then k else 0) f ∙ sym (ap (λ b. if b then l else 0) f)
 
-tick-calm : (place k : ℕ) (w : Script) (lucks : List Luck) → due.Holds w → AreCalm (at_most place (k + 1)) w.rooms.channels
-    → AreCalm (at_most place k) (tick place w lucks).rooms.channels
-tick-calm place k w lucks met h = by (rooms.tick place w.rooms) (due.ticks w.rooms place met.met.rooms)
+next_reply-calm : (place k : ℕ) (w : Script) (lucks : List Luck) → due.Holds w → AreCalm (at_most place (k + 1)) w.rooms.channels
+    → AreCalm (at_most place k) (next_reply place w lucks).rooms.channels
+next_reply-calm place k w lucks met h = by (rooms.next_reply place w.rooms) (due.ticks w.rooms place met.met.rooms)
   where
     at_place : (n : ℕ) → at_most place n place ≡ n
     at_place n = ap (λ b. if b then n else 0) (same_test place)
@@ -110,12 +110,12 @@ tick-calm place k w lucks met h = by (rooms.tick place w.rooms) (due.ticks w.roo
         (one-event (at_most place (k + 1)) (at_most place k) w.rooms.channels place c (event.Collect r.ticket) (λ j f. swap place j (k + 1) k f) calm at h)))
 
 ticks-calm : (place : ℕ) (replies : List (List Luck)) (w : Script) → due.Holds w → AreCalm (at_most place (length replies)) w.rooms.channels
-    → AreCalm (at_most place 0) (fold (tick place) w replies).rooms.channels
+    → AreCalm (at_most place 0) (fold (next_reply place) w replies).rooms.channels
 ticks-calm place [] w met h = h
 ticks-calm place (lucks ∷ replies) w met h =
     let same : length (lucks ∷ replies) ≡ length replies + 1 = omega arith in
-    ticks-calm place replies (tick place w lucks) (due.tick-holds place w lucks met)
-    (tick-calm place (length replies) w lucks met (subst (λ m. AreCalm (at_most place m) w.rooms.channels) same h))
+    ticks-calm place replies (next_reply place w lucks) (due.next_reply-holds place w lucks met)
+    (next_reply-calm place (length replies) w lucks met (subst (λ m. AreCalm (at_most place m) w.rooms.channels) same h))
 
 so_many-length : (n : ℕ) (replies : List (List Luck)) → length (so_many n replies) ≡ n
 so_many-length zero replies = refl

@@ -18,7 +18,7 @@ use Rattle.ll_rooms.specs.World.{all_settings, silent}
 use Rattle.ll_rooms.specs.declared.answer.Answer as answer
 use Rattle.ll_rooms.specs.declared.answer.Answer.TheVariants as said
 use Rattle.ll_replay.specs.Stream.{come_to}
-use Rattle.ll_replay.specs.Script.{Ending, Lot, Marked, Script, act, acted, counted, done, done_as, heard, line, line_by, makes_due, passed_on, read_by, rest, so_many, start, tick, turned, unmarked, with_lots}
+use Rattle.ll_replay.specs.Script.{Ending, Lot, Marked, Script, act, acted, counted, done, done_as, heard, line, line_by, makes_due, passed_on, read_by, rest, so_many, start, next_reply, turned, unmarked, with_lots}
 use Rattle.ll_replay.proofs.ScriptLaws.{line-ended, line-means}
 use Rattle.ll_script_laws.specs.Laws.{Brings}
 
@@ -51,11 +51,11 @@ all-quiet : (lucks : List Luck) (w : Script) (answers : List answer.Answer) → 
 all-quiet lucks w [] q = q
 all-quiet lucks w (a ∷ answers) q = all-quiet lucks (passed_on lucks w a) answers (passed_on-quiet lucks w a q)
 
-ticks-quiet : (place : ℕ) (replies : List (List Luck)) (w : Script) → IsQuiet w → IsQuiet (fold (tick place) w replies)
+ticks-quiet : (place : ℕ) (replies : List (List Luck)) (w : Script) → IsQuiet w → IsQuiet (fold (next_reply place) w replies)
 ticks-quiet place [] w q = q
 ticks-quiet place (lucks ∷ replies) w q =
-    let u = rooms.tick place w.rooms in
-    ticks-quiet place replies (tick place w lucks) (all-quiet lucks (heard w u) u.answers refl)
+    let u = rooms.next_reply place w.rooms in
+    ticks-quiet place replies (next_reply place w lucks) (all-quiet lucks (heard w u) u.answers refl)
 
 rest-quiet : (replies : List (List Luck)) (place : Option ℕ) (w : Script) → IsQuiet w → IsQuiet (rest replies place w)
 rest-quiet replies None w q = q
@@ -136,13 +136,13 @@ all-numbered m lucks w [] = refl
 all-numbered m lucks w (a ∷ answers) =
     ap (λ v. fold (passed_on lucks) v answers) (passed_on-numbered m lucks w a) ∙ all-numbered m lucks (passed_on lucks w a) answers
 
-tick-numbered : (m place : ℕ) (w : Script) (lucks : List Luck) → tick place (numbered m w) lucks ≡ numbered m (tick place w lucks)
-tick-numbered m place w lucks = let u = rooms.tick place w.rooms in all-numbered m lucks (heard w u) u.answers
+next_reply-numbered : (m place : ℕ) (w : Script) (lucks : List Luck) → next_reply place (numbered m w) lucks ≡ numbered m (next_reply place w lucks)
+next_reply-numbered m place w lucks = let u = rooms.next_reply place w.rooms in all-numbered m lucks (heard w u) u.answers
 
-ticks-numbered : (m place : ℕ) (replies : List (List Luck)) (w : Script) → fold (tick place) (numbered m w) replies ≡ numbered m (fold (tick place) w replies)
+ticks-numbered : (m place : ℕ) (replies : List (List Luck)) (w : Script) → fold (next_reply place) (numbered m w) replies ≡ numbered m (fold (next_reply place) w replies)
 ticks-numbered m place [] w = refl
 ticks-numbered m place (lucks ∷ replies) w =
-    ap (λ v. fold (tick place) v replies) (tick-numbered m place w lucks) ∙ ticks-numbered m place replies (tick place w lucks)
+    ap (λ v. fold (next_reply place) v replies) (next_reply-numbered m place w lucks) ∙ ticks-numbered m place replies (next_reply place w lucks)
 
 rest-numbered : (m : ℕ) (replies : List (List Luck)) (place : Option ℕ) (w : Script) → rest replies place (numbered m w) ≡ numbered m (rest replies place w)
 rest-numbered m replies None w = refl

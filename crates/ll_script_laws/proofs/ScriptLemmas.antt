@@ -4,17 +4,17 @@ use Rattle.ll_connection.specs.Visit.{Luck}
 use Rattle.ll_script.specs.Lines.{acts, starved}
 use Rattle.ll_script.specs.declared.act.Act.{Act}
 use Rattle.ll_rooms.specs.World.{all_settings}
-use Rattle.ll_replay.specs.Script.{BadLine, Ending, LineTooLong, Lot, Marked, Script, act, acted, counted, done, done_as, line, line_by, makes_due, plain, read_by, rest, so_many, tick, with_lots}
+use Rattle.ll_replay.specs.Script.{BadLine, Ending, LineTooLong, Lot, Marked, Script, act, acted, counted, done, done_as, line, line_by, makes_due, plain, read_by, rest, so_many, next_reply, with_lots}
 use Rattle.ll_script_laws.specs.Talks.{acts_in, acts_of, listed}
 
 -- It may speak of all acts so far. One for which no memory is found is among them: what it comes to then keeps it too.
 module _ (P : List Act → Script → Type 0)
     (act-keeps : (list : List Act) (lucks : List Luck) (w : Script) (a : Act) → P list w → P (list ++ a ∷ []) (act lucks w a))
-    (tick-keeps : (list : List Act) (place : ℕ) (w : Script) (lucks : List Luck) → P list w → P list (tick place w lucks))
+    (next_reply-keeps : (list : List Act) (place : ℕ) (w : Script) (lucks : List Luck) → P list w → P list (next_reply place w lucks))
     (starves : (list : List Act) (w : Script) (a : Act) → P (list ++ starved a ∷ []) w → P (list ++ a ∷ []) w) where
-  pub ticks-keep : (list : List Act) (place : ℕ) (replies : List (List Luck)) (w : Script) → P list w → P list (fold (tick place) w replies)
+  pub ticks-keep : (list : List Act) (place : ℕ) (replies : List (List Luck)) (w : Script) → P list w → P list (fold (next_reply place) w replies)
   ticks-keep list place [] w h = h
-  ticks-keep list place (lucks ∷ replies) w h = ticks-keep list place replies (tick place w lucks) (tick-keeps list place w lucks h)
+  ticks-keep list place (lucks ∷ replies) w h = ticks-keep list place replies (next_reply place w lucks) (next_reply-keeps list place w lucks h)
 
   rest-keeps : (list : List Act) (replies : List (List Luck)) (place : Option ℕ) (w : Script) → P list w → P list (rest replies place w)
   rest-keeps list replies None w h = h

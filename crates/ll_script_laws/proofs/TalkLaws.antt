@@ -13,14 +13,14 @@ use Rattle.ll_session.proofs.PastLemmas.{is_talk}
 use Rattle.ll_session.specs.Past.{conversation, past}
 use Rattle.ll_rooms.specs.World as rooms
 use Rattle.ll_rooms.specs.World.{World}
-use Rattle.ll_replay.specs.Script.{Ending, Script, act, heard, start, tick}
+use Rattle.ll_replay.specs.Script.{Ending, Script, act, heard, start, next_reply}
 use Rattle.ll_script_laws.proofs.AskLemmas.{AreAsked, ask-asked, asked-closes, asked-stays}
 use Rattle.ll_script_laws.proofs.DueLemmas as due
 use Rattle.ll_script_laws.proofs.GrowLemmas.{Grows, declare-grows, grows-same}
 use Rattle.ll_script_laws.proofs.PartLemmas.{said-sent, said-text}
 use Rattle.ll_script_laws.proofs.ScriptLemmas.{done-keeps, lines-keep}
 use Rattle.ll_script_laws.proofs.ServeLemmas.{ask-grows, close-grows, clock-grows, offer-grows}
-use Rattle.ll_script_laws.proofs.TalkLemmas.{Holds, HoldsSome, adds, bytes-holds, end-holds, heard-holds, nothing_more, says-holds, tick-holds}
+use Rattle.ll_script_laws.proofs.TalkLemmas.{Holds, HoldsSome, adds, bytes-holds, end-holds, heard-holds, nothing_more, says-holds, next_reply-holds}
 use Rattle.ll_script_laws.specs.Talks.{AnswersLaw, Late, Faulty, Refused, Said, TalksLaw, brought_by, sent_by}
 
 -- ---- acts
@@ -117,8 +117,8 @@ start-holds = record {
   asked = tt;
 }
 
-one_reply : (list : List Act) (place : ℕ) (w : Script) (lucks : List Luck) → Always list w → Always list (tick place w lucks)
-one_reply list place w lucks h = (due.tick-holds place w lucks h.0, tick-holds (so_far list) h.1.0 place w lucks h.0 h.1.1)
+one_reply : (list : List Act) (place : ℕ) (w : Script) (lucks : List Luck) → Always list w → Always list (next_reply place w lucks)
+one_reply list place w lucks h = (due.next_reply-holds place w lucks h.0, next_reply-holds (so_far list) h.1.0 place w lucks h.0 h.1.1)
 
 pub talks : TalksLaw
 talks ls =

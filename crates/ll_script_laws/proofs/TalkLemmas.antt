@@ -29,8 +29,8 @@ use Rattle.ll_rooms.specs.World.{Channel, World, first_due}
 use Rattle.ll_rooms.specs.declared.answer.Answer as answer
 use Rattle.ll_rooms.specs.declared.answer.Answer.TheVariants as said
 use Rattle.ll_rooms.proofs.TieLemmas.{equal, same_test}
-use Rattle.ll_rooms.proofs.WaitLemmas.{IsOpen, tick-open}
-use Rattle.ll_replay.specs.Script.{Script, heard, passed_on, passed_to, tick, turned}
+use Rattle.ll_rooms.proofs.WaitLemmas.{IsOpen, next_reply-open}
+use Rattle.ll_replay.specs.Script.{Script, heard, passed_on, passed_to, next_reply, turned}
 use Rattle.ll_script_laws.proofs.AskLemmas.{AreAsked, AskedBy, asked-at, asked-closes, asked-less, asked-stays, due-right}
 use Rattle.ll_script_laws.proofs.DueLemmas as due
 use Rattle.ll_script_laws.proofs.GrowLemmas.{Grows, answer-stays, answers-stay, event-grows, grows-same}
@@ -360,9 +360,9 @@ reply-holds lucks n a came un w h t =
         reply-talked n (Keeps n un cs counts) (none-keeps n un cs counts) (asks-keep n un cs counts) (mutes-keep n un cs counts)
         lucks q s a w.connections w.rooms stands.0 (λ found. keeps found s.out t.has.is_out)
 
-pub tick-holds : (came : ℕ → List ℕ) (un : ℕ → List WantValue) (place : ℕ) (w : Script) (lucks : List Luck) → due.Holds w → Holds came un w
-    → HoldsSome came (tick place w lucks)
-tick-holds came un place w lucks met h = by (rooms.tick place w.rooms) (due.ticks w.rooms place met.met.rooms) (tick-open w.rooms place met.met.rooms)
+pub next_reply-holds : (came : ℕ → List ℕ) (un : ℕ → List WantValue) (place : ℕ) (w : Script) (lucks : List Luck) → due.Holds w → Holds came un w
+    → HoldsSome came (next_reply place w lucks)
+next_reply-holds came un place w lucks met h = by (rooms.next_reply place w.rooms) (due.ticks w.rooms place met.met.rooms) (next_reply-open w.rooms place met.met.rooms)
   where
     told_by : (c : Channel) (r : Request) (x : Wait) (s : Settled) (o : Owner) → slice_get w.rooms.channels place ≡ Some c → first_due c.settings c.events ≡ Some r
         → under place r.ticket w.rooms.waits ≡ Some x → reply c.settings c.events r ≡ Some s → x.owner ≡ o → IsOpen (due.told_in w.rooms place c r x s)

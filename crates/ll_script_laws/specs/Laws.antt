@@ -32,7 +32,7 @@ use Rattle.ll_verdict.specs.declared.wanted.Wanted.{Wanted}
 use Rattle.ll_rooms.specs.Kept.{tickets_at}
 use Rattle.ll_rooms.specs.World.{Channel, World, first_due}
 use Rattle.ll_replay.specs.Stream.{come_to}
-use Rattle.ll_replay.specs.Script.{Lot, Marked, Script, act, done, longest_line, tick, unmarked}
+use Rattle.ll_replay.specs.Script.{Lot, Marked, Script, act, done, longest_line, next_reply, unmarked}
 use Rattle.ll_apply.specs.Texts.{applied_text}
 use Rattle.ll_script_laws.specs.Verdicts.{verdict}
 use Rattle.ll_laws.specs.Published.{ArePublished}
@@ -97,7 +97,7 @@ PiecesLaw = (before later : List Marked) (whole first second : List ℕ) (n : �
 
 -- a script after some lines, some acts of the next one, and some of the replies that the last of these made due in the channel at a place
 abbrev pub moment : List Marked → List (Lot × Act) → List Luck → Act → ℕ → List (List Luck) → Script
-moment before list lucks last place replies = fold (tick place) (act lucks (fold done (come_to before) list) last) replies
+moment before list lucks last place replies = fold (next_reply place) (act lucks (fold done (come_to before) list) last) replies
 
 -- Who asked is there: a connection's session is open, and has a want out.
 abbrev pub IsThere : Owner → Connections → Type 0

@@ -7,8 +7,8 @@ use Rattle.ll_check.proofs.chunk.read_entries.Given as goal
 
 abbrev pub invariant-loop-line : goal.invariant-loop-line
 invariant-loop-line l = record {
-  so_far : (events : List Event) → Stands l.initial.keeper events
-      → SoFar l.keeper l.initial.keeper.settings events (pieces_at 10 l.initial.text) (pieces_at 10 l.rest);
+  so_far : (events : List Event) → Stands l.initial.replayer events
+      → SoFar l.replayer l.initial.replayer.settings events (pieces_at 10 l.initial.text) (pieces_at 10 l.rest);
   shorter : length l.rest ≤ length l.initial.text;
 }
 

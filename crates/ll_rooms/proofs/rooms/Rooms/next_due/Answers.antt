@@ -2,16 +2,16 @@ use Rattle.std.proofs.Common.{◌∙◌, ap, refl, subst, sym, slice_set}
 use Rattle.std.proofs.lemmas.Option.{slice_get_read}
 use Rattle.ll_room.specs.Answers.{is_got}
 use Rattle.ll_rooms.specs.Kept.{Leads}
-use Rattle.ll_rooms.specs.World.{tick}
-use Rattle.ll_rooms.proofs.ActLemmas.{idle, still_idle, still_nowhere, tick_nowhere}
+use Rattle.ll_rooms.specs.World.{next_reply}
+use Rattle.ll_rooms.proofs.ActLemmas.{idle, still_idle, still_nowhere, next_reply_nowhere}
 use Rattle.ll_rooms.proofs.CallLemmas.{kept_of, none_read, not_lost, not_refused, tied_told, told_due}
 use Rattle.ll_rooms.proofs.rooms.Rooms.next_due.Goals as goal
 
 pub returns-in_err-room-clause-told : goal.returns-in_err-room-clause-told
 returns-in_err-room-clause-told c w e =
     let v = c.self.inside.rooms in
-    subst (λ a. Leads (kept_of v.items c.self.inside.held c.self.inside.events) a w (tick c.args.place w)) (sym c.from_residual.ensures)
-    (tick_nowhere (kept_of v.items c.self.inside.held c.self.inside.events) w c.args.place (c.self.view_is ∙ e) (none_read v.items _ c.args.place v.ok.0 c.in_err-room.ensures.variant.1))
+    subst (λ a. Leads (kept_of v.items c.self.inside.held c.self.inside.events) a w (next_reply c.args.place w)) (sym c.from_residual.ensures)
+    (next_reply_nowhere (kept_of v.items c.self.inside.held c.self.inside.events) w c.args.place (c.self.view_is ∙ e) (none_read v.items _ c.args.place v.ok.0 c.in_err-room.ensures.variant.1))
 
 pub returns-in_err-room-clause-still : goal.returns-in_err-room-clause-still
 returns-in_err-room-clause-still c w e none =
@@ -27,7 +27,7 @@ returns-in_err-ticket-clause-still c w e none =
 pub returns-in_err-ticket-clause-told : goal.returns-in_err-ticket-clause-told
 returns-in_err-ticket-clause-told c w e =
     let v = c.self.inside.rooms in
-    subst (λ a. Leads (kept_of (slice_set v.items c.args.place c.in_ok-room.room.now) c.self.inside.held c.self.inside.events) a w (tick c.args.place w)) (sym c.from_residual-in_err-ticket.ensures)
+    subst (λ a. Leads (kept_of (slice_set v.items c.args.place c.in_ok-room.room.now) c.self.inside.held c.self.inside.events) a w (next_reply c.args.place w)) (sym c.from_residual-in_err-ticket.ensures)
     (idle (kept_of v.items c.self.inside.held c.self.inside.events) w c.args.place c.in_ok-room.room.now c.in_ok-room.room.now (c.self.view_is ∙ e)
     (slice_get_read v.items _ c.args.place c.in_ok-room.room.now v.ok.0 (c.in_ok-room.ensures.variant.0 refl) c.in_ok-room.ensures.value) refl (sym c.next_ready.ensures ∙ c.in_err-ticket.was))
 

@@ -4,8 +4,8 @@ use Rattle.std.specs.String.{string_eq}
 use Rattle.indexmap.proofs.CallerLemmas.{insert_entry-new}
 use Rattle.ll_channels.specs.Places.{place_in}
 use Rattle.ll_channels.proofs.NameLemmas.{place-none, place-pushed, place-stays}
-use Rattle.ll_channels.proofs.declared.add_name.Goals as goal
-use Rattle.ll_channels.proofs.declared.add_name.Goals.{in-Ok, in-Err}
+use Rattle.ll_channels.proofs.channels.add_name.Goals as goal
+use Rattle.ll_channels.proofs.channels.add_name.Goals.{in-Ok, in-Err}
 
 pub returns-then-contains_key-clause-added : goal.returns-then-contains_key-clause-added
 returns-then-contains_key-clause-added c n =

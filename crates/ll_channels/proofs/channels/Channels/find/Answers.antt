@@ -5,7 +5,7 @@ use Rattle.std.proofs.lemmas.Option.{get_or_from_slice_get, slice_get_within}
 use Rattle.ll_item.specs.Settings.{Configuration}
 use Rattle.ll_channels.specs.Channels.{channel_of_name}
 use Rattle.ll_channels.proofs.NameLemmas.{found-at}
-use Rattle.ll_channels.proofs.declared.Declared.find.Goals as goal
+use Rattle.ll_channels.proofs.channels.Channels.find.Goals as goal
 
 pub returns-in_err-settings : goal.returns-in_err-settings
 returns-in_err-settings c =

@@ -9,7 +9,7 @@ use std::sync::Wait;
 
 /// What a worker serves its connections with.
 #[derive(Drop)]
-pub(crate) struct Desk<'a, L: Ledgers, C, G, K, R> {
+pub(crate) struct Service<'a, L: Ledgers, C, G, K, R> {
     pub(crate) rt: &'a R,
     pub(crate) alloc: Global,
     pub(crate) clock: &'a C,
@@ -19,7 +19,7 @@ pub(crate) struct Desk<'a, L: Ledgers, C, G, K, R> {
     pub(crate) reads: u64,
 }
 
-/// That the record of the channel at a place was handed out. Only [`Desk::hand_out`] makes one.
+/// That the record of the channel at a place was handed out. Only [`Service::hand_out`] makes one.
 #[derive(Drop)]
 pub(crate) struct HandedOut {
     channel: usize,
@@ -33,7 +33,7 @@ impl Model for HandedOut {
     ghost view = { λ h. h.channel };
 }
 
-impl<L: Ledgers, C, G, K: Sink, R: Wait> Desk<'_, L, C, G, K, R> {
+impl<L: Ledgers, C, G, K: Sink, R: Wait> Service<'_, L, C, G, K, R> {
     /// Hands the record of the channel at this place to the sink.
     pub(crate) fn hand_out(&self, channel: usize) -> Result<HandedOut, LinkFault>
         ensures own { IsOwn result }

@@ -11,12 +11,12 @@ use std::marker::Model;
 
 /// The settings of all declared channels in the order of their declaration, and the place of each name's first.
 #[derive(Drop)]
-pub struct Declared {
+pub struct Channels {
     all: Vec<Settings>,
     places: IndexMap<String, usize>,
 }
 
-impl Model for Declared {
+impl Model for Channels {
     ghost use Rattle.std.specs.Prelude.{List};
     ghost use Rattle.ll_item.specs.Settings.{Configuration};
     ghost use Rattle.ll_channels.specs.Places.{FindsPlaces};
@@ -28,12 +28,12 @@ impl Model for Declared {
     ghost invariant = { λ d. FindsPlaces d.places.entries d.all.items };
 }
 
-impl Declared {
+impl Channels {
     /// No channels.
-    pub fn new(alloc: Global) -> Declared
+    pub fn new(alloc: Global) -> Channels
         ensures { result ≡ [] }
     {
-        Declared {
+        Channels {
             all: Vec::new(alloc),
             places: IndexMap::new(alloc),
         }

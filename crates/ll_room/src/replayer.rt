@@ -26,11 +26,11 @@ use std::marker::Model;
 /// A room that keeps what stands for its open requests: its caller knows a request by its number, and owes nobody a reply. It serves who
 /// goes through events that have happened before.
 #[derive(Drop)]
-pub struct Keeper {
+pub struct Replayer {
     room: Room,
 }
 
-impl Model for Keeper {
+impl Model for Replayer {
     ghost use Rattle.ll_room.specs.Home.{Home};
 
     ghost Value = { Home };
@@ -38,12 +38,12 @@ impl Model for Keeper {
     ghost view = { λ k. k.room };
 }
 
-impl Keeper {
+impl Replayer {
     /// The room of this number for a channel of these settings, to which nothing has happened. It fails only where no memory is found.
-    pub fn new(alloc: Global, channel: u64, settings: Settings) -> Result<Keeper, AllocError>
+    pub fn new(alloc: Global, channel: u64, settings: Settings) -> Result<Replayer, AllocError>
         ensures { IfOk result (λ k. k ≡ home channel settings (state_of settings [])) }
     {
-        Ok(Keeper {
+        Ok(Replayer {
             room: Room::new(alloc, channel, settings)?,
         })
     }

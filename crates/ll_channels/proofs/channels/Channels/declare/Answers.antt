@@ -2,7 +2,7 @@
 use Rattle.std.proofs.Common.{◌≡◌, ◌∙◌, arith, length, subst, sym}
 use Rattle.ll_channels.specs.Places.{FindsPlaces}
 use Rattle.ll_channels.proofs.NameLemmas.{FindsPlaces-push}
-use Rattle.ll_channels.proofs.declared.Declared.declare.Goals as goal
+use Rattle.ll_channels.proofs.channels.Channels.declare.Goals as goal
 
 pub invariant_of-self-2 : goal.invariant_of-self-2
 invariant_of-self-2 c =
