@@ -24,47 +24,15 @@ use Rattle.ll_rendition.specs.Refusal.{first_refusal, of_push, of_range, renditi
 use Rattle.ll_verdict.specs.Events.{Event, Ask, Clock, Close, Collect, Publish, items, taken}
 use Rattle.ll_rendition.specs.declared.fault.PublishFault.{PublishFault}
 use Rattle.ll_rendition.specs.declared.fault.PublishFault.TheVariants.{NoRendition}
+use Rattle.ll_verdict.proofs.AcceptedLemmas.{IsTaken, first-none, not-refused}
 use Rattle.ll_window.specs.Refusal as window
 use Rattle.ll_item.specs.Told.{end_time, Listed, Told, start, step, told}
 use Rattle.ll_window.specs.Segments.{own}
 
 -- ---- an item that no rule refuses
 
-none_of : {X Y : Type 0} (f : X → Y) (o : Option X) → option_map f o ≡ None → o ≡ None
-none_of f None h = refl
-none_of f (Some x) h = cc
-
-first_none : (a b : Option PublishFault) → first_refusal a b ≡ None → (a ≡ None) × (b ≡ None)
-first_none None b h = (refl, h)
-first_none (Some reason) b h = cc
-
-both_none : (c : Configuration) (before : List Item) (i : Item) → rendition_refusal c before i ≡ None → (window.refusal c before i ≡ None) × (range.refusal c before i ≡ None)
-unfolding rendition_refusal
-both_none c before i h =
-    let p = first_none (option_map of_push (window.refusal c before i)) (option_map of_range (range.refusal c before i)) h in
-    (none_of of_push (window.refusal c before i) p.0, none_of of_range (range.refusal c before i) p.1)
-
-of_rendition : (b : Bool) (o : Option PublishFault) → (if b then o else Some NoRendition) ≡ None → (b ≡ true) × (o ≡ None)
-of_rendition true o h = (refl, h)
-of_rendition false o h = cc
-
--- what each item of a channel may follow
-pub record IsTaken (c : Configuration) (before : List Item) (i : Item) : Type 0 where
-  pub named : rendition_of i < length c.renditions
-  pub window : window.refusal c (own (rendition_of i) before) i ≡ None
-  pub range : range.refusal c (own (rendition_of i) before) i ≡ None
-
-not_refused : (c : Configuration) (before : List Item) (i : Item) → refusal c before i ≡ None → IsTaken c before i
-not_refused c before i h =
-    let p = of_rendition (nat_lt (rendition_of i) (length c.renditions)) (rendition_refusal c (own (rendition_of i) before) i) h in
-    let q = both_none c (own (rendition_of i) before) i p.1 in
-    record { named = below (rendition_of i) (length c.renditions) p.0; window = q.0; range = q.1 }
-  where
-    below : (m n : ℕ) → nat_lt m n ≡ true → m < n
-    below m n h = grind (arith, nat_tests)
-
 pub is-taken : (c : Configuration) (events : List Event) (i : Item) → refusal_after c events i ≡ None → IsTaken c (items c events) i
-is-taken c events i h = not_refused c (items c events) i (first_none (refusal c (items c events) i) (full_by (is_full (length events))) h).0
+is-taken c events i h = not-refused c (items c events) i (first-none (refusal c (items c events) i) (full_by (is_full (length events))) h).0
 
 -- ---- date ranges
 
@@ -109,7 +77,7 @@ has_line c before (item.End r) h = tt
 one_taken : (c : Configuration) (before : List Item) (i : Item) (o : Option PublishFault) → refusal c before i ≡ o → All HasLine before
     → All HasLine (if is_none o then before ++ i ∷ [] else before)
 one_taken c before i None e h =
-    All-append HasLine before (i ∷ []) h (All-cons HasLine i [] (has_line c (own (rendition_of i) before) i (not_refused c before i e).range) (All-nil HasLine))
+    All-append HasLine before (i ∷ []) h (All-cons HasLine i [] (has_line c (own (rendition_of i) before) i (not-refused c before i e).range) (All-nil HasLine))
 one_taken c before i (Some fault) e h = h
 
 have_lines : (c : Configuration) (before : List Item) (events : List Event) → All HasLine before → All HasLine (fold (taken c) before events)

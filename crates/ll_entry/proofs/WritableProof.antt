@@ -13,7 +13,8 @@ use Rattle.ll_item.specs.Told.{end_time}
 use Rattle.ll_window.specs.Segments.{ended, own}
 use Rattle.ll_window.specs.declared.window.PushFault.{PushFault}
 use Rattle.ll_entry.specs.Writable.{ItemWritableLaw}
-use Rattle.ll_entry.proofs.AcceptedItems.{IsTaken, added, is-taken, removed}
+use Rattle.ll_verdict.proofs.AcceptedLemmas.{IsTaken}
+use Rattle.ll_entry.proofs.AcceptedItems.{added, is-taken, removed}
 use Rattle.ll_entry.proofs.RangeTexts.{with-id-read}
 
 before_end : (b : Bool) (o : Option PushFault) → refusal_by b o ≡ None → o ≡ None

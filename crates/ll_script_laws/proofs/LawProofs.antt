@@ -21,39 +21,15 @@ use Rattle.ll_rendition.specs.Refusal.{first_refusal, of_push, of_range, renditi
 use Rattle.ll_verdict.specs.Events.{Event, Publish, Ask, Collect, Close, Clock, items, taken}
 use Rattle.ll_rendition.specs.declared.fault.PublishFault.{PublishFault}
 use Rattle.ll_rendition.specs.declared.fault.PublishFault.TheVariants as fault
+use Rattle.ll_verdict.proofs.AcceptedLemmas.{not-refused}
 use Rattle.ll_verdict.proofs.ListLemmas.{Each}
+use Rattle.ll_verdict.proofs.NewerLemmas.{folded-longer}
 use Rattle.ll_window.specs.Refusal as window
 use Rattle.ll_item.specs.Told.{end_time}
 use Rattle.ll_window.specs.Segments.{own}
 use Rattle.ll_script_laws.specs.Laws.{PlayersLaw, PublishedLaw}
 use Rattle.ll_script_laws.proofs.ChannelLemmas.{IsHeard, channel-kept}
 use Rattle.ll_script_laws.proofs.ItemTexts.{IsRead}
-
--- ---- an item that no rule refuses
-
-none_of : {X Y : Type 0} (f : X → Y) (o : Option X) → option_map f o ≡ None → o ≡ None
-none_of f None h = refl
-none_of f (Some x) h = cc
-
-first_none : (a b : Option PublishFault) → first_refusal a b ≡ None → (a ≡ None) × (b ≡ None)
-first_none None b h = (refl, h)
-first_none (Some reason) b h = cc
-
-both_none : (c : Configuration) (before : List Item) (i : Item) → rendition_refusal c before i ≡ None → (window.refusal c before i ≡ None) × (range.refusal c before i ≡ None)
-unfolding rendition_refusal
-both_none c before i h =
-    let p = first_none (option_map of_push (window.refusal c before i)) (option_map of_range (range.refusal c before i)) h in
-    (none_of of_push (window.refusal c before i) p.0, none_of of_range (range.refusal c before i) p.1)
-
-of_rendition : (b : Bool) (o : Option PublishFault) → (if b then o else Some fault.NoRendition) ≡ None → o ≡ None
-of_rendition true o h = h
-of_rendition false o h = cc
-
-not_refused : (c : Configuration) (before : List Item) (i : Item) → refusal c before i ≡ None
-    → (window.refusal c (own (rendition_of i) before) i ≡ None) × (range.refusal c (own (rendition_of i) before) i ≡ None)
-not_refused c before i h =
-    both_none c (own (rendition_of i) before) i
-    (of_rendition (nat_lt (rendition_of i) (length c.renditions)) (rendition_refusal c (own (rendition_of i) before) i) h)
 
 -- one that is about a date range has attributes
 none_allowed : (x y : Bool) → (if x then Some IdTaken else if y then Some BadAttribute else Some BadAttribute) ≢ None
@@ -77,8 +53,8 @@ has_texts c before (item.End r) read h = tt
 published_more : (c : Configuration) (before list : List Item) (i : Item) → ArePublished c before list → refusal c (before ++ list) i ≡ None → IsRead i
     → ArePublished c before (list ++ i ∷ [])
 published_more c before [] i h none read =
-    let p = not_refused c before i (ap (λ all. refusal c all i) (sym (append-nil before)) ∙ none) in
-    (p.0, p.1, has_texts c (own (rendition_of i) before) i read p.1, tt)
+    let p = not-refused c before i (ap (λ all. refusal c all i) (sym (append-nil before)) ∙ none) in
+    (p.window, p.range, has_texts c (own (rendition_of i) before) i read p.range, tt)
 published_more c before (j ∷ list) i h none read =
     (h.0, h.1, h.2, published_more c (before ++ j ∷ []) list i h.3 (ap (λ all. refusal c all i) (append_assoc before (j ∷ []) list) ∙ none) read)
 
@@ -111,26 +87,6 @@ published list place channel front later h e =
     (k.settings, folded-published channel.settings front [] tt (each-front front later channel.events e k.events))
 
 -- ---- the law on texts
-
--- items that were accepted stay, and others come after them
-
-taken-by_longer : (list : List Item) (i : Item) (b : Bool) → (more : List Item) × ((if b then list ++ i ∷ [] else list) ≡ list ++ more)
-taken-by_longer list i true = (i ∷ [], refl)
-taken-by_longer list i false = ([], sym (append-nil list))
-
-taken-longer : (c : Configuration) (list : List Item) (e : Event) → (more : List Item) × (taken c list e ≡ list ++ more)
-taken-longer c list (Publish i) = taken-by_longer list i (is_none (refusal c list i))
-taken-longer c list (Ask want) = ([], sym (append-nil list))
-taken-longer c list (Collect ticket) = ([], sym (append-nil list))
-taken-longer c list (Close ticket) = ([], sym (append-nil list))
-taken-longer c list (Clock ms) = ([], sym (append-nil list))
-
-folded-longer : (c : Configuration) (es : List Event) (list : List Item) → (more : List Item) × (fold (taken c) list es ≡ list ++ more)
-folded-longer c [] list = ([], sym (append-nil list))
-folded-longer c (e ∷ es) list =
-    let p = taken-longer c list e in
-    let q = folded-longer c es (taken c list e) in
-    (p.0 ++ q.0, q.1 ∙ ap (λ xs. xs ++ q.0) p.1 ∙ append_assoc list p.0 q.0)
 
 pub players : PlayersLaw
 players list place channel first second later r kind h e is_one recent =

@@ -1,3 +1,4 @@
+pub mod AcceptedLemmas
 pub mod LawProofs
 pub mod ListLemmas
 pub mod NewerLemmas

@@ -76,7 +76,7 @@ taken-longer c list (Collect ticket) = ([], sym (append-nil list))
 taken-longer c list (Close ticket) = ([], sym (append-nil list))
 taken-longer c list (Clock ms) = ([], sym (append-nil list))
 
-folded-longer : (c : Configuration) (es : List Event) (list : List Item) → (more : List Item) × (fold (taken c) list es ≡ list ++ more)
+pub folded-longer : (c : Configuration) (es : List Event) (list : List Item) → (more : List Item) × (fold (taken c) list es ≡ list ++ more)
 folded-longer c [] list = ([], sym (append-nil list))
 folded-longer c (e ∷ es) list =
     let p = taken-longer c list e in
