@@ -22,6 +22,7 @@ use ll_record::{Chunk, ReadingFault, Recorder};
 use ll_room::{Asked, Closed, Collected, Parked, Stamped, Stored};
 use ll_verdict::{Entry, Reply};
 use std::alloc::{AllocError, Global};
+use std::collections::VecDeque;
 use std::marker::Model;
 
 /// A channel as a caller knows it.
@@ -56,7 +57,7 @@ pub enum Tried {
 /// A channel's room with the record of its events, and the values that stand for its open requests.
 pub struct Channel {
     recorder: Recorder,
-    parked: Vec<Stored>,
+    parked: VecDeque<Stored>,
 }
 
 impl Model for Channel {
@@ -78,7 +79,7 @@ impl Channel {
     {
         Ok(Channel {
             recorder: Recorder::new(alloc, place as u64, settings)?,
-            parked: Vec::new(alloc),
+            parked: VecDeque::new(alloc),
         })
     }
 
@@ -154,7 +155,7 @@ impl Channel {
             Ok(Asked::Now(reply)) => Ok(Answer::Now(reply)),
             Ok(Asked::Held(parked)) => {
                 let ticket = parked.ticket();
-                self.parked.push_reserved(parked.store());
+                self.parked.push_back_reserved(parked.store());
                 match opened(&self.recorder, ticket) {
                     Some(entry) => Ok(Answer::Held(entry)),
                     None => unreachable!(),
@@ -257,7 +258,7 @@ impl Channel {
             asks: room.asks(),
             held: parked.len() as u64,
         };
-        while let Some(one) = parked.pop() {
+        while let Some(one) = parked.pop_back() {
             match recorder.close(one.into_parked()) {
                 Closed::Done => {}
                 Closed::Stranger(_one) => unreachable!(),
@@ -312,20 +313,24 @@ fn is_same(a: &Settings, b: &Settings) -> bool
     a == b
 }
 
-/// Takes out the value of the open request of this ticket.
-fn take(recorder: &Recorder, parked: &mut Vec<Stored>, ticket: u64) -> Option<Parked>
+/// Takes out the value of the open request of this ticket. Many requests are collected one after another, mostly in the order in
+/// which they were made, so what is taken out stands near the front.
+fn take(recorder: &Recorder, parked: &mut VecDeque<Stored>, ticket: u64) -> Option<Parked>
     requires { IsChannel recorder.now parked.old.items }
     ensures value { result ≡ (if among ticket (tickets recorder.now.room) then Some (ticket_at recorder.now.room.channel ticket) else None) }
     ensures left { parked.new.items ≡ parked_for recorder.now.room.channel (less ticket (tickets recorder.now.room)) }
 {
     let place = place_of(recorder, parked, ticket)?;
-    Some(parked.remove(place).into_parked())
+    match parked.remove(place) {
+        Some(one) => Some(one.into_parked()),
+        None => unreachable!(),
+    }
 }
 
 /// The place of the value of the open request of this ticket.
-fn place_of(recorder: &Recorder, parked: &[Stored], ticket: u64) -> Option<usize>
-    requires { IsChannel recorder.now parked.now }
-    ensures { result ≡ position (is_of ticket) parked.now }
+fn place_of(recorder: &Recorder, parked: &VecDeque<Stored>, ticket: u64) -> Option<usize>
+    requires { IsChannel recorder.now parked.now.items }
+    ensures { result ≡ position (is_of ticket) parked.now.items }
 {
     // the tickets of open requests rise, as this call says
     let _open = recorder.room().open_requests();

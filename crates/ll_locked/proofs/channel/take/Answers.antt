@@ -7,19 +7,19 @@ use Rattle.ll_locked.proofs.channel.take.Goals as goal
 pub returns-in_err-place-clause-value : goal.returns-in_err-place-clause-value
 returns-in_err-place-clause-value c =
     none-taken c.args.ticket c.args.recorder.now.room.channel (tickets c.args.recorder.now.room) _ c.from_residual.result
-    (c.in_err-place.ensures ∙ ap (position (is_of c.args.ticket)) c.deref.ensures.value) c.requires.each c.from_residual.ensures
+    c.in_err-place.ensures c.requires.each c.from_residual.ensures
 
 pub returns-in_err-place-clause-left : goal.returns-in_err-place-clause-left
 returns-in_err-place-clause-left c =
     none-left c.args.ticket c.args.recorder.now.room.channel (tickets c.args.recorder.now.room) _
-    (c.in_err-place.ensures ∙ ap (position (is_of c.args.ticket)) c.deref.ensures.value) c.requires.each
+    c.in_err-place.ensures c.requires.each
 
-pub returns-clause-value : goal.returns-clause-value
-returns-clause-value c =
-    ap Some c.into_parked.ensures ∙ one-taken c.args.ticket c.args.recorder.now.room.channel c.in_ok-place.place (tickets c.args.recorder.now.room) _ c.remove.result
-    (c.in_ok-place.ensures ∙ ap (position (is_of c.args.ticket)) c.deref.ensures.value) c.requires.each c.remove.ensures.value
+pub returns-in-Some-clause-value : goal.returns-in-Some-clause-value
+returns-in-Some-clause-value c =
+    ap Some c.into_parked.ensures ∙ one-taken c.args.ticket c.args.recorder.now.room.channel c.in_ok-place.place (tickets c.args.recorder.now.room) _ c.in-Some.one
+    c.in_ok-place.ensures c.requires.each c.in-Some.ensures.value
 
-pub returns-clause-left : goal.returns-clause-left
-returns-clause-left c =
+pub returns-in-Some-clause-left : goal.returns-in-Some-clause-left
+returns-in-Some-clause-left c =
     one-left c.args.ticket c.args.recorder.now.room.channel c.in_ok-place.place (tickets c.args.recorder.now.room) _ _ c.requires.distinct
-    (c.in_ok-place.ensures ∙ ap (position (is_of c.args.ticket)) c.deref.ensures.value) c.requires.each c.remove.ensures.items
+    c.in_ok-place.ensures c.requires.each c.in-Some.ensures.items

@@ -65,7 +65,7 @@ invariant_of-self-in-Ok-Held g c =
     let at = goal.at.invariant_of-self-in-Ok-Held g c in
     let k = clocked g at.In-Ok in
     kept-beside _ _ _ _ _ _ k (made g at.After-ticket-ticket k.events k.recorded)
-    (c.push_reserved.ensures.items ∙ ap₂ (λ (ps : List Ticket) (p : Ticket). ps ++ p ∷ []) c.reserve.ensures.items c.store.ensures)
+    (c.push_back_reserved.ensures.items ∙ ap₂ (λ (ps : List Ticket) (p : Ticket). ps ++ p ∷ []) c.reserve.ensures.items c.store.ensures)
 
 pub returns-in-Ok-Now-clause-asked : goal.returns-in-Ok-Now-clause-asked
 returns-in-Ok-Now-clause-asked g c =
