@@ -1,3 +1,6 @@
+pub mod Back
 pub mod ChunkLemmas
-pub mod LineLemmas
+pub mod Few
 pub mod LaterLemmas
+pub mod LineLemmas
+pub mod Walk

@@ -5,7 +5,9 @@ mod answer;
 mod checker;
 mod chunk;
 mod entry;
+mod laws;
 mod lines;
 
 pub use answer::answer_line;
 pub use checker::{Checker, check};
+pub use laws::record_law;

@@ -16,9 +16,9 @@ use Rattle.ll_entry.proofs.ToldLemmas.{steps-many, told-right}
 use Rattle.ll_entry.specs.Leads.{IsOf}
 use Rattle.ll_entry.specs.Told.{entry_of}
 use Rattle.ll_verdict.specs.Events.{Event, steps_from}
-use Rattle.ll_check_laws.specs.Records.{Chunk, IsRecord, entries_in, lines_of}
-use Rattle.ll_check_laws.proofs.Few.{few}
-use Rattle.ll_check_laws.proofs.Walk.{IsText, Names, none_more, one_longer}
+use Rattle.ll_check.specs.Records.{Chunk, IsRecord, entries_in, lines_of}
+use Rattle.ll_check.proofs.Few.{few}
+use Rattle.ll_check.proofs.Walk.{IsText, Names, none_more, one_longer}
 
 abbrev AreRead : Configuration → List (List ℕ) → List Recorded → Type 0
 AreRead c lines entries = map (entry_in c) lines ≡ map Ok entries

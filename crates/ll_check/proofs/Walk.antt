@@ -26,7 +26,7 @@ use Rattle.ll_entry.proofs.ToldLemmas.{right-told}
 use Rattle.ll_entry.specs.Leads.{IsOf}
 use Rattle.ll_entry.specs.Told.{entry_of}
 use Rattle.ll_verdict.specs.Events.{Event, steps_from}
-use Rattle.ll_check_laws.specs.Records.{Chunk, IsRecord, entries_in, lines_of}
+use Rattle.ll_check.specs.Records.{Chunk, IsRecord, entries_in, lines_of}
 
 -- what a chain comes to that goes on after these events: chunks of these settings, with the entries of further events
 record Chunks (c : Configuration) (known : Option Configuration) (before : List Event) (lines : List (List ℕ)) (after : List Event) : Type 0 where
