@@ -1,8 +1,6 @@
 -- What it means that no rule refuses an item; and the IDs that are listed stand on one line each, since all of them were accepted.
-use Rattle.std.proofs.Common.{◌≡◌, ℕ, ◌<◌, ◌==◌, ◌||◌, List, [], ◌∷◌, ◌++◌, Bool, true, false, not, Option, Some, None, is_none, fold, refl, ap, ◌∙◌, length, nat_lt, bytes_eq, arith, if◌then◌else◌}
-use Rattle.std.specs.Prelude.{option_map}
+use Rattle.std.proofs.Common.{◌≡◌, ℕ, ◌==◌, ◌||◌, List, [], ◌∷◌, ◌++◌, Bool, true, false, not, Option, Some, None, is_none, fold, refl, ap, ◌∙◌, length, bytes_eq, if◌then◌else◌}
 use Rattle.std.proofs.lemmas.Bool.{and_parts}
-use Rattle.std.proofs.lemmas.Bool.Decides.{nat_tests}
 use Rattle.std.proofs.lemmas.List.Elements.{All-append, All-cons, All-filter, All-head, All-nil, All-tail}
 use Rattle.std.proofs.lemmas.Slice.Eq.{bytes_eq-Decides}
 use Rattle.std.specs.List.{All, list_all, list_any}
@@ -20,12 +18,9 @@ use Rattle.ll_range.specs.Attributes.{are_allowed, is_id, is_id_byte}
 use Rattle.ll_range.specs.declared.ranges.RangeFault.TheVariants.{BadAttribute, IdTaken, IdUnknown}
 use Rattle.ll_verdict.specs.Full.{full_by, is_full, refusal_after}
 use Rattle.ll_verdict.specs.Accepted.{refusal}
-use Rattle.ll_rendition.specs.Refusal.{first_refusal, of_push, of_range, rendition_refusal}
 use Rattle.ll_verdict.specs.Events.{Event, Ask, Clock, Close, Collect, Publish, items, taken}
 use Rattle.ll_rendition.specs.declared.fault.PublishFault.{PublishFault}
-use Rattle.ll_rendition.specs.declared.fault.PublishFault.TheVariants.{NoRendition}
 use Rattle.ll_verdict.proofs.AcceptedLemmas.{IsTaken, first-none, not-refused}
-use Rattle.ll_window.specs.Refusal as window
 use Rattle.ll_item.specs.Told.{end_time, Listed, Told, start, step, told}
 use Rattle.ll_window.specs.Segments.{own}
 

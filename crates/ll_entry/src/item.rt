@@ -62,7 +62,7 @@ fn flags_text(independent: bool, finish: bool) -> &'static str
 }
 
 /// `part RENDITION MICROSECONDS FLAGS`
-#[tactic(auto, unfolding(crate::specs::Lines::part_line))]
+#[tactic(auto, unfolding(crate::specs::ItemLines::part_line))]
 fn part_text(alloc: Global, name: &str, duration: u64, flags: &str) -> Result<String, AllocError>
     ensures { IfOk result (λ text. string_bytes text ≡ part_line name.now duration flags.now) }
 {
@@ -70,7 +70,7 @@ fn part_text(alloc: Global, name: &str, duration: u64, flags: &str) -> Result<St
 }
 
 /// `break RENDITION`
-#[tactic(auto, unfolding(crate::specs::Lines::break_line))]
+#[tactic(auto, unfolding(crate::specs::ItemLines::break_line))]
 fn break_text(alloc: Global, name: &str) -> Result<String, AllocError>
     ensures { IfOk result (λ text. string_bytes text ≡ break_line name.now) }
 {
@@ -78,7 +78,7 @@ fn break_text(alloc: Global, name: &str) -> Result<String, AllocError>
 }
 
 /// `end RENDITION`
-#[tactic(auto, unfolding(crate::specs::Lines::end_line))]
+#[tactic(auto, unfolding(crate::specs::ItemLines::end_line))]
 fn end_text(alloc: Global, name: &str) -> Result<String, AllocError>
     ensures { IfOk result (λ text. string_bytes text ≡ end_line name.now) }
 {
@@ -86,7 +86,7 @@ fn end_text(alloc: Global, name: &str) -> Result<String, AllocError>
 }
 
 /// `range RENDITION LIST`
-#[tactic(auto, unfolding(crate::specs::Lines::range_line))]
+#[tactic(auto, unfolding(crate::specs::ItemLines::range_line))]
 fn range_text(
     alloc: Global,
     name: &str,
@@ -127,7 +127,7 @@ fn comma_before(attributes: &AttrList) -> &'static str
 }
 
 /// `unrange RENDITION ID`
-#[tactic(auto, unfolding(crate::specs::Lines::unrange_line))]
+#[tactic(auto, unfolding(crate::specs::ItemLines::unrange_line))]
 fn unrange_text(alloc: Global, name: &str, id: &str) -> Result<String, AllocError>
     ensures { IfOk result (λ text. string_bytes text ≡ unrange_line name.now id.now) }
 {

@@ -16,7 +16,7 @@ pub fn push_settings(line: &mut String, settings: &Settings) -> Result<(), Alloc
 }
 
 /// The line that spells settings.
-#[tactic(auto, unfolding(crate::specs::Lines::settings_line))]
+#[tactic(auto, unfolding(crate::specs::ItemLines::settings_line))]
 fn settings_text(alloc: Global, settings: &Settings) -> Result<String, AllocError>
     ensures { IfOk result (λ text. string_bytes text ≡ settings_line settings.now) }
 {

@@ -1,4 +1,4 @@
--- The date ranges of an update that skips some, put upon an earlier list, are those of the update's own moment.
+-- The date ranges of an update that skips some, applied to those of an earlier playlist, are those of the update's own moment.
 use Rattle.std.proofs.Common.{◌≡◌, ℕ, ◌+◌, ◌≤◌, true, false, List, [], ◌∷◌, ◌++◌, map, filter, Some, refl, ap, sym, subst, ◌∙◌, arith}
 use Rattle.std.proofs.lemmas.Bool.Decides.{nat_tests}
 use Rattle.std.proofs.lemmas.List.{map-append}
