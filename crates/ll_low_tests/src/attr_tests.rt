@@ -1,25 +1,36 @@
-use crate::rows::{check, column, number};
+use crate::rows::{column, number};
 use ll_attr::{Text, after, cut, micros_text, parse_micros, parse_number};
-use std::alloc::Global;
-use std::test::Fail;
+use std::alloc::{AllocError, Global};
 
-const WRITTEN: &str = "
+pub(crate) fn add_answer(
+    alloc: Global,
+    told: &mut String,
+    question: &str,
+    input: &str,
+) -> Result<(), AllocError> {
+    match question {
+        "written" => add_written(alloc, told, input),
+        "read" => write!(told, "{:?}", parse_micros(input)),
+        "number" => add_number(told, input),
+        "cut" => write!(told, "{:?}", cut(input, ' ')),
+        "after" => write!(told, "{:?}", after(input, "key=")),
+        _ => add_copy(alloc, told, input),
+    }
+}
+
+/// A number of microseconds as a text.
+pub(crate) const WRITTEN: &str = "text: written
 0 => 0.000000
 1500000 => 1.500000
 999999999999999999 => 999999999999.999999";
 
-fn written(alloc: Global, input: &str) -> Result<String, Fail> {
-    let micros = number(input, 0)?;
-    Ok(String::from_str(alloc, micros_text(alloc, micros)?.as_str())?)
-}
-
-#[test]
-fn durations_are_written(rt: HostRuntime) -> Result<(), Fail> {
-    check(&rt, rt.alloc(), WRITTEN, written)
+fn add_written(alloc: Global, told: &mut String, input: &str) -> Result<(), AllocError> {
+    let text = micros_text(alloc, number(input, 0))?;
+    told.push_str(text.as_str())
 }
 
 /// A text, and the microseconds that it is.
-const READ: &str = "
+pub(crate) const READ: &str = "text: read
 1.5 => Some(1500000)
 7 => Some(7000000)
 0.000001 => Some(1)
@@ -38,17 +49,8 @@ const READ: &str = "
  1 => None
 1e3 => None";
 
-fn duration(alloc: Global, text: &str) -> Result<String, Fail> {
-    Ok(format!(in alloc; "{:?}", parse_micros(text))?)
-}
-
-#[test]
-fn durations_are_read(rt: HostRuntime) -> Result<(), Fail> {
-    check(&rt, rt.alloc(), READ, duration)
-}
-
 /// How many digits there may be, a text, and the number that it is.
-const NUMBERS: &str = "
+pub(crate) const NUMBERS: &str = "text: number
 20 | 18446744073709551615 => Some(18446744073709551615)
 20 | 18446744073709551616 => None
 9 | 007 => Some(7)
@@ -58,34 +60,21 @@ const NUMBERS: &str = "
 9 | +1 => None
 9 | 1  => None";
 
-fn parsed(alloc: Global, input: &str) -> Result<String, Fail> {
-    let most = number(input, 0)? as usize;
-    Ok(format!(in alloc; "{:?}", parse_number(column(input, 1), most))?)
+fn add_number(told: &mut String, input: &str) -> Result<(), AllocError> {
+    let found = parse_number(column(input, 1), number(input, 0) as usize);
+    write!(told, "{found:?}")
 }
 
-#[test]
-fn numbers_are_read(rt: HostRuntime) -> Result<(), Fail> {
-    check(&rt, rt.alloc(), NUMBERS, parsed)
-}
-
-const CUTS: &str = r#"
+/// A text, and what stands before the first blank in it and after that.
+pub(crate) const CUTS: &str = r#"text: cut
 a b  c => Some(("a", "b  c"))
  b => Some(("", "b"))
 a  => Some(("a", ""))
 abc => None
  => None"#;
 
-fn cut_at_blank(alloc: Global, text: &str) -> Result<String, Fail> {
-    Ok(format!(in alloc; "{:?}", cut(text, ' '))?)
-}
-
-#[test]
-fn lines_are_cut(rt: HostRuntime) -> Result<(), Fail> {
-    check(&rt, rt.alloc(), CUTS, cut_at_blank)
-}
-
 /// A text, and what follows the key in it.
-const KEYS: &str = r#"
+pub(crate) const KEYS: &str = r#"text: after
 key=a => Some("a")
 key= => Some("")
 key=key= => Some("key=")
@@ -93,26 +82,18 @@ kex=a => None
 key => None
 a key= => None"#;
 
-fn after_key(alloc: Global, text: &str) -> Result<String, Fail> {
-    Ok(format!(in alloc; "{:?}", after(text, "key="))?)
-}
-
-#[test]
-fn keys_are_taken_off(rt: HostRuntime) -> Result<(), Fail> {
-    check(&rt, rt.alloc(), KEYS, after_key)
-}
-
-const TEXTS: &str = "
+/// A text, and what the copy of a text of these bytes says.
+pub(crate) const TEXTS: &str = "text: copy
  => []
 a b => [a b]
 größe => [größe]";
 
-fn copied(alloc: Global, text: &str) -> Result<String, Fail> {
-    let owned = Text::from_str(alloc, text)?.copy()?;
-    Ok(format!(in alloc; "[{owned}]")?)
+fn add_copy(alloc: Global, told: &mut String, input: &str) -> Result<(), AllocError> {
+    let text = Text::from_str(alloc, input)?;
+    add_copied(told, &text)
 }
 
-#[test]
-fn texts_keep_their_bytes(rt: HostRuntime) -> Result<(), Fail> {
-    check(&rt, rt.alloc(), TEXTS, copied)
+fn add_copied(told: &mut String, text: &Text) -> Result<(), AllocError> {
+    let copy = text.copy()?;
+    write!(told, "[{copy}]")
 }

@@ -1,10 +1,42 @@
-use crate::rows::{check, column};
+use crate::rows::column;
 use ll_attr::{AttrList, AttrValue};
-use std::alloc::Global;
-use std::test::Fail;
+use std::alloc::{AllocError, Global};
+
+pub(crate) fn add_answer(
+    alloc: Global,
+    told: &mut String,
+    question: &str,
+    input: &str,
+) -> Result<(), AllocError> {
+    let (text, rest) = match question {
+        "value" => ("A=1,B=\"x,y\",AB=b=c,C=\"\"", input),
+        "equal" => (column(input, 0), column(input, 1)),
+        _ => (input, ""),
+    };
+    match AttrList::parse(alloc, text) {
+        Ok(list) => add_told(alloc, told, question, list, rest),
+        Err(fault) => write!(told, "{fault:?}"),
+    }
+}
+
+/// What is told of a list.
+fn add_told(
+    alloc: Global,
+    told: &mut String,
+    question: &str,
+    list: AttrList,
+    rest: &str,
+) -> Result<(), AllocError> {
+    match question {
+        "value" => add_value(told, list.get(rest)),
+        "equal" => add_equal(alloc, told, &list, rest),
+        "others" => add_others(told, list),
+        _ => add_copy(told, &list),
+    }
+}
 
 /// A list is written as it was read.
-const LISTS: &str = "
+pub(crate) const LISTS: &str = "list: written
 A=1,B=\"x,y\" => A=1,B=\"x,y\"
 A=\"\" => A=\"\"
 A-1=x => A-1=x
@@ -15,112 +47,92 @@ A=größe => A=größe
 A=\"1\",B=1,C=\" \t,=\" => A=\"1\",B=1,C=\" \t,=\"
 -=0x1F,0=1920x1080 => -=0x1F,0=1920x1080";
 
-fn written_back(alloc: Global, text: &str) -> Result<String, Fail> {
-    let list = AttrList::parse(alloc, text)?;
-    Ok(format!(in alloc; "{}", list.copy()?.write()?)?)
+fn add_copy(told: &mut String, list: &AttrList) -> Result<(), AllocError> {
+    let copy = list.copy()?;
+    add_written(told, &copy)
 }
 
-#[test]
-fn lists_are_written_back(rt: HostRuntime) -> Result<(), Fail> {
-    check(&rt, rt.alloc(), LISTS, written_back)
+fn add_written(told: &mut String, list: &AttrList) -> Result<(), AllocError> {
+    let text = list.write()?;
+    told.push_str(text.as_str())
 }
 
-/// Whether a value is quoted, and its text.
-fn told(value: Option<&AttrValue>) -> Option<(bool, &str)> {
-    match value? {
-        AttrValue::Quoted(text) => Some((true, text.as_str())),
-        AttrValue::Bare(text) => Some((false, text.as_str())),
-    }
-}
-
+/// A name, and the value that it has in a list.
 /// A name in the list below, whether its value is quoted, and the value.
-const VALUES: &str = r#"
-A => Some((false, "1"))
-B => Some((true, "x,y"))
-AB => Some((false, "b=c"))
-C => Some((true, ""))
+pub(crate) const VALUES: &str = r#"list: value
+A => 1
+B => "x,y"
+AB => b=c
+C => ""
  => None
 a => None
 D => None
 ABC => None
 A=1 => None"#;
 
-fn found(alloc: Global, name: &str) -> Result<String, Fail> {
-    let list = AttrList::parse(alloc, "A=1,B=\"x,y\",AB=b=c,C=\"\"")?;
-    Ok(format!(in alloc; "{:?}", told(list.get(name)))?)
-}
-
-#[test]
-fn values_are_found_by_name(rt: HostRuntime) -> Result<(), Fail> {
-    check(&rt, rt.alloc(), VALUES, found)
+fn add_value(told: &mut String, value: Option<&AttrValue>) -> Result<(), AllocError> {
+    match value {
+        Some(AttrValue::Quoted(text)) => write!(told, "\"{text}\""),
+        Some(AttrValue::Bare(text)) => told.push_str(text.as_str()),
+        None => told.push_str("None"),
+    }
 }
 
 /// A list, and the others after its first attribute.
-const OTHERS: &str = r#"
-A=1 => []
-A=1,B=2 => [B=2]
-A="B=1",C=2,D=3 => [C=2,D=3]"#;
+pub(crate) const OTHERS: &str = r#"list: others
+A=1 => 
+A=1,B=2 => B=2
+A="B=1",C=2,D=3 => C=2,D=3"#;
 
-fn others(alloc: Global, text: &str) -> Result<String, Fail> {
-    let list = AttrList::parse(alloc, text)?;
-    let (_first, others) = list.split_first().ok_or("it has one")?;
-    Ok(format!(in alloc; "[{}]", others.write()?)?)
+fn add_others(told: &mut String, list: AttrList) -> Result<(), AllocError> {
+    match list.split_first() {
+        Some((_first, others)) => add_written(told, &others),
+        None => told.push_str("no attribute"),
+    }
 }
 
-#[test]
-fn the_first_attribute_is_taken_off(rt: HostRuntime) -> Result<(), Fail> {
-    check(&rt, rt.alloc(), OTHERS, others)
-}
+/// A list, and its first fault.
+pub(crate) const FAULTS: &str = "list: written
+ => BadName
+A => BadName
+=1 => BadName
+a=1 => BadName
+A=1, => BadName
+,A=1 => BadName
+A=1,,B=2 => BadName
+A =1 => BadName
+ A=1 => BadName
+A_B=1 => BadName
+\"A\"=1 => BadName
+A=1, B=2 => BadName
+Ä=1 => BadName
+A= => BadValue
+A=\"x => BadValue
+A=\"x\"y => BadValue
+A=b\"c => BadValue
+A=y\"x\" => BadValue
+A=\"x\"\"y\" => BadValue
+A=\" => BadValue
+A=\"\"\" => BadValue
+A=1  => BadValue
+A=\t => BadValue
+A=1\r => BadValue
+A=1␊ => BadValue
+A=\"\r\" => BadValue
+A=\"x␊\" => BadValue
+A=\"x,B=1 => BadValue
+A=1,A=2 => Twice
+A=1,B=1,A=\"2\" => Twice
+a=1,B= => BadName
+B=,a=1 => BadValue
+A=1,A= => Twice
+A=1,a= => BadName
+A=,A=1 => BadValue
+A=1,A=2,b=1 => Twice
+A=1,b=1,A=2 => BadName";
 
-const FAULTS: &str = "
- => Some(BadName)
-A => Some(BadName)
-=1 => Some(BadName)
-a=1 => Some(BadName)
-A=1, => Some(BadName)
-,A=1 => Some(BadName)
-A=1,,B=2 => Some(BadName)
-A =1 => Some(BadName)
- A=1 => Some(BadName)
-A_B=1 => Some(BadName)
-\"A\"=1 => Some(BadName)
-A=1, B=2 => Some(BadName)
-Ä=1 => Some(BadName)
-A= => Some(BadValue)
-A=\"x => Some(BadValue)
-A=\"x\"y => Some(BadValue)
-A=b\"c => Some(BadValue)
-A=y\"x\" => Some(BadValue)
-A=\"x\"\"y\" => Some(BadValue)
-A=\" => Some(BadValue)
-A=\"\"\" => Some(BadValue)
-A=1  => Some(BadValue)
-A=\t => Some(BadValue)
-A=1\r => Some(BadValue)
-A=1␊ => Some(BadValue)
-A=\"\r\" => Some(BadValue)
-A=\"x␊\" => Some(BadValue)
-A=\"x,B=1 => Some(BadValue)
-A=1,A=2 => Some(Twice)
-A=1,B=1,A=\"2\" => Some(Twice)
-a=1,B= => Some(BadName)
-B=,a=1 => Some(BadValue)
-A=1,A= => Some(Twice)
-A=1,a= => Some(BadName)
-A=,A=1 => Some(BadValue)
-A=1,A=2,b=1 => Some(Twice)
-A=1,b=1,A=2 => Some(BadName)";
-
-fn fault(alloc: Global, text: &str) -> Result<String, Fail> {
-    Ok(format!(in alloc; "{:?}", AttrList::parse(alloc, text).err())?)
-}
-
-#[test]
-fn first_faults_are_told(rt: HostRuntime) -> Result<(), Fail> {
-    check(&rt, rt.alloc(), FAULTS, fault)
-}
-
-const EQUAL: &str = r#"
+/// Two lists, and whether they are equal.
+pub(crate) const EQUAL: &str = r#"list: equal
 A=1 | A=1 => true
 A=1,B="x" | A=1,B="x" => true
 A=1 | A=2 => false
@@ -129,13 +141,14 @@ A=1 | A="1" => false
 A=1 | A=1,B=2 => false
 A=1,B=2 | B=2,A=1 => false"#;
 
-fn equal(alloc: Global, input: &str) -> Result<String, Fail> {
-    let one = AttrList::parse(alloc, column(input, 0))?;
-    let other = AttrList::parse(alloc, column(input, 1))?;
-    Ok(format!(in alloc; "{}", one == other)?)
-}
-
-#[test]
-fn equal_lists_are_told(rt: HostRuntime) -> Result<(), Fail> {
-    check(&rt, rt.alloc(), EQUAL, equal)
+fn add_equal(
+    alloc: Global,
+    told: &mut String,
+    list: &AttrList,
+    other: &str,
+) -> Result<(), AllocError> {
+    match AttrList::parse(alloc, other) {
+        Ok(other) => write!(told, "{}", *list == other),
+        Err(fault) => write!(told, "{fault:?}"),
+    }
 }

@@ -1,41 +1,51 @@
-use crate::rows::check;
 use ll_directive::{Awaited, Skip, Want, read_target};
-use std::alloc::Global;
-use std::test::Fail;
+use std::alloc::{AllocError, Global};
 
-/// What a target asks for: the names as a copy tells them, what is awaited, and what may be skipped. Or its fault.
-fn told(alloc: Global, target: &str) -> Result<String, Fail> {
-    match read_target(alloc, target.as_bytes()) {
-        Ok(want) => want_told(alloc, &want),
-        Err(fault) => Ok(format!(in alloc; "{fault:?}")?),
+pub(crate) fn add_answer(
+    alloc: Global,
+    told: &mut String,
+    question: &str,
+    input: &str,
+) -> Result<(), AllocError> {
+    match question {
+        "many" => add_after_pairs(alloc, told, input),
+        _ => add_target(alloc, told, input),
     }
 }
 
-fn want_told(alloc: Global, want: &Want) -> Result<String, Fail> {
-    let copy = want.copy()?;
-    let (channel, rendition) = (copy.channel(), copy.rendition());
-    let awaited = awaited(alloc, want.awaited())?;
-    let skip = skip(want.skip());
-    Ok(format!(in alloc; "{channel} {rendition}: {awaited}{skip}")?)
+/// Adds what a target asks for: the names as a copy tells them, what is awaited, and what may be skipped. Or its fault.
+fn add_target(alloc: Global, told: &mut String, target: &str) -> Result<(), AllocError> {
+    match read_target(alloc, target.as_bytes()) {
+        Ok(want) => add_want(told, &want),
+        Err(fault) => write!(told, "{fault:?}"),
+    }
 }
 
-fn awaited(alloc: Global, awaited: Awaited) -> Result<String, Fail> {
-    Ok(match awaited {
-        Awaited::Nothing => String::from_str(alloc, "nothing")?,
-        Awaited::Segment(msn) => format!(in alloc; "segment {msn}")?,
-        Awaited::Part(msn, part) => format!(in alloc; "part {msn} {part}")?,
-    })
-}
-
-fn skip(skip: Skip) -> &'static str {
-    match skip {
+fn add_want(told: &mut String, want: &Want) -> Result<(), AllocError> {
+    add_names(told, want)?;
+    add_awaited(told, want.awaited())?;
+    told.push_str(match want.skip() {
         Skip::No => "",
         Skip::Yes => ", skip YES",
         Skip::V2 => ", skip v2",
+    })
+}
+
+fn add_names(told: &mut String, want: &Want) -> Result<(), AllocError> {
+    let copy = want.copy()?;
+    write!(told, "{} {}: ", copy.channel(), copy.rendition())
+}
+
+fn add_awaited(told: &mut String, awaited: Awaited) -> Result<(), AllocError> {
+    match awaited {
+        Awaited::Nothing => told.push_str("nothing"),
+        Awaited::Segment(msn) => write!(told, "segment {msn}"),
+        Awaited::Part(msn, part) => write!(told, "part {msn} {part}"),
     }
 }
 
-const DIRECTIVES: &str = "
+/// Targets that are read, and what they ask for.
+pub(crate) const DIRECTIVES: &str = "directive: target
 /cam/hi/live.m3u8 => cam hi: nothing
 /cam/hi/live.m3u8? => cam hi: nothing
 /cam/hi/live.m3u8?_HLS_other=1 => cam hi: nothing
@@ -52,12 +62,8 @@ const DIRECTIVES: &str = "
 /cam/hi/live.m3u8?_HLS%5fskip=%59E%53 => cam hi: nothing, skip YES
 /cam/hi/live.m3u8?a=%ff&_HLS+msn=x&=&%00=1&_HLS_msn=4 => cam hi: segment 4";
 
-#[test]
-fn directives_are_read(rt: HostRuntime) -> Result<(), Fail> {
-    check(&rt, rt.alloc(), DIRECTIVES, told)
-}
-
-const QUERIES: &str = "
+/// Targets whose query is malformed.
+pub(crate) const QUERIES: &str = "directive: target
 /cam/hi/live.m3u8?_HLS_msn => BadMsn
 /cam/hi/live.m3u8?_HLS_msn= => BadMsn
 /cam/hi/live.m3u8?_HLS_msn=+1 => BadMsn
@@ -82,12 +88,8 @@ const QUERIES: &str = "
 /cam/hi/live.m3u8?_HLS_msn=1&_HLS_msn=1&_HLS_skip=x => BadSkip
 /cam/hi/live.m3u8?_HLS_part=1&_HLS_part=1 => Double";
 
-#[test]
-fn malformed_queries_are_refused(rt: HostRuntime) -> Result<(), Fail> {
-    check(&rt, rt.alloc(), QUERIES, told)
-}
-
-const TARGETS: &str = "
+/// Targets that are malformed, or name nothing.
+pub(crate) const TARGETS: &str = "directive: target
 /abcdefghijklmnopqrstuvwxyz_-01890/0/live.m3u8 => NotFound
 /cam//live.m3u8 => NotFound
 /cam/hi/x.m3u8 => NotFound
@@ -111,30 +113,19 @@ live.m3u8 => BadTarget
 /cam/hi/live.m3u8?\u{7f} => BadTarget
 /x/é => BadTarget";
 
-#[test]
-fn malformed_targets_are_refused(rt: HostRuntime) -> Result<(), Fail> {
-    check(&rt, rt.alloc(), TARGETS, told)
-}
-
-const NAMES: &str = "
+/// Names are read, and copied.
+pub(crate) const NAMES: &str = "directive: target
 http://a/cam/hi/live.m3u8 => cam hi: nothing
 HTTPS://a:1/cam/hi/live.m3u8?_HLS_skip=v2 => cam hi: nothing, skip v2
 hTtP://@/-/_/live.m3u8?/ => - _: nothing
 /abcdefghijklmnopqrstuvwxyz_-0189/0/live.m3u8 => abcdefghijklmnopqrstuvwxyz_-0189 0: nothing";
 
-#[test]
-fn names_are_read_and_copied(rt: HostRuntime) -> Result<(), Fail> {
-    check(&rt, rt.alloc(), NAMES, told)
-}
+/// What stands after two thousand other pairs counts.
+pub(crate) const MANY: &str = "directive: many
+_HLS_msn=1234 => cam hi: segment 1234";
 
-#[test]
-fn one_of_many_pairs_counts(rt: HostRuntime) -> Result<(), Fail> {
-    let mut target = String::from_str(rt.alloc(), "/cam/hi/live.m3u8?")?;
-    for _ in 0..2000 {
-        target.push_str("a=1&")?;
-    }
-    target.push_str("_HLS_msn=1234")?;
-    let want = read_target(rt.alloc(), target.as_bytes())?;
-    assert!(rt; want.awaited() == Awaited::Segment(1234));
-    Ok(())
+fn add_after_pairs(alloc: Global, told: &mut String, pair: &str) -> Result<(), AllocError> {
+    let pairs = "a=1&".repeat(alloc, 2000)?;
+    let target = format!(in alloc; "/cam/hi/live.m3u8?{pairs}{pair}")?;
+    add_target(alloc, told, target.as_str())
 }

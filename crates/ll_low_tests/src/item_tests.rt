@@ -1,109 +1,122 @@
-use crate::rows::{check, column};
-use ll_attr::Text;
+use crate::rows::{Bench, LINE, column};
+use ll_attr::{AttrList, Text};
 use ll_item::{Item, Settings};
-use std::alloc::Global;
-use std::test::Fail;
+use std::alloc::{AllocError, Global};
 
-const LINE: &str =
-    "channel cam target=4 part=1000000 skip=24 window=36 renditions=lo,hi first=7 start=1700000000000";
-
-/// The line, and what a copy of its settings says: the index of the rendition `hi` comes before the names of renditions.
-const SETTINGS: &str = r#"
-channel cam target=4 part=1000000 skip=24 window=36 renditions=lo,hi first=7 start=1700000000000 => "cam" (4, 1000000, 24, 36) (7, 1700000000000) Some(1) lo hi"#;
-
-fn copied(alloc: Global, line: &str) -> Result<String, Fail> {
-    let settings = Settings::read(alloc, line)?.copy(alloc)?;
-    let mut text = String::new(alloc);
-    add_settings(&mut text, &settings)?;
-    for name in settings.renditions() {
-        write!(text, " {name}")?;
+pub(crate) fn add_answer(
+    alloc: Global,
+    bench: &Bench,
+    told: &mut String,
+    question: &str,
+    input: &str,
+) -> Result<(), AllocError> {
+    match question {
+        "settings" => add_settings_of(alloc, told, input),
+        "changed" => add_changed(alloc, told, input),
+        "made" => add_made(alloc, told, input),
+        "equal" => add_equal(alloc, told, &bench.settings, input),
+        _ => add_item_of(alloc, told, &bench.settings, input),
     }
-    Ok(text)
 }
 
-/// Adds what settings say but for the names of renditions.
-fn add_settings(text: &mut String, settings: &Settings) -> Result<(), Fail> {
-    let (target, part) = (settings.target(), settings.part_target());
-    let durations = (target, part, settings.skip(), settings.window());
-    write!(text, "{:?} {durations:?}", settings.channel())?;
-    let begin = (settings.first(), settings.start());
-    write!(text, " {begin:?} {:?}", settings.rendition("hi"))?;
+/// A line, and what a copy of its settings says: the index of the rendition `hi` comes before the names of renditions.
+pub(crate) const SETTINGS: &str = r#"item: settings
+channel cam target=4 part=1000000 skip=24 window=36 renditions=lo,hi first=7 start=1700000000000 => "cam" (4, 1000000, 24, 36) (7, 1700000000000) Some(1) lo hi"#;
+
+fn add_settings_of(alloc: Global, told: &mut String, line: &str) -> Result<(), AllocError> {
+    match Settings::read(alloc, line) {
+        Ok(settings) => add_copy_of_settings(alloc, told, &settings),
+        Err(fault) => write!(told, "{fault:?}"),
+    }
+}
+
+fn add_copy_of_settings(
+    alloc: Global,
+    told: &mut String,
+    settings: &Settings,
+) -> Result<(), AllocError> {
+    let copy = settings.copy(alloc)?;
+    add_settings(told, &copy)
+}
+
+fn add_settings(told: &mut String, settings: &Settings) -> Result<(), AllocError> {
+    add_numbers(told, settings)?;
+    for name in settings.renditions() {
+        write!(told, " {name}")?;
+    }
     Ok(())
 }
 
-#[test]
-fn settings_are_read_and_copied(rt: HostRuntime) -> Result<(), Fail> {
-    check(&rt, rt.alloc(), SETTINGS, copied)
+/// Adds what settings say but for the names of renditions.
+fn add_numbers(told: &mut String, settings: &Settings) -> Result<(), AllocError> {
+    let (target, part) = (settings.target(), settings.part_target());
+    let durations = (target, part, settings.skip(), settings.window());
+    let begin = (settings.first(), settings.start());
+    let rendition = settings.rendition("hi");
+    let channel = settings.channel();
+    write!(told, "{channel:?} {durations:?} {begin:?} {rendition:?}")
 }
 
-/// What is wrong with the line above, with another text in place of one that stands there.
-fn fault_with(alloc: Global, input: &str) -> Result<String, Fail> {
-    let (before, after) = LINE
-        .split_once(column(input, 0))
-        .ok_or("it stands in the line")?;
-    let new = column(input, 1);
-    let line = format!(in alloc; "{before}{new}{after}")?;
-    Ok(format!(in alloc; "{:?}", Settings::read(alloc, &line).err())?)
+/// What comes of the line above, with another text in place of one that stands there.
+fn add_changed(alloc: Global, told: &mut String, input: &str) -> Result<(), AllocError> {
+    let Some((before, after)) = LINE.split_once(column(input, 0)) else {
+        return told.push_str("it does not stand in the line");
+    };
+    let line = format!(in alloc; "{before}{}{after}", column(input, 1))?;
+    match Settings::read(alloc, line.as_str()) {
+        Ok(_) => told.push_str("read"),
+        Err(fault) => write!(told, "{fault:?}"),
+    }
 }
 
-const LIMITS: &str = "
-lo,hi first=7 start=1700000000000 | hi first=0 start=0 => None
-target=4 | target=004 => None
-target=4 part=1000000 skip=24 window=36 | target=1 part=10000 skip=6 window=9 => None
-target=4 part=1000000 skip=24 window=36 | target=60 part=60000000 skip=86220 window=86400 => None
-cam | abcdefghijklmnopqrstuvwxyz_-0189 => None
-lo,hi | a,b,c,d,e,f,g,h => None
-first=7 | first=1152921504606846976 => None
-start=1700000000000 | start=253402300799999 => None";
+pub(crate) const LIMITS: &str = "item: changed
+lo,hi first=7 start=1700000000000 | hi first=0 start=0 => read
+target=4 | target=004 => read
+target=4 part=1000000 skip=24 window=36 | target=1 part=10000 skip=6 window=9 => read
+target=4 part=1000000 skip=24 window=36 | target=60 part=60000000 skip=86220 window=86400 => read
+cam | abcdefghijklmnopqrstuvwxyz_-0189 => read
+lo,hi | a,b,c,d,e,f,g,h => read
+first=7 | first=1152921504606846976 => read
+start=1700000000000 | start=253402300799999 => read";
 
-#[test]
-fn lines_at_the_limits_are_read(rt: HostRuntime) -> Result<(), Fail> {
-    check(&rt, rt.alloc(), LIMITS, fault_with)
-}
-
-const FAULTS: &str = "
-target=4 | target=0 => Some(BadTarget)
-target=4 part=1000000 skip=24 window=36 | target=61 part=1000000 skip=366 window=549 => Some(BadTarget)
-part=1000000 | part=9999 => Some(BadPartTarget)
-part=1000000 | part=4000001 => Some(BadPartTarget)
-skip=24 | skip=23 => Some(SkipTooSmall)
-window=36 | window=35 => Some(WindowTooSmall)
-window=36 | window=86401 => Some(WindowTooSmall)
-lo,hi | Hi => Some(BadName)
-lo,hi |  => Some(BadName)
-lo,hi | lo, => Some(BadName)
-lo,hi | abcdefghijklmnopqrstuvwxyz_-01890 => Some(BadName)
-lo,hi | hi,hi => Some(BadName)
-lo,hi | a,b,c,d,e,f,g,h,i => Some(NoRendition)
-first=7 | first=1152921504606846977 => Some(BadStart)
-start=1700000000000 | start=253402300800000 => Some(BadStart)
-channel | stream => Some(BadLine)
- start=1700000000000 |  => Some(BadLine)
-cam  | cam   => Some(BadLine)
-start=1700000000000 | start=0 end=1 => Some(BadLine)
-start=1700000000000 | start=0  => Some(BadLine)
-part=1000000 skip=24 | skip=24 part=1000000 => Some(BadLine)
-target=4 | target= => Some(BadLine)
-target=4 | target=4s => Some(BadLine)
-target=4 | target=18446744073709551616 => Some(BadLine)
-cam | Cam => Some(BadLine)
-cam |  => Some(BadLine)
-channel cam target=4 part=1000000 skip=24 window=36 renditions=lo,hi first=7 start=1700000000000 |  => Some(BadLine)
-target=4 part=1000000 | target=0 part=x => Some(BadLine)
-target=4 part=1000000 | target=61 part=9999 => Some(BadTarget)
-part=1000000 skip=24 | part=9999 skip=23 => Some(BadPartTarget)
-skip=24 window=36 | skip=23 window=86401 => Some(SkipTooSmall)
-window=36 renditions=lo,hi | window=35 renditions=Hi => Some(WindowTooSmall)
-lo,hi | a,b,c,d,e,f,g,h,a => Some(BadName)
-lo,hi first=7 | a,b,c,d,e,f,g,h,i first=1152921504606846977 => Some(NoRendition)";
-
-#[test]
-fn the_first_fault_of_a_line_is_told(rt: HostRuntime) -> Result<(), Fail> {
-    check(&rt, rt.alloc(), FAULTS, fault_with)
-}
+pub(crate) const FAULTS: &str = "item: changed
+target=4 | target=0 => BadTarget
+target=4 part=1000000 skip=24 window=36 | target=61 part=1000000 skip=366 window=549 => BadTarget
+part=1000000 | part=9999 => BadPartTarget
+part=1000000 | part=4000001 => BadPartTarget
+skip=24 | skip=23 => SkipTooSmall
+window=36 | window=35 => WindowTooSmall
+window=36 | window=86401 => WindowTooSmall
+lo,hi | Hi => BadName
+lo,hi |  => BadName
+lo,hi | lo, => BadName
+lo,hi | abcdefghijklmnopqrstuvwxyz_-01890 => BadName
+lo,hi | hi,hi => BadName
+lo,hi | a,b,c,d,e,f,g,h,i => NoRendition
+first=7 | first=1152921504606846977 => BadStart
+start=1700000000000 | start=253402300800000 => BadStart
+channel | stream => BadLine
+ start=1700000000000 |  => BadLine
+cam  | cam   => BadLine
+start=1700000000000 | start=0 end=1 => BadLine
+start=1700000000000 | start=0  => BadLine
+part=1000000 skip=24 | skip=24 part=1000000 => BadLine
+target=4 | target= => BadLine
+target=4 | target=4s => BadLine
+target=4 | target=18446744073709551616 => BadLine
+cam | Cam => BadLine
+cam |  => BadLine
+channel cam target=4 part=1000000 skip=24 window=36 renditions=lo,hi first=7 start=1700000000000 |  => BadLine
+target=4 part=1000000 | target=0 part=x => BadLine
+target=4 part=1000000 | target=61 part=9999 => BadTarget
+part=1000000 skip=24 | part=9999 skip=23 => BadPartTarget
+skip=24 window=36 | skip=23 window=86401 => SkipTooSmall
+window=36 renditions=lo,hi | window=35 renditions=Hi => WindowTooSmall
+lo,hi | a,b,c,d,e,f,g,h,a => BadName
+lo,hi first=7 | a,b,c,d,e,f,g,h,i first=1152921504606846977 => NoRendition";
 
 /// These names, one after another.
-fn names(alloc: Global, words: &str) -> Result<Vec<Text>, Fail> {
+fn names(alloc: Global, words: &str) -> Result<Vec<Text>, AllocError> {
     let mut names = Vec::new(alloc);
     for word in words.split_whitespace() {
         names.push(Text::from_str(alloc, word)?)?;
@@ -112,16 +125,24 @@ fn names(alloc: Global, words: &str) -> Result<Vec<Text>, Fail> {
 }
 
 /// The name of a channel, those of its renditions, and the fault.
-const MADE: &str = "
-cam | lo hi => None
-cam |  => Some(NoRendition)
-Cam | lo => Some(BadName)
-cam | lo hi lo => Some(BadName)";
+pub(crate) const MADE: &str = "item: made
+cam | lo hi => made
+cam |  => NoRendition
+Cam | lo => BadName
+cam | lo hi lo => BadName";
 
-fn made(alloc: Global, input: &str) -> Result<String, Fail> {
+fn add_made(alloc: Global, told: &mut String, input: &str) -> Result<(), AllocError> {
     let channel = Text::from_str(alloc, column(input, 0))?;
     let renditions = names(alloc, column(input, 1))?;
-    let settings = Settings::new(
+    add_settings_with(told, channel, renditions)
+}
+
+fn add_settings_with(
+    told: &mut String,
+    channel: Text,
+    renditions: Vec<Text>,
+) -> Result<(), AllocError> {
+    match Settings::new(
         channel,
         4,
         1_000_000,
@@ -130,45 +151,59 @@ fn made(alloc: Global, input: &str) -> Result<String, Fail> {
         renditions,
         7,
         1_700_000_000_000,
-    );
-    Ok(format!(in alloc; "{:?}", settings.err())?)
+    ) {
+        Ok(_) => told.push_str("made"),
+        Err(fault) => write!(told, "{fault:?}"),
+    }
 }
 
-#[test]
-fn settings_are_made(rt: HostRuntime) -> Result<(), Fail> {
-    check(&rt, rt.alloc(), MADE, made)
+/// What the copy of an item tells that a line spells, or the fault of the line.
+fn add_item_of(
+    alloc: Global,
+    told: &mut String,
+    settings: &Settings,
+    line: &str,
+) -> Result<(), AllocError> {
+    match Item::read(alloc, settings, line) {
+        Ok(item) => add_copy(told, &item),
+        Err(fault) => write!(told, "{fault:?}"),
+    }
 }
 
-/// What an item tells, as a text: its kind, its rendition's index, then the rest of it.
-fn told(alloc: Global, item: &Item) -> Result<String, Fail> {
+fn add_copy(told: &mut String, item: &Item) -> Result<(), AllocError> {
+    let copy = item.copy()?;
+    add_item(told, &copy)
+}
+
+/// Adds what an item tells: its kind, its rendition's index, then the rest of it.
+fn add_item(told: &mut String, item: &Item) -> Result<(), AllocError> {
     let rendition = item.rendition();
-    Ok(match item {
+    match item {
         Item::Part {
             duration,
             independent,
             finish,
             ..
-        } => format!(in alloc; "part {rendition} {duration} {independent} {finish}")?,
-        Item::Break { .. } => format!(in alloc; "break {rendition}")?,
-        Item::End { .. } => format!(in alloc; "end {rendition}")?,
-        Item::Range { id, attributes, .. } => {
-            let list = attributes.write()?;
-            format!(in alloc; "range {rendition} [{}] [{}]", id.as_str(), list.as_str())?
-        }
-        Item::Unrange { id, .. } => format!(in alloc; "unrange {rendition} [{}]", id.as_str())?,
-    })
-}
-
-/// What the copy of an item tells that a line spells, or the fault of the line.
-fn read(alloc: Global, line: &str) -> Result<String, Fail> {
-    let settings = Settings::read(alloc, LINE)?;
-    match Item::read(alloc, &settings, line) {
-        Ok(item) => told(alloc, &item.copy()?),
-        Err(fault) => Ok(format!(in alloc; "{fault:?}")?),
+        } => write!(told, "part {rendition} {duration} {independent} {finish}"),
+        Item::Break { .. } => write!(told, "break {rendition}"),
+        Item::End { .. } => write!(told, "end {rendition}"),
+        Item::Range { id, attributes, .. } => add_range(told, rendition, id, attributes),
+        Item::Unrange { id, .. } => write!(told, "unrange {rendition} [{id}]"),
     }
 }
 
-const ITEMS: &str = r#"
+fn add_range(
+    told: &mut String,
+    rendition: usize,
+    id: &Text,
+    attributes: &AttrList,
+) -> Result<(), AllocError> {
+    let list = attributes.write()?;
+    write!(told, "range {rendition} [{id}] [{list}]")
+}
+
+/// A line, and what the copy of its item tells.
+pub(crate) const ITEMS: &str = r#"item: item
 part hi 1000000 - => part 1 1000000 false false
 part hi 1000000 i => part 1 1000000 true false
 part hi 18446744073709551615 f => part 1 18446744073709551615 false true
@@ -185,12 +220,8 @@ unrange hi a b => unrange 1 [a b]
 unrange lo  a  => unrange 0 [ a ]
 unrange hi  => unrange 1 []"#;
 
-#[test]
-fn items_are_read_and_copied(rt: HostRuntime) -> Result<(), Fail> {
-    check(&rt, rt.alloc(), ITEMS, read)
-}
-
-const NO_ITEMS: &str = r#"
+/// A line that is no item, and its first fault.
+pub(crate) const NO_ITEMS: &str = r#"item: item
 part zz 1 f => NoRendition
 part zz x f => BadLine
 part hi 1000000 => BadLine
@@ -238,13 +269,8 @@ unrange hi => BadLine
 unrange Hi a => BadLine
  => BadLine"#;
 
-#[test]
-fn lines_that_are_no_item_are_refused(rt: HostRuntime) -> Result<(), Fail> {
-    check(&rt, rt.alloc(), NO_ITEMS, read)
-}
-
 /// Two lines, and whether their items are equal.
-const EQUAL: &str = r#"
+pub(crate) const EQUAL: &str = r#"item: equal
 part hi 1000000 if | part hi 1000000 if => true
 part hi 1000000 if | part lo 1000000 if => false
 part hi 1000000 if | part hi 999999 if => false
@@ -262,14 +288,27 @@ range hi ID="x",A=1 | unrange hi x => false
 unrange hi x | unrange hi x => true
 unrange hi x | unrange hi y => false"#;
 
-fn equal(alloc: Global, input: &str) -> Result<String, Fail> {
-    let settings = Settings::read(alloc, LINE)?;
-    let one = Item::read(alloc, &settings, column(input, 0))?;
-    let other = Item::read(alloc, &settings, column(input, 1))?;
-    Ok(format!(in alloc; "{}", one == other)?)
+fn add_equal(
+    alloc: Global,
+    told: &mut String,
+    settings: &Settings,
+    input: &str,
+) -> Result<(), AllocError> {
+    match Item::read(alloc, settings, column(input, 0)) {
+        Ok(item) => add_equal_to(alloc, told, settings, &item, column(input, 1)),
+        Err(fault) => write!(told, "{fault:?}"),
+    }
 }
 
-#[test]
-fn items_are_compared(rt: HostRuntime) -> Result<(), Fail> {
-    check(&rt, rt.alloc(), EQUAL, equal)
+fn add_equal_to(
+    alloc: Global,
+    told: &mut String,
+    settings: &Settings,
+    item: &Item,
+    line: &str,
+) -> Result<(), AllocError> {
+    match Item::read(alloc, settings, line) {
+        Ok(other) => write!(told, "{}", *item == other),
+        Err(fault) => write!(told, "{fault:?}"),
+    }
 }

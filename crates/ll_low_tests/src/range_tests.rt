@@ -1,69 +1,127 @@
-use crate::rows::{check, column, number};
+//! A removal is recent for six seconds of parts.
+use crate::rows::{Bench, column, number};
 use ll_attr::{AttrList, Text};
-use ll_item::Settings;
 use ll_range::{RangeFault, Ranges};
-use std::alloc::Global;
-use std::test::Fail;
+use std::alloc::{AllocError, Global};
 
 /// The attributes of a date range that may be added.
 const GOOD: &str = "START-DATE=\"2024-02-29T12:00:00Z\"";
 
-/// The date ranges of no items, where a removal is recent for six seconds of parts.
-fn ranges(alloc: Global) -> Result<Ranges, Fail> {
-    let line = "channel cam target=1 part=1000000 skip=6 window=9 renditions=hi first=0 start=0";
-    let settings = Settings::read(alloc, line)?;
-    Ok(Ranges::new(alloc, &settings))
+pub(crate) fn add_answer(
+    alloc: Global,
+    bench: &mut Bench,
+    told: &mut String,
+    question: &str,
+    input: &str,
+) -> Result<(), AllocError> {
+    let ranges = &mut bench.ranges;
+    match question {
+        "attributes" => add_tests(alloc, told, ranges, input),
+        "id" => write!(told, "{:?}", test_add(alloc, ranges, 0, input, GOOD)),
+        "copy" => {
+            add_change(alloc, told, ranges, input)?;
+            add_copy(alloc, told, ranges, number(input, 3))
+        }
+        _ => {
+            add_change(alloc, told, ranges, input)?;
+            add_state(alloc, told, ranges, number(input, 3))
+        }
+    }
 }
 
-/// Does what a word says, where all parts last so long, and tells the answer.
+/// Adds the answer to a change.
+fn add_change(
+    alloc: Global,
+    told: &mut String,
+    ranges: &mut Ranges,
+    input: &str,
+) -> Result<(), AllocError> {
+    let (word, id) = (column(input, 0), column(input, 1));
+    let answer = change(alloc, ranges, word, number(input, 2), id);
+    write!(told, "{answer:?} ")
+}
+
+/// Does what a word says, where all parts last so long.
 fn change(
     alloc: Global,
     ranges: &mut Ranges,
     word: &str,
     end: u64,
     id: &str,
-) -> Result<Result<(), RangeFault>, Fail> {
-    let attributes = AttrList::parse(alloc, GOOD)?;
-    Ok(match word {
-        "add" => ranges.add(end, Text::from_str(alloc, id)?, attributes),
+) -> Result<(), RangeFault> {
+    match word {
+        "add" => add(alloc, ranges, end, id),
         "remove" => ranges.remove(end, id),
-        "test add" => ranges.test_add(end, id, &attributes),
+        "test add" => test_add(alloc, ranges, end, id, GOOD),
         "test remove" => ranges.test_remove(id),
         _ => {
             ranges.expire(end);
             Ok(())
         }
-    })
+    }
+}
+
+fn add(alloc: Global, ranges: &mut Ranges, end: u64, id: &str) -> Result<(), RangeFault> {
+    match (Text::from_str(alloc, id), AttrList::parse(alloc, GOOD)) {
+        (Ok(id), Ok(attributes)) => ranges.add(end, id, attributes),
+        _ => Err(RangeFault::Memory),
+    }
+}
+
+/// Whether an id may be added with these attributes, which are a list.
+fn test_add(
+    alloc: Global,
+    ranges: &Ranges,
+    end: u64,
+    id: &str,
+    attributes: &str,
+) -> Result<(), RangeFault> {
+    match AttrList::parse(alloc, attributes) {
+        Ok(attributes) => ranges.test_add(end, id, &attributes),
+        Err(_) => Err(RangeFault::Memory),
+    }
 }
 
 /// Adds the ids that are listed, each with the time of its adding.
-fn add_listed(text: &mut String, ranges: &Ranges) -> Result<(), Fail> {
+fn add_listed(told: &mut String, ranges: &Ranges) -> Result<(), AllocError> {
     for place in 0..ranges.count() {
         if let Some(range) = ranges.listed(place) {
-            write!(text, "{} {} ", range.id, range.added)?;
+            write!(told, "{} {} ", range.id, range.added)?;
         }
     }
-    Ok(())
+    told.push('|')
 }
 
 /// Adds these ids.
-fn add_ids(text: &mut String, ids: &[Text]) -> Result<(), Fail> {
+fn add_ids(told: &mut String, ids: &[Text]) -> Result<(), AllocError> {
     for id in ids {
-        write!(text, " {id}")?;
+        write!(told, " {id}")?;
     }
     Ok(())
 }
 
 /// Adds the ids that are listed, and after a bar those that were removed recently.
-fn add_state(alloc: Global, text: &mut String, ranges: &Ranges, end: u64) -> Result<(), Fail> {
-    add_listed(text, ranges)?;
-    text.push('|')?;
-    add_ids(text, &ranges.recent(alloc, end)?)
+fn add_state(
+    alloc: Global,
+    told: &mut String,
+    ranges: &Ranges,
+    end: u64,
+) -> Result<(), AllocError> {
+    add_listed(told, ranges)?;
+    let ids = ranges.recent(alloc, end)?;
+    add_ids(told, &ids)
+}
+
+/// Adds the state of a copy.
+fn add_copy(alloc: Global, told: &mut String, ranges: &Ranges, end: u64) -> Result<(), AllocError> {
+    let copy = ranges.copy()?;
+    add_state(alloc, told, &copy, end)
 }
 
 /// What is done with an id, where all parts last so long, and as of what end is told: the answer, the ids that are listed, each with the
 /// time of its adding, and after a bar those that were removed recently.
-const CHANGES: &str = "
+pub(crate) const CHANGES: &str = "range: change
+begin channel cam target=1 part=1000000 skip=6 window=9 renditions=hi first=0 start=0 => begun
 test add | c | 0 | 0 => Ok(()) |
 test remove | c | 0 | 0 => Err(IdUnknown) |
 remove | c | 0 | 0 => Err(IdUnknown) |
@@ -82,56 +140,15 @@ add | a | 7000001 | 7000001 => Err(IdTaken) b 1000000 | a
 add | c | 7000001 | 7000001 => Ok(()) b 1000000 c 7000001 | a
 expire |  | 8000001 | 8000001 => Ok(()) b 1000000 c 7000001 |";
 
-fn step(alloc: Global, ranges: &mut Ranges, input: &str) -> Result<String, Fail> {
-    let (end, read) = (number(input, 2)?, number(input, 3)?);
-    let answer = change(alloc, ranges, column(input, 0), end, column(input, 1))?;
-    let mut text = format!(in alloc; "{answer:?} ")?;
-    add_state(alloc, &mut text, ranges, read)?;
-    Ok(text)
-}
-
-#[test]
-fn ids_are_taken_while_they_are_listed_or_removed_recently(rt: HostRuntime) -> Result<(), Fail> {
-    let mut ranges = ranges(rt.alloc())?;
-    check(&rt, rt.alloc(), CHANGES, |alloc, input| {
-        step(alloc, &mut ranges, input)
-    })
-}
-
 /// The same of a copy.
-const COPIES: &str = "
+pub(crate) const COPIES: &str = "range: copy
+begin channel cam target=1 part=1000000 skip=6 window=9 renditions=hi first=0 start=0 => begun
 add | a | 0 | 0 => Ok(()) a 0 |
 remove | a | 0 | 0 => Ok(()) | a
 expire | a | 6000001 | 0 => Ok(()) |";
 
-fn step_of_copy(alloc: Global, ranges: &mut Ranges, input: &str) -> Result<String, Fail> {
-    let (end, read) = (number(input, 2)?, number(input, 3)?);
-    let answer = change(alloc, ranges, column(input, 0), end, column(input, 1))?;
-    let mut text = format!(in alloc; "{answer:?} ")?;
-    add_state_of_copy(alloc, &mut text, ranges, read)?;
-    Ok(text)
-}
-
-/// Adds the state of a copy.
-fn add_state_of_copy(
-    alloc: Global,
-    text: &mut String,
-    ranges: &Ranges,
-    end: u64,
-) -> Result<(), Fail> {
-    add_state(alloc, text, &ranges.copy()?, end)
-}
-
-#[test]
-fn copies_are_equal(rt: HostRuntime) -> Result<(), Fail> {
-    let mut ranges = ranges(rt.alloc())?;
-    check(&rt, rt.alloc(), COPIES, |alloc, input| {
-        step_of_copy(alloc, &mut ranges, input)
-    })
-}
-
 /// Attributes, alone and with a start: only with it may they be added.
-const ATTRIBUTES: &str = r#"
+pub(crate) const ATTRIBUTES: &str = r#"range: attributes
 CLASS="" => (Err(BadAttribute), Ok(()))
 END-DATE="2024-02-29T12:00:00.5+01:00" => (Err(BadAttribute), Ok(()))
 DURATION=1 => (Err(BadAttribute), Ok(()))
@@ -153,38 +170,23 @@ X=1 => (Err(BadAttribute), Err(BadAttribute))
 ID="b" => (Err(BadAttribute), Err(BadAttribute))
 END-ON-NEXT=YES => (Err(BadAttribute), Err(BadAttribute))"#;
 
-fn added(alloc: Global, more: &str) -> Result<String, Fail> {
+fn add_tests(
+    alloc: Global,
+    told: &mut String,
+    ranges: &Ranges,
+    more: &str,
+) -> Result<(), AllocError> {
     let text = format!(in alloc; "{more},{GOOD}")?;
-    let alone = test_add(alloc, "a", more)?;
-    let with_start = test_add(alloc, "a", &text)?;
-    Ok(format!(in alloc; "({alone:?}, {with_start:?})")?)
+    let alone = test_add(alloc, ranges, 0, "a", more);
+    let with_start = test_add(alloc, ranges, 0, "a", text.as_str());
+    write!(told, "({alone:?}, {with_start:?})")
 }
 
-/// Whether an id may be added with these attributes.
-fn test_add(alloc: Global, id: &str, attributes: &str) -> Result<Result<(), RangeFault>, Fail> {
-    let attributes = AttrList::parse(alloc, attributes)?;
-    Ok(ranges(alloc)?.test_add(0, id, &attributes))
-}
-
-#[test]
-fn attributes_are_checked(rt: HostRuntime) -> Result<(), Fail> {
-    check(&rt, rt.alloc(), ATTRIBUTES, added)
-}
-
-const IDS: &str = "
+/// An id, and whether it may be added.
+pub(crate) const IDS: &str = "range: id
 a b,c='größe' => Ok(())
  => Err(BadAttribute)
 a\tb => Err(BadAttribute)
 a\" => Err(BadAttribute)
 \r => Err(BadAttribute)
 ␊a => Err(BadAttribute)";
-
-fn id_added(alloc: Global, id: &str) -> Result<String, Fail> {
-    let answer = test_add(alloc, id, GOOD)?;
-    Ok(format!(in alloc; "{answer:?}")?)
-}
-
-#[test]
-fn ids_are_checked(rt: HostRuntime) -> Result<(), Fail> {
-    check(&rt, rt.alloc(), IDS, id_added)
-}

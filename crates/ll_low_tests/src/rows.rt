@@ -1,41 +1,167 @@
-//! Tables of tests. A table is a text that begins on a new line, with a row on each line: what is called with, an arrow, and what
-//! must come of it. Columns before the arrow are parted by bars. A sign ␊ stands for a line feed. Blanks count.
-ghost use Rattle.std.specs.Prelude.{◌≡◌};
-
-use std::alloc::Global;
+//! Tables of tests. A table is a text: its title, and then a row on each line, which has what is asked, an arrow, and what must come of
+//! it. The title says which functions tell that, a group and one of it. Columns before the arrow are parted by bars. A sign ␊ stands for a line feed. Blanks count. A row that begins
+//! with `begin` makes the bench anew, of these settings.
+use crate::{
+    attr_tests, attribute_tests, directive_tests, fault_tests, item_tests, range_tests, time_tests,
+    want_tests, window_tests,
+};
+use ll_item::Settings;
+use ll_range::Ranges;
+use ll_window::Window;
+use std::alloc::{AllocError, Global};
 use std::process::Abort;
 use std::test::Fail;
 
-/// Each row's answer is what is told of what stands before its arrow.
-pub(crate) fn check<F: FnMut(Global, &str) -> Result<String, Fail>>(
-    rt: &impl Abort,
-    alloc: Global,
-    table: &str,
-    mut told: F,
-) -> Result<(), Fail>
-    requires { F.IsAlwaysCallable told }
-{
-    let rows = table
-        .strip_prefix('\n')
-        .ok_or("a table begins on a new line")?;
-    for row in rows.split('\n') {
-        let input = input_of(alloc, row)?;
-        let told = told(alloc, input.as_str())?;
-        compare(rt, row, told.as_str());
+/// The settings that each table begins with.
+pub(crate) const LINE: &str =
+    "channel cam target=4 part=1000000 skip=24 window=36 renditions=lo,hi first=7 start=1700000000000";
+
+/// What the rows of a table change one after another.
+#[derive(Drop)]
+pub(crate) struct Bench {
+    pub(crate) settings: Settings,
+    pub(crate) window: Window,
+    pub(crate) ranges: Ranges,
+}
+
+impl Bench {
+    /// A rendition without items under these settings.
+    fn new(alloc: Global, line: &str) -> Option<Bench> {
+        let settings = Settings::read(alloc, line).ok()?;
+        let window = Window::new(alloc, &settings).ok()?;
+        let ranges = Ranges::new(alloc, &settings);
+        Some(Bench {
+            settings,
+            window,
+            ranges,
+        })
+    }
+}
+
+const TABLES: [&str; 40] = [
+    attr_tests::WRITTEN,
+    attr_tests::READ,
+    attr_tests::NUMBERS,
+    attr_tests::CUTS,
+    attr_tests::KEYS,
+    attr_tests::TEXTS,
+    attribute_tests::LISTS,
+    attribute_tests::VALUES,
+    attribute_tests::OTHERS,
+    attribute_tests::FAULTS,
+    attribute_tests::EQUAL,
+    time_tests::TURNS,
+    time_tests::CENTURIES,
+    time_tests::LAST,
+    time_tests::DATES,
+    item_tests::SETTINGS,
+    item_tests::LIMITS,
+    item_tests::FAULTS,
+    item_tests::MADE,
+    item_tests::ITEMS,
+    item_tests::NO_ITEMS,
+    item_tests::EQUAL,
+    range_tests::CHANGES,
+    range_tests::COPIES,
+    range_tests::ATTRIBUTES,
+    range_tests::IDS,
+    window_tests::RULES,
+    window_tests::REFUSALS,
+    window_tests::LEAVING,
+    window_tests::SKIPPED,
+    window_tests::SEGMENTS,
+    window_tests::COPY,
+    want_tests::HELD,
+    want_tests::FAR,
+    directive_tests::DIRECTIVES,
+    directive_tests::QUERIES,
+    directive_tests::TARGETS,
+    directive_tests::NAMES,
+    directive_tests::MANY,
+    fault_tests::NAMES,
+];
+
+#[test]
+fn rows_have_their_answers(rt: HostRuntime) -> Result<(), Fail> {
+    for table in TABLES {
+        check(&rt, rt.alloc(), table)?;
     }
     Ok(())
 }
 
-/// What stands before the arrow of a row.
-fn input_of(alloc: Global, row: &str) -> Result<String, Fail> {
-    let (input, _answer) = row.rsplit_once(" => ").ok_or("a row has an arrow")?;
-    Ok(input.replace(alloc, "␊", "\n")?)
+fn check(rt: &impl Abort, alloc: Global, table: &str) -> Result<(), AllocError> {
+    let (title, rows) = table.split_once('\n').unwrap_or((table, "no row"));
+    match Bench::new(alloc, LINE) {
+        Some(mut bench) => check_rows(rt, alloc, &mut bench, title, rows),
+        None => Err(AllocError),
+    }
 }
 
-/// What is told is what stands after the arrow of a row.
-fn compare(rt: &impl Abort, row: &str, told: &str) {
-    let (_input, answer) = row.rsplit_once(" => ").unwrap_or(("", row));
-    assert_eq!(rt; told, answer, "at {row}");
+fn check_rows(
+    rt: &impl Abort,
+    alloc: Global,
+    bench: &mut Bench,
+    title: &str,
+    rows: &str,
+) -> Result<(), AllocError> {
+    for row in rows.split('\n') {
+        let (input, answer) = row.rsplit_once(" => ").unwrap_or((row, "an arrow"));
+        let told = told(alloc, bench, title, input)?;
+        compare(rt, row, told.as_str(), answer);
+    }
+    Ok(())
+}
+
+fn compare(rt: &impl Abort, row: &str, told: &str, answer: &str) {
+    assert!(rt; told == answer, "at {row}: {told}");
+}
+
+/// What is told of what stands before the arrow of a row.
+fn told(alloc: Global, bench: &mut Bench, title: &str, input: &str) -> Result<String, AllocError> {
+    let input = input.replace(alloc, "␊", "\n")?;
+    let mut told = String::new(alloc);
+    match input.strip_prefix("begin ") {
+        Some(line) => begin(alloc, bench, &mut told, line)?,
+        None => add_answer(alloc, bench, &mut told, title, input.as_str())?,
+    }
+    Ok(told)
+}
+
+/// Makes the bench anew.
+fn begin(
+    alloc: Global,
+    bench: &mut Bench,
+    told: &mut String,
+    line: &str,
+) -> Result<(), AllocError> {
+    match Bench::new(alloc, line) {
+        Some(new) => {
+            *bench = new;
+            told.push_str("begun")
+        }
+        None => told.push_str("no settings"),
+    }
+}
+
+fn add_answer(
+    alloc: Global,
+    bench: &mut Bench,
+    told: &mut String,
+    title: &str,
+    input: &str,
+) -> Result<(), AllocError> {
+    let (group, question) = title.split_once(": ").unwrap_or(("", title));
+    match group {
+        "text" => attr_tests::add_answer(alloc, told, question, input),
+        "list" => attribute_tests::add_answer(alloc, told, question, input),
+        "time" => time_tests::add_answer(told, question, input),
+        "item" => item_tests::add_answer(alloc, bench, told, question, input),
+        "range" => range_tests::add_answer(alloc, bench, told, question, input),
+        "window" => window_tests::add_answer(alloc, bench, told, question, input),
+        "want" => want_tests::add_answer(alloc, bench, told, question, input),
+        "directive" => directive_tests::add_answer(alloc, told, question, input),
+        _ => fault_tests::add_answer(told, input),
+    }
 }
 
 /// A column of what stands before an arrow.
@@ -43,7 +169,7 @@ pub(crate) fn column(input: &str, place: usize) -> &str {
     input.split(" | ").nth(place).unwrap_or("")
 }
 
-/// The number of a column.
-pub(crate) fn number(input: &str, place: usize) -> Result<u64, Fail> {
-    Ok(column(input, place).parse::<u64>()?)
+/// The number of a column. None stands for a word that is no number, and 999 is none of these rows.
+pub(crate) fn number(input: &str, place: usize) -> u64 {
+    column(input, place).parse::<u64>().unwrap_or(999)
 }

@@ -1,18 +1,20 @@
 //! The expected times and milliseconds are those of Python's `datetime`.
-use crate::rows::{check, number};
+use crate::rows::number;
 use ll_time::{UtcTime, is_date_time};
-use std::alloc::Global;
-use std::test::Fail;
+use std::alloc::AllocError;
 
-/// The time at so many milliseconds, if there is one.
-fn time(alloc: Global, input: &str) -> Result<String, Fail> {
-    match UtcTime::at(number(input, 0)?) {
-        Some(time) => Ok(format!(in alloc; "{time}")?),
-        None => Ok(String::from_str(alloc, "None")?),
+pub(crate) fn add_answer(told: &mut String, question: &str, input: &str) -> Result<(), AllocError> {
+    if question == "date" {
+        return write!(told, "{}", is_date_time(input));
+    }
+    match UtcTime::at(number(input, 0)) {
+        Some(time) => write!(told, "{time}"),
+        None => told.push_str("None"),
     }
 }
 
-const TURNS: &str = "
+/// Milliseconds at turns of days, months and years, and the time.
+pub(crate) const TURNS: &str = "time: time
 0 => 1970-01-01T00:00:00.000Z
 999 => 1970-01-01T00:00:00.999Z
 31449600000 => 1970-12-31T00:00:00.000Z
@@ -27,13 +29,8 @@ const TURNS: &str = "
 13574563200000 => 2400-02-29T00:00:00.000Z
 253402300799999 => 9999-12-31T23:59:59.999Z";
 
-#[test]
-fn turns_of_days_months_and_years(rt: HostRuntime) -> Result<(), Fail> {
-    check(&rt, rt.alloc(), TURNS, time)
-}
-
 /// One moment of each quarter of a millennium.
-const CENTURIES: &str = "
+pub(crate) const CENTURIES: &str = "time: time
 2564373990098 => 2051-04-06T06:06:30.098Z
 9113369642070 => 2258-10-16T19:34:02.070Z
 20992277960572 => 2635-03-22T04:19:20.572Z
@@ -67,22 +64,14 @@ const CENTURIES: &str = "
 242624098969936 => 9658-06-14T07:02:49.936Z
 248432428716841 => 9842-07-06T07:58:36.841Z";
 
-#[test]
-fn moments_of_all_centuries(rt: HostRuntime) -> Result<(), Fail> {
-    check(&rt, rt.alloc(), CENTURIES, time)
-}
-
-const LAST: &str = "
+/// There is no time past the year 9999.
+pub(crate) const LAST: &str = "time: time
 253402300799999 => 9999-12-31T23:59:59.999Z
 253402300800000 => None
 18446744073709551615 => None";
 
-#[test]
-fn nothing_past_the_year_9999(rt: HostRuntime) -> Result<(), Fail> {
-    check(&rt, rt.alloc(), LAST, time)
-}
-
-const DATES: &str = "
+/// A text, and whether it is a date with a time and an offset.
+pub(crate) const DATES: &str = "time: date
 2024-02-29T12:34:56Z => true
 2000-02-29T00:00:00Z => true
 0000-01-01T00:00:00Z => true
@@ -134,12 +123,3 @@ const DATES: &str = "
 2024-01-01T12:34:56é => false
 2024-01-01T12:34:56.1é => false
 ２024-01-01T12:34:56Z => false";
-
-fn told(alloc: Global, text: &str) -> Result<String, Fail> {
-    Ok(format!(in alloc; "{}", is_date_time(text))?)
-}
-
-#[test]
-fn dates_with_times_and_offsets_are_told(rt: HostRuntime) -> Result<(), Fail> {
-    check(&rt, rt.alloc(), DATES, told)
-}

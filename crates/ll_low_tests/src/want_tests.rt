@@ -1,18 +1,26 @@
-//! The largest media sequence number is 1152921504606846976.
-use crate::rows::{check, column, number};
-use ll_item::{Item, Settings};
-use ll_window::Window;
-use std::alloc::Global;
-use std::test::Fail;
+//! Items are letters: p is a part of 10 ms, f one that finishes its segment, e the end. The largest media sequence number is 1152921504606846976.
+use crate::rows::{Bench, column, number};
+use ll_item::Item;
+use ll_window::{PushFault, Window};
+use std::alloc::{AllocError, Global};
 
-/// The window of a rendition of this part target in microseconds and first number, after a part of 10 ms for each p, one that
-/// finishes its segment for each f, and the end for each e.
-fn window(alloc: Global, part: u64, first: u64, items: &str) -> Result<Window, Fail> {
-    let line = format!(in alloc;
-        "channel cam target=4 part={part} skip=24 window=36 renditions=hi first={first} start=0"
-    )?;
-    let mut window = Window::new(alloc, &Settings::read(alloc, &line)?)?;
-    for letter in items.chars() {
+pub(crate) fn add_answer(
+    alloc: Global,
+    bench: &mut Bench,
+    told: &mut String,
+    question: &str,
+    input: &str,
+) -> Result<(), AllocError> {
+    bench.window = Window::new(alloc, &bench.settings)?;
+    match push(&mut bench.window, column(input, 0)) {
+        Ok(()) => add_told(told, &bench.window, question, input),
+        Err(fault) => write!(told, "{fault:?}"),
+    }
+}
+
+/// Adds the items of these letters.
+fn push(window: &mut Window, letters: &str) -> Result<(), PushFault> {
+    for letter in letters.chars() {
         window.push(match letter {
             'e' => Item::End { rendition: 0 },
             _ => Item::Part {
@@ -23,100 +31,102 @@ fn window(alloc: Global, part: u64, first: u64, items: &str) -> Result<Window, F
             },
         })?;
     }
-    Ok(window)
+    Ok(())
 }
 
-/// The first number, the items, and the number and index of a part: whether that part is held, and a segment of that number.
-const HELD: &str = "
-0 |  | 0 | 0 => (false, false)
-0 | e | 0 | 0 => (false, false)
-0 | p | 0 | 0 => (true, false)
-0 | f | 0 | 0 => (true, true)
-0 | f | 0 | 1 => (false, true)
-0 | fp | 0 | 1 => (true, true)
-7 |  | 6 | 0 => (false, false)
-7 | p | 6 | 9 => (true, false)
-7 | p | 7 | 0 => (true, false)
-7 | p | 7 | 1 => (false, false)
-7 | pf | 6 | 9 => (true, true)
-7 | pf | 7 | 1 => (true, true)
-7 | pf | 7 | 2 => (false, true)
-7 | pf | 8 | 0 => (false, false)
-7 | pfp | 7 | 18446744073709551615 => (true, true)
-7 | pfp | 8 | 0 => (true, false)
-7 | pfp | 8 | 1 => (false, false)
-7 | pfpe | 8 | 0 => (true, true)
-7 | pfpe | 8 | 1 => (false, true)
-7 | pfpe | 9 | 0 => (false, false)
-1152921504606846976 |  | 1152921504606846976 | 0 => (false, false)
-1152921504606846976 | f | 1152921504606846976 | 0 => (true, true)
-1152921504606846976 | f | 1152921504606846977 | 0 => (false, false)
-1152921504606846976 | f | 18446744073709551615 | 18446744073709551615 => (false, false)";
-
-fn held(alloc: Global, input: &str) -> Result<String, Fail> {
-    let (first, msn, part) = (number(input, 0)?, number(input, 2)?, number(input, 3)?);
-    let window = window(alloc, 1_000_000, first, column(input, 1))?;
-    let told = (window.holds_part(msn, part), window.holds_segment(msn));
-    Ok(format!(in alloc; "{told:?}")?)
-}
-
-#[test]
-fn parts_and_segments_are_held(rt: HostRuntime) -> Result<(), Fail> {
-    check(&rt, rt.alloc(), HELD, held)
-}
-
-/// The part target, the first number, the items, and the number of a segment, with the index of a part or without one.
-const FAR: &str = "
-1000000 | 0 |  | 0 | 0 => false
-1000000 | 0 |  | 0 | 18446744073709551615 => false
-1000000 | 0 |  | 1 | - => false
-1000000 | 0 |  | 1 | 0 => false
-1000000 | 0 |  | 2 | - => true
-1000000 | 7 |  | 8 | - => false
-1000000 | 7 |  | 9 | - => true
-1000000 | 7 | pp | 0 | - => false
-1000000 | 7 | pp | 7 | 4 => false
-1000000 | 7 | pp | 7 | 5 => true
-1000000 | 7 | pp | 8 | 9 => false
-1000000 | 7 | pp | 9 | - => false
-1000000 | 7 | pp | 10 | - => true
-1000000 | 7 | pf | 7 | 9 => false
-1000000 | 7 | pf | 8 | 9 => false
-1000000 | 7 | pf | 9 | - => false
-1000000 | 7 | pf | 10 | - => true
-1000000 | 7 | pfp | 7 | 9 => false
-1000000 | 7 | pfp | 8 | 3 => false
-1000000 | 7 | pfp | 8 | 4 => true
-1000000 | 7 | pfp | 10 | - => false
-1000000 | 7 | pfp | 11 | - => true
-1000000 | 7 | pe | 7 | 9 => false
-1000000 | 7 | pe | 9 | - => false
-1000000 | 7 | pe | 10 | - => true
-334000 | 0 | p | 0 | 8 => false
-334000 | 0 | p | 0 | 9 => true
-999999 | 0 | p | 0 | 3 => false
-999999 | 0 | p | 0 | 4 => true
-10000 | 0 | p | 0 | 300 => false
-10000 | 0 | p | 0 | 301 => true
-4000000 | 0 | p | 0 | 3 => false
-4000000 | 0 | p | 0 | 4 => true
-1000000 | 1152921504606846976 |  | 1152921504606846977 | - => false
-1000000 | 1152921504606846976 |  | 1152921504606846978 | - => true
-1000000 | 1152921504606846976 | p | 1152921504606846978 | - => false
-1000000 | 1152921504606846976 | p | 1152921504606846979 | - => true
-1000000 | 1152921504606846976 | p | 18446744073709551615 | 18446744073709551615 => true";
-
-fn far(alloc: Global, input: &str) -> Result<String, Fail> {
-    let (target, first, msn) = (number(input, 0)?, number(input, 1)?, number(input, 3)?);
-    let part = match column(input, 4) {
-        "-" => None,
-        _ => Some(number(input, 4)?),
+fn add_told(
+    told: &mut String,
+    window: &Window,
+    question: &str,
+    input: &str,
+) -> Result<(), AllocError> {
+    let (msn, part) = (number(input, 1), number(input, 2));
+    if question == "held" {
+        let held = (window.holds_part(msn, part), window.holds_segment(msn));
+        return write!(told, "{held:?}");
+    }
+    let part = if column(input, 2) == "-" {
+        None
+    } else {
+        Some(part)
     };
-    let window = window(alloc, target, first, column(input, 2))?;
-    Ok(format!(in alloc; "{}", window.far(msn, part))?)
+    write!(told, "{}", window.far(msn, part))
 }
 
-#[test]
-fn what_is_far_ahead_is_told(rt: HostRuntime) -> Result<(), Fail> {
-    check(&rt, rt.alloc(), FAR, far)
-}
+/// The items, and the number and index of a part: whether that part is held, and a segment of that number.
+pub(crate) const HELD: &str = "want: held
+begin channel cam target=4 part=1000000 skip=24 window=36 renditions=hi first=0 start=0 => begun
+ | 0 | 0 => (false, false)
+e | 0 | 0 => (false, false)
+p | 0 | 0 => (true, false)
+f | 0 | 0 => (true, true)
+f | 0 | 1 => (false, true)
+fp | 0 | 1 => (true, true)
+begin channel cam target=4 part=1000000 skip=24 window=36 renditions=hi first=7 start=0 => begun
+ | 6 | 0 => (false, false)
+p | 6 | 9 => (true, false)
+p | 7 | 0 => (true, false)
+p | 7 | 1 => (false, false)
+pf | 6 | 9 => (true, true)
+pf | 7 | 1 => (true, true)
+pf | 7 | 2 => (false, true)
+pf | 8 | 0 => (false, false)
+pfp | 7 | 18446744073709551615 => (true, true)
+pfp | 8 | 0 => (true, false)
+pfp | 8 | 1 => (false, false)
+pfpe | 8 | 0 => (true, true)
+pfpe | 8 | 1 => (false, true)
+pfpe | 9 | 0 => (false, false)
+begin channel cam target=4 part=1000000 skip=24 window=36 renditions=hi first=1152921504606846976 start=0 => begun
+ | 1152921504606846976 | 0 => (false, false)
+f | 1152921504606846976 | 0 => (true, true)
+f | 1152921504606846977 | 0 => (false, false)
+f | 18446744073709551615 | 18446744073709551615 => (false, false)";
+
+/// The items, and the number of a segment, with the index of a part or without one: whether it is far ahead.
+pub(crate) const FAR: &str = "want: far
+begin channel cam target=4 part=1000000 skip=24 window=36 renditions=hi first=0 start=0 => begun
+ | 0 | 0 => false
+ | 0 | 18446744073709551615 => false
+ | 1 | - => false
+ | 1 | 0 => false
+ | 2 | - => true
+begin channel cam target=4 part=1000000 skip=24 window=36 renditions=hi first=7 start=0 => begun
+ | 8 | - => false
+ | 9 | - => true
+pp | 0 | - => false
+pp | 7 | 4 => false
+pp | 7 | 5 => true
+pp | 8 | 9 => false
+pp | 9 | - => false
+pp | 10 | - => true
+pf | 7 | 9 => false
+pf | 8 | 9 => false
+pf | 9 | - => false
+pf | 10 | - => true
+pfp | 7 | 9 => false
+pfp | 8 | 3 => false
+pfp | 8 | 4 => true
+pfp | 10 | - => false
+pfp | 11 | - => true
+pe | 7 | 9 => false
+pe | 9 | - => false
+pe | 10 | - => true
+begin channel cam target=4 part=334000 skip=24 window=36 renditions=hi first=0 start=0 => begun
+p | 0 | 8 => false
+p | 0 | 9 => true
+begin channel cam target=4 part=999999 skip=24 window=36 renditions=hi first=0 start=0 => begun
+p | 0 | 3 => false
+p | 0 | 4 => true
+begin channel cam target=4 part=10000 skip=24 window=36 renditions=hi first=0 start=0 => begun
+p | 0 | 300 => false
+p | 0 | 301 => true
+begin channel cam target=4 part=4000000 skip=24 window=36 renditions=hi first=0 start=0 => begun
+p | 0 | 3 => false
+p | 0 | 4 => true
+begin channel cam target=4 part=1000000 skip=24 window=36 renditions=hi first=1152921504606846976 start=0 => begun
+ | 1152921504606846977 | - => false
+ | 1152921504606846978 | - => true
+p | 1152921504606846978 | - => false
+p | 1152921504606846979 | - => true
+p | 18446744073709551615 | 18446744073709551615 => true";
