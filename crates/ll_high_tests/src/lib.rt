@@ -1,8 +1,6 @@
-//! Tests of the crates from `ll_page` to `ll_apply`. They stand here so that no crate is proved a second time for its tests.
+//! Tests of the crates from `ll_page` to `ll_read`. They stand here so that no crate is proved a second time for its tests.
 #![tactic(auto)]
 
-#[cfg(test)]
-mod apply_tests;
 #[cfg(test)]
 mod fault_tests;
 #[cfg(test)]

@@ -1,10 +1,9 @@
-use crate::rows::{check, column, number};
-use ll_item::{Item, Settings};
+use crate::rows::{column, number};
+use ll_item::{Item, Settings, SettingsFault};
 use ll_page::{Form, Page, Rendition, Shown, SkipKind, View, delta, full};
 use ll_range::Ranges;
 use ll_window::Window;
-use std::alloc::Global;
-use std::test::Fail;
+use std::alloc::{AllocError, Global};
 
 /// The playlist of an ended rendition of a date range and no parts, where the target duration is 4 s and the part target 1 s.
 const ENDED: &str = "#EXTM3U\n\
@@ -97,7 +96,7 @@ part hi 1000000 f
 end hi";
 
 /// The text of a name.
-pub(crate) fn text_of(name: &str) -> &str {
+fn text_of(name: &str) -> &str {
     match name {
         "TWO" => TWO,
         "ONE" => ONE,
@@ -108,25 +107,62 @@ pub(crate) fn text_of(name: &str) -> &str {
 
 /// The name of a playlist, or a playlist that has none.
 fn name_of(text: &str) -> &str {
-    match text {
-        ENDED => "ENDED",
-        BROKEN => "BROKEN",
-        SKIPPED => "SKIPPED",
-        _ => text,
+    for (name, playlist) in [("ENDED", ENDED), ("BROKEN", BROKEN), ("SKIPPED", SKIPPED)] {
+        if playlist == text {
+            return name;
+        }
+    }
+    text
+}
+
+/// The settings of a channel, and what is kept of its renditions.
+#[derive(Drop)]
+pub(crate) struct Channel {
+    pub(crate) settings: Settings,
+    pub(crate) renditions: Vec<Rendition>,
+}
+
+impl Channel {
+    /// The channel of this name before its items, and its items' lines.
+    pub(crate) fn named(alloc: Global, name: &str) -> Result<(Channel, &str), SettingsFault> {
+        let (line, items) = text_of(name).split_once('\n').unwrap_or(("", ""));
+        let settings = Settings::read(alloc, line)?;
+        match no_items(alloc, &settings) {
+            Ok(renditions) => Ok((
+                Channel {
+                    settings,
+                    renditions,
+                },
+                items,
+            )),
+            Err(_) => Err(SettingsFault::Memory),
+        }
+    }
+
+    /// Adds the items of these lines: whether each is taken.
+    fn publish(&mut self, alloc: Global, lines: &str) -> bool {
+        for line in lines.lines() {
+            if !self.publish_line(alloc, line) {
+                return false;
+            }
+        }
+        true
+    }
+
+    /// Adds the item of a line: whether it is taken.
+    pub(crate) fn publish_line(&mut self, alloc: Global, line: &str) -> bool {
+        let Ok(item) = Item::read(alloc, &self.settings, line) else {
+            return false;
+        };
+        match self.renditions.get_mut(item.rendition()) {
+            Some(kept) => push(kept, item),
+            None => false,
+        }
     }
 }
 
-/// The settings that the first line of a text spells, and what is kept of their renditions after the items of the others.
-fn channel(alloc: Global, text: &str) -> Result<(Settings, Vec<Rendition>), Fail> {
-    let (line, items) = text.split_once('\n').ok_or("it has items")?;
-    let settings = Settings::read(alloc, line)?;
-    let mut renditions = no_items(alloc, &settings)?;
-    publish(alloc, &settings, &mut renditions, items)?;
-    Ok((settings, renditions))
-}
-
 /// What is kept of renditions without items.
-pub(crate) fn no_items(alloc: Global, settings: &Settings) -> Result<Vec<Rendition>, Fail> {
+fn no_items(alloc: Global, settings: &Settings) -> Result<Vec<Rendition>, AllocError> {
     let mut renditions = Vec::new(alloc);
     for _ in settings.renditions() {
         let window = Window::new(alloc, settings)?;
@@ -136,32 +172,52 @@ pub(crate) fn no_items(alloc: Global, settings: &Settings) -> Result<Vec<Renditi
     Ok(renditions)
 }
 
-/// Adds the items of these lines to what is kept of their renditions.
-pub(crate) fn publish(
-    alloc: Global,
-    settings: &Settings,
-    renditions: &mut Vec<Rendition>,
-    items: &str,
-) -> Result<(), Fail> {
-    for item in items.lines() {
-        let item = Item::read(alloc, settings, item)?;
-        let kept = renditions.get_mut(item.rendition()).ok_or("the rendition")?;
-        push(kept, item)?;
-    }
-    Ok(())
-}
-
-/// Adds an item.
-fn push(kept: &mut Rendition, item: Item) -> Result<(), Fail> {
+/// Adds an item: whether it is taken.
+fn push(kept: &mut Rendition, item: Item) -> bool {
     let end = kept.window.end_time();
     match item {
-        Item::Range { id, attributes, .. } => Ok(kept.ranges.add(end, id, attributes)?),
-        item => Ok(kept.window.push(item)?),
+        Item::Range { id, attributes, .. } => kept.ranges.add(end, id, attributes).is_ok(),
+        item => kept.window.push(item).is_ok(),
+    }
+}
+
+pub(crate) fn add_answer(
+    alloc: Global,
+    told: &mut String,
+    question: &str,
+    input: &str,
+) -> Result<(), AllocError> {
+    match Channel::named(alloc, column(input, 0)) {
+        Ok((mut channel, items)) => {
+            if !channel.publish(alloc, items) {
+                told.push_str("an item is refused, ")?;
+            }
+            add_told(alloc, told, &mut channel, question, input)
+        }
+        Err(fault) => write!(told, "{fault}"),
+    }
+}
+
+fn add_told(
+    alloc: Global,
+    told: &mut String,
+    channel: &mut Channel,
+    question: &str,
+    input: &str,
+) -> Result<(), AllocError> {
+    let rendition = number(input, 1);
+    match question {
+        "page" => add_page_before(alloc, told, channel, rendition, input),
+        "shared" => add_shared(alloc, told, channel, rendition),
+        _ => match View::new(&channel.settings, &channel.renditions, rendition, 9) {
+            Some(view) => add_view(alloc, told, &view, column(input, 2)),
+            None => told.push_str("None"),
+        },
     }
 }
 
 /// A channel, the index of a rendition, what may be skipped, and the playlist.
-const VIEWS: &str = "
+pub(crate) const VIEWS: &str = "page: view
 TWO | 0 | nothing => ENDED
 TWO | 1 | nothing => BROKEN
 TWO | 0 | YES => ENDED
@@ -169,117 +225,115 @@ TWO | 1 | v2 => BROKEN
 ONE | 0 | YES => SKIPPED
 ONE | 0 | v2 => SKIPPED";
 
-fn written(alloc: Global, input: &str) -> Result<String, Fail> {
-    let rendition = number(input, 1)? as usize;
-    let (settings, renditions) = channel(alloc, text_of(column(input, 0)))?;
-    let view = View::new(&settings, &renditions, rendition, 9).ok_or("the rendition")?;
-    view_written(alloc, &view, column(input, 2))
-}
-
-/// The name of the playlist of a view, where this may be skipped.
-fn view_written(alloc: Global, view: &View<'_>, skip: &str) -> Result<String, Fail> {
+/// Adds the playlist of a view, where this may be skipped, or what the view tells.
+fn add_view(
+    alloc: Global,
+    told: &mut String,
+    view: &View<'_>,
+    skip: &str,
+) -> Result<(), AllocError> {
     let text = match skip {
         "nothing" => full(alloc, view),
         "YES" => delta(alloc, view, SkipKind::Yes),
-        _ => delta(alloc, view, SkipKind::V2),
+        "v2" => delta(alloc, view, SkipKind::V2),
+        _ => return add_counts(told, view),
     };
-    Ok(String::from_str(alloc, name_of(text?.as_str()))?)
-}
-
-#[test]
-fn playlists_of_views_are_written(rt: HostRuntime) -> Result<(), Fail> {
-    check(&rt, rt.alloc(), VIEWS, written)
+    told.push_str(name_of(text?.as_str()))
 }
 
 /// A channel, the index of a rendition, the form of a page, and what comes after the page is made: what the page tells then, what its copy
 /// tells, and the rendition and the count of its view.
-const PAGES: &str = "
+pub(crate) const PAGES: &str = "page: page
 TWO | 0 | full | LATER => ENDED 9 0 Full, ENDED 9 0 Full, 0 9
 TWO | 1 | full | LATER => BROKEN 9 1 Full, BROKEN 9 1 Full, 1 9
 TWO | 1 | update | LATER => BROKEN 9 1 Delta(Yes), BROKEN 9 1 Delta(Yes), 1 9
 ONE | 0 | update |  => SKIPPED 9 0 Delta(Yes), SKIPPED 9 0 Delta(Yes), 0 9";
 
-/// What a page tells: its text, its number, its rendition and its form.
-fn page_told(alloc: Global, page: &Page) -> Result<String, Fail> {
-    let (number, rendition, form) = (page.number(), page.rendition(), page.form());
-    Ok(format!(in alloc; "{} {number} {rendition} {form:?}", name_of(page.text()))?)
-}
-
-/// The same of a page and of its copy, and the rendition and the count of its view.
-fn both_told(alloc: Global, page: &Page) -> Result<String, Fail> {
-    let one = page_told(alloc, page)?;
-    let other = page_told(alloc, &page.again()?)?;
-    let view = told(&page.view());
-    Ok(format!(in alloc; "{one}, {other}, {} {}", view.0, view.1)?)
-}
-
-fn page(alloc: Global, input: &str) -> Result<String, Fail> {
-    let (settings, mut renditions) = channel(alloc, text_of(column(input, 0)))?;
+fn add_page_before(
+    alloc: Global,
+    told: &mut String,
+    channel: &mut Channel,
+    rendition: usize,
+    input: &str,
+) -> Result<(), AllocError> {
     let form = match column(input, 2) {
         "full" => Form::Full,
         _ => Form::Delta(SkipKind::Yes),
     };
-    let shown = Shown::of(alloc, &settings, &renditions, 9)?;
-    let rendition = number(input, 1)? as usize;
-    let page = Page::make(alloc, &shown, rendition, form)?.ok_or("the rendition")?;
-    publish(alloc, &settings, &mut renditions, text_of(column(input, 3)))?;
-    both_told(alloc, &page)
+    let page = page(alloc, channel, rendition, form)?;
+    if !channel.publish(alloc, text_of(column(input, 3))) {
+        told.push_str("an item is refused, ")?;
+    }
+    match page {
+        Some(page) => add_both(told, &page),
+        None => told.push_str("None"),
+    }
 }
 
-#[test]
-fn pages_stay_as_they_were_made(rt: HostRuntime) -> Result<(), Fail> {
-    check(&rt, rt.alloc(), PAGES, page)
+fn page(
+    alloc: Global,
+    channel: &Channel,
+    rendition: usize,
+    form: Form,
+) -> Result<Option<Page>, AllocError> {
+    let shown = Shown::of(alloc, &channel.settings, &channel.renditions, 9)?;
+    Page::make(alloc, &shown, rendition, form)
 }
 
-/// The index of a rendition of the two, and its page.
-const SHARED: &str = "
-0 => ENDED
-1 => BROKEN
-2 => None";
-
-fn page_of(alloc: Global, shown: &Shown, input: &str) -> Result<String, Fail> {
-    let rendition = number(input, 0)? as usize;
-    let page = Page::make(alloc, &shown.again()?, rendition, Form::Full)?;
-    let text = page.as_ref().map_or("None", Page::text);
-    Ok(String::from_str(alloc, name_of(text))?)
+/// Adds what a page tells, the same of its copy, and the rendition and the count of its view.
+fn add_both(told: &mut String, page: &Page) -> Result<(), AllocError> {
+    add_page(told, page)?;
+    add_copy(told, page)?;
+    let view = page.view();
+    write!(told, "{} {}", view.rendition(), view.count())
 }
 
-#[test]
-fn pages_share_what_is_shown(rt: HostRuntime) -> Result<(), Fail> {
-    let (settings, renditions) = channel(rt.alloc(), TWO)?;
-    let shown = Shown::of(rt.alloc(), &settings, &renditions, 9)?;
-    check(&rt, rt.alloc(), SHARED, |alloc, input| {
-        page_of(alloc, &shown, input)
-    })
+fn add_copy(told: &mut String, page: &Page) -> Result<(), AllocError> {
+    let copy = page.again()?;
+    add_page(told, &copy)
 }
 
-/// What a view tells: its rendition, its count, the channel, segments and date ranges of its rendition, and how many
-/// renditions there are.
-fn told<'a>(view: &View<'a>) -> (usize, u64, &'a str, usize, usize, usize) {
-    (
+/// Adds what a page tells: its text, its number, its rendition and its form.
+fn add_page(told: &mut String, page: &Page) -> Result<(), AllocError> {
+    let (number, rendition, form) = (page.number(), page.rendition(), page.form());
+    let name = name_of(page.text());
+    write!(told, "{name} {number} {rendition} {form:?}, ")
+}
+
+/// A channel, the index of a rendition, and its page that is made of a copy of what is shown.
+pub(crate) const SHARED: &str = "page: shared
+TWO | 0 => ENDED
+TWO | 1 => BROKEN
+TWO | 2 => None";
+
+fn add_shared(
+    alloc: Global,
+    told: &mut String,
+    channel: &Channel,
+    rendition: usize,
+) -> Result<(), AllocError> {
+    let shown = Shown::of(alloc, &channel.settings, &channel.renditions, 9)?;
+    match Page::make(alloc, &shown.again()?, rendition, Form::Full)? {
+        Some(page) => told.push_str(name_of(page.text())),
+        None => told.push_str("None"),
+    }
+}
+
+/// A channel, the index of a rendition, and what its view tells: its rendition, its count, the channel, segments and date ranges of its
+/// rendition, and how many renditions there are.
+pub(crate) const OF_ONE: &str = r#"page: view
+TWO | 0 => (0, 9, "cam", 0, 1, 2)
+TWO | 1 => (1, 9, "cam", 1, 0, 2)
+TWO | 2 => None"#;
+
+fn add_counts(told: &mut String, view: &View<'_>) -> Result<(), AllocError> {
+    let counts = (
         view.rendition(),
         view.count(),
         view.settings().channel(),
         view.window().segment_count(),
         view.ranges().count(),
         view.renditions().len(),
-    )
-}
-
-/// The index of a rendition of the two, and what its view tells.
-const OF_ONE: &str = r#"
-0 => Some((0, 9, "cam", 0, 1, 2))
-1 => Some((1, 9, "cam", 1, 0, 2))
-2 => None"#;
-
-fn view_of(alloc: Global, input: &str) -> Result<String, Fail> {
-    let rendition = number(input, 0)? as usize;
-    let (settings, renditions) = channel(alloc, TWO)?;
-    let view = View::new(&settings, &renditions, rendition, 9);
-    Ok(format!(in alloc; "{:?}", view.as_ref().map(told))?)
-}
-
-#[test]
-fn views_are_of_one_rendition(rt: HostRuntime) -> Result<(), Fail> {
-    check(&rt, rt.alloc(), OF_ONE, view_of)
+    );
+    write!(told, "{counts:?}")
 }

@@ -1,61 +1,97 @@
 //! Which lines may stand where: each row is a text, by words for its lines, and what it comes to.
-use crate::read_tests::told;
-use crate::rows::check;
-use std::alloc::Global;
-use std::test::Fail;
+use crate::read_tests::add_counts;
+use std::alloc::{AllocError, Global};
 
 /// The words that `header` stands for.
 const HEADER: &str = "first version target control inf sequence breaks";
 
-/// A line of each kind, by a word for it. What is no such word is a line itself.
+/// A line of each kind, and a word for it.
+const LINES: [(&str, &str); 18] = [
+    ("first", "#EXTM3U"),
+    ("version", "#EXT-X-VERSION:9"),
+    ("target", "#EXT-X-TARGETDURATION:4"),
+    (
+        "control",
+        "#EXT-X-SERVER-CONTROL:CAN-BLOCK-RELOAD=YES,PART-HOLD-BACK=3.000000,CAN-SKIP-UNTIL=24.000000",
+    ),
+    ("inf", "#EXT-X-PART-INF:PART-TARGET=1.000000"),
+    ("sequence", "#EXT-X-MEDIA-SEQUENCE:1"),
+    ("breaks", "#EXT-X-DISCONTINUITY-SEQUENCE:0"),
+    ("range", "#EXT-X-DATERANGE:ID=\"a\",X-A=1"),
+    ("skip", "#EXT-X-SKIP:SKIPPED-SEGMENTS=2"),
+    ("break", "#EXT-X-DISCONTINUITY"),
+    ("map", "#EXT-X-MAP:URI=\"i\""),
+    ("time", "#EXT-X-PROGRAM-DATE-TIME:t"),
+    ("part", "#EXT-X-PART:DURATION=0.500000,URI=\"p\""),
+    ("duration", "#EXTINF:1.000000,"),
+    ("uri", "u"),
+    (
+        "report",
+        "#EXT-X-RENDITION-REPORT:URI=\"r\",LAST-MSN=3,LAST-PART=0",
+    ),
+    ("hint", "#EXT-X-PRELOAD-HINT:TYPE=PART,URI=\"n\""),
+    ("end", "#EXT-X-ENDLIST"),
+];
+
+/// The line of a word. What is no such word is a line itself.
 fn line(word: &str) -> &str {
-    match word {
-        "first" => "#EXTM3U",
-        "version" => "#EXT-X-VERSION:9",
-        "target" => "#EXT-X-TARGETDURATION:4",
-        "control" => {
-            "#EXT-X-SERVER-CONTROL:CAN-BLOCK-RELOAD=YES,PART-HOLD-BACK=3.000000,CAN-SKIP-UNTIL=24.000000"
+    for (name, line) in LINES {
+        if name == word {
+            return line;
         }
-        "inf" => "#EXT-X-PART-INF:PART-TARGET=1.000000",
-        "sequence" => "#EXT-X-MEDIA-SEQUENCE:1",
-        "breaks" => "#EXT-X-DISCONTINUITY-SEQUENCE:0",
-        "range" => "#EXT-X-DATERANGE:ID=\"a\",X-A=1",
-        "skip" => "#EXT-X-SKIP:SKIPPED-SEGMENTS=2",
-        "break" => "#EXT-X-DISCONTINUITY",
-        "map" => "#EXT-X-MAP:URI=\"i\"",
-        "time" => "#EXT-X-PROGRAM-DATE-TIME:t",
-        "part" => "#EXT-X-PART:DURATION=0.500000,URI=\"p\"",
-        "duration" => "#EXTINF:1.000000,",
-        "uri" => "u",
-        "report" => "#EXT-X-RENDITION-REPORT:URI=\"r\",LAST-MSN=3,LAST-PART=0",
-        "hint" => "#EXT-X-PRELOAD-HINT:TYPE=PART,URI=\"n\"",
-        "end" => "#EXT-X-ENDLIST",
-        _ => word,
+    }
+    word
+}
+
+pub(crate) fn add_answer(
+    alloc: Global,
+    told: &mut String,
+    question: &str,
+    input: &str,
+) -> Result<(), AllocError> {
+    match question {
+        "both ends" => add_lines_of_both_ends(alloc, told, input),
+        "bytes" => add_counts(
+            alloc,
+            told,
+            if input == "ff" {
+                b"\xff"
+            } else {
+                b"#EXTM3U\n\xc3\n"
+            },
+        ),
+        _ => add_counts(alloc, told, input.as_bytes()),
     }
 }
 
-/// What a text comes to whose lines these words stand for, each with this end.
-fn told_with(alloc: Global, words: &str, end: &str) -> Result<String, Fail> {
+/// Adds what a text comes to whose lines these words stand for, each with the end LF, and what it comes to with CR LF where that differs.
+fn add_lines_of_both_ends(alloc: Global, told: &mut String, words: &str) -> Result<(), AllocError> {
+    add_lines(alloc, told, words, "\n")?;
+    let mut other = String::new(alloc);
+    add_lines(alloc, &mut other, words, "\r\n")?;
+    if other.as_str() == told.as_str() {
+        return Ok(());
+    }
+    write!(told, ", with CR LF {other}")
+}
+
+/// Adds what a text comes to whose lines these words stand for, each with this end.
+fn add_lines(alloc: Global, told: &mut String, words: &str, end: &str) -> Result<(), AllocError> {
     let words = words.replace(alloc, "header", HEADER)?;
+    let text = lines(alloc, words.as_str(), end)?;
+    add_counts(alloc, told, text.as_str().as_bytes())
+}
+
+fn lines(alloc: Global, words: &str, end: &str) -> Result<String, AllocError> {
     let mut text = String::new(alloc);
     for word in words.split(' ') {
         write!(text, "{}{end}", line(word))?;
     }
-    told(alloc, text.as_bytes())
-}
-
-/// What a text of these words comes to.
-fn lines(alloc: Global, words: &str) -> Result<String, Fail> {
-    told_with(alloc, words, "\n")
-}
-
-/// The same where each line ends in CR LF.
-fn lines_with_returns(alloc: Global, words: &str) -> Result<String, Fail> {
-    told_with(alloc, words, "\r\n")
+    Ok(text)
 }
 
 /// A line of the header is missing, stands twice, or stands before the one that it belongs after.
-const HEADERS: &str = "
+pub(crate) const HEADERS: &str = "lines: both ends
 first version target control inf sequence breaks end => 0 0 0
 version target control inf sequence breaks end => NotPlaylist
 first target control inf sequence breaks end => BadLine 2
@@ -79,14 +115,8 @@ first version target control sequence inf breaks end => BadLine 5
 first version target control inf breaks sequence end => BadLine 6
 first version target control inf sequence end breaks => BadLine 7";
 
-#[test]
-fn lines_of_the_header(rt: HostRuntime) -> Result<(), Fail> {
-    check(&rt, rt.alloc(), HEADERS, lines)?;
-    check(&rt, rt.alloc(), HEADERS, lines_with_returns)
-}
-
 /// The text ends after a line of each kind.
-const EARLY: &str = "
+pub(crate) const EARLY: &str = "lines: both ends
 first => BadLine 2
 first version => BadLine 3
 first version target => BadLine 4
@@ -105,26 +135,13 @@ header map time duration => BadLine 11
 header map time duration uri => BadLine 12
 header report => BadLine 9";
 
-#[test]
-fn texts_that_end_early(rt: HostRuntime) -> Result<(), Fail> {
-    check(&rt, rt.alloc(), EARLY, lines)?;
-    check(&rt, rt.alloc(), EARLY, lines_with_returns)
-}
-
-const UNENDED: &str = "
+/// Texts without an end of line.
+pub(crate) const UNENDED: &str = "lines: text
  => NotPlaylist
 #EXTM3U => BadLine 1";
 
-fn text(alloc: Global, text: &str) -> Result<String, Fail> {
-    told(alloc, text.as_bytes())
-}
-
-#[test]
-fn texts_without_an_end_of_line(rt: HostRuntime) -> Result<(), Fail> {
-    check(&rt, rt.alloc(), UNENDED, text)
-}
-
-const SEGMENTS: &str = "
+/// Lines of segments.
+pub(crate) const SEGMENTS: &str = "lines: both ends
 header map time duration uri time duration uri end => 0 2 0
 header map time duration uri break map time duration uri end => 0 2 0
 header break map time part part duration uri hint => 0 1 0
@@ -152,13 +169,8 @@ header map time duration uri uri => BadLine 12
 header map time duration uri range => BadLine 12
 header map time duration uri break time => BadLine 13";
 
-#[test]
-fn lines_of_segments(rt: HostRuntime) -> Result<(), Fail> {
-    check(&rt, rt.alloc(), SEGMENTS, lines)?;
-    check(&rt, rt.alloc(), SEGMENTS, lines_with_returns)
-}
-
-const AROUND: &str = r#"
+/// Lines around segments.
+pub(crate) const AROUND: &str = r#"lines: both ends
 header range #EXT-X-DATERANGE:ID="b" end => 2 0 0
 header range range => BadLine 9
 header range version => BadLine 9
@@ -185,17 +197,7 @@ header hint end => BadLine 9
 header end report => BadLine 9
 header end uri => BadLine 9"#;
 
-#[test]
-fn lines_around_segments(rt: HostRuntime) -> Result<(), Fail> {
-    check(&rt, rt.alloc(), AROUND, lines)?;
-    check(&rt, rt.alloc(), AROUND, lines_with_returns)
-}
-
-#[test]
-fn bytes_that_are_no_text(rt: HostRuntime) -> Result<(), Fail> {
-    for bytes in [b"\xff".as_slice(), b"#EXTM3U\n\xc3\n".as_slice()] {
-        let found = told(rt.alloc(), bytes)?;
-        assert_eq!(rt; found.as_str(), "NotPlaylist");
-    }
-    Ok(())
-}
+/// Bytes that are no text, by their digits.
+pub(crate) const BYTES: &str = "lines: bytes
+ff => NotPlaylist
+23 45 58 54 4d 33 55 0a c3 0a => NotPlaylist";

@@ -1,7 +1,6 @@
-use crate::rows::{check, column};
-use ll_read::{read, read_outline};
-use std::alloc::Global;
-use std::test::Fail;
+use crate::rows::column;
+use ll_read::{Playlist, read, read_outline};
+use std::alloc::{AllocError, Global};
 
 /// A playlist with every kind of line but two: it skips nothing and has not ended.
 const FULL: &str = "#EXTM3U\n\
@@ -44,79 +43,82 @@ const DELTA: &str = "#EXTM3U\n\
     s8.m4s\n\
     #EXT-X-ENDLIST\n";
 
+pub(crate) fn add_answer(
+    alloc: Global,
+    told: &mut String,
+    question: &str,
+    input: &str,
+) -> Result<(), AllocError> {
+    match question {
+        "full" => add_again(alloc, told, FULL, input),
+        "delta" => add_again(alloc, told, DELTA, input),
+        _ => add_changed(alloc, told, input),
+    }
+}
+
 /// The end of the full playlist's lines: what it comes to, told without memory and as it is read, and what it is written as then.
-const OF_FULL: &str = "
+pub(crate) const OF_FULL: &str = "read: full
 LF => Outline { sequence: 7, segments: 2, skipped: None }, Outline { sequence: 7, segments: 2, skipped: None }, the same text
 CR LF => Outline { sequence: 7, segments: 2, skipped: None }, Outline { sequence: 7, segments: 2, skipped: None }, the same text";
 
 /// The same of the delta update.
-const OF_DELTA: &str = "
+pub(crate) const OF_DELTA: &str = "read: delta
 LF => Outline { sequence: 5, segments: 1, skipped: Some(3) }, Outline { sequence: 5, segments: 1, skipped: Some(3) }, the same text
 CR LF => Outline { sequence: 5, segments: 1, skipped: Some(3) }, Outline { sequence: 5, segments: 1, skipped: Some(3) }, the same text";
 
-/// A text whose lines have another end.
-fn with_end(alloc: Global, text: &str, end: &str) -> Result<String, Fail> {
-    let mut other = String::new(alloc);
-    for line in text.lines() {
-        write!(other, "{line}{end}")?;
+/// Adds what a text comes to whose lines end in LF, or in CR LF in its place.
+fn add_again(alloc: Global, told: &mut String, text: &str, end: &str) -> Result<(), AllocError> {
+    let end = if end == "LF" { "\n" } else { "\r\n" };
+    let other = text.replace(alloc, "\n", end)?;
+    let bytes = other.as_str().as_bytes();
+    write!(told, "{:?}, ", read_outline(alloc, bytes))?;
+    match read(alloc, bytes) {
+        Ok(playlist) => add_written(alloc, told, &playlist, text),
+        Err(fault) => write!(told, "{fault}"),
     }
-    Ok(other)
 }
 
-/// Adds what these bytes come to as a playlist, and what that is written as: a text, or another.
-fn add_written(alloc: Global, told: &mut String, bytes: &[u8], text: &str) -> Result<(), Fail> {
-    let playlist = read(alloc, bytes)?;
+/// Adds what a playlist comes to, and what it is written as: a text, or another.
+fn add_written(
+    alloc: Global,
+    told: &mut String,
+    playlist: &Playlist,
+    text: &str,
+) -> Result<(), AllocError> {
     let written = playlist.write(alloc)?;
-    let written = if written.as_str() == text {
+    let name = if written.as_str() == text {
         "the same text"
     } else {
         written.as_str()
     };
-    Ok(write!(told, "{:?}, {written}", playlist.outline())?)
+    write!(told, "{:?}, {name}", playlist.outline())
 }
 
-/// What a text comes to whose lines end in LF, or in CR LF in its place.
-fn again(alloc: Global, text: &str, end: &str) -> Result<String, Fail> {
-    let end = if end == "LF" { "\n" } else { "\r\n" };
-    let other = with_end(alloc, text, end)?;
-    let bytes = other.as_str().as_bytes();
-    let mut told = format!(in alloc; "{:?}, ", read_outline(alloc, bytes))?;
-    add_written(alloc, &mut told, bytes, text)?;
-    Ok(told)
+/// Adds what a text comes to: how many date ranges, segments and reports it has, or its fault.
+pub(crate) fn add_counts(alloc: Global, told: &mut String, text: &[u8]) -> Result<(), AllocError> {
+    match read(alloc, text) {
+        Ok(p) => write!(
+            told,
+            "{} {} {}",
+            p.ranges(),
+            p.segments.len(),
+            p.reports.len()
+        ),
+        Err(fault) => write!(told, "{fault}"),
+    }
 }
 
-#[test]
-fn what_was_read_is_written_again(rt: HostRuntime) -> Result<(), Fail> {
-    check(&rt, rt.alloc(), OF_FULL, |alloc, end| {
-        again(alloc, FULL, end)
-    })?;
-    check(&rt, rt.alloc(), OF_DELTA, |alloc, end| {
-        again(alloc, DELTA, end)
-    })
-}
-
-/// What a text comes to: how many date ranges, segments and reports it has, or its fault.
-pub(crate) fn told(alloc: Global, text: &[u8]) -> Result<String, Fail> {
-    let told = match read(alloc, text) {
-        Ok(p) => format!(in alloc; "{} {} {}", p.ranges(), p.segments.len(), p.reports.len())?,
-        Err(fault) => format!(in alloc; "{fault}")?,
+/// Adds what the full playlist comes to with another text in place of a part of it. Its lines are 24.
+fn add_changed(alloc: Global, told: &mut String, input: &str) -> Result<(), AllocError> {
+    let Some((before, after)) = FULL.split_once(column(input, 0)) else {
+        return told.push_str("it does not stand in the text");
     };
-    Ok(told)
-}
-
-/// What a text comes to with another in place of a part of it. The lines of the full playlist are 24.
-fn changed(alloc: Global, text: &str, input: &str) -> Result<String, Fail> {
-    let (before, after) = text.split_once(column(input, 0)).ok_or("it stands in it")?;
     let text = format!(in alloc; "{before}{}{after}", column(input, 1))?;
-    told(alloc, text.as_str().as_bytes())
+    add_counts(alloc, told, text.as_str().as_bytes())
 }
 
-/// What the full playlist comes to then.
-fn full_changed(alloc: Global, input: &str) -> Result<String, Fail> {
-    changed(alloc, FULL, input)
-}
-
-const NUMBERS: &str = "
+/// Numbers at their limits.
+pub(crate) const NUMBERS: &str = "read: changed
 VERSION:10 | VERSION:9 => 2 2 1
 VERSION:10 | VERSION:8 => BadLine 2
 VERSION:10 | VERSION:11 => BadLine 2
@@ -135,12 +137,8 @@ MSN=9 | MSN=2305843009213693953 => BadLine 23
 PART=3 | PART=2305843009213693952 => 2 2 1
 PART=3 | PART=2305843009213693953 => BadLine 23";
 
-#[test]
-fn numbers_at_their_limits(rt: HostRuntime) -> Result<(), Fail> {
-    check(&rt, rt.alloc(), NUMBERS, full_changed)
-}
-
-const DURATIONS: &str = "
+/// Durations at their limits.
+pub(crate) const DURATIONS: &str = "read: changed
 BACK=3.000000 | BACK=999999999999.999999 => 2 2 1
 BACK=3.000000 | BACK=1000000000000.000000 => BadLine 4
 UNTIL=24.000000 | UNTIL=999999999999.999999 => 2 2 1
@@ -157,12 +155,8 @@ INF:1.500000 | INF:1 => BadLine 12
 ION=0.500000 | ION=999999999999.999999 => 2 2 1
 ION=0.500000 | ION=1000000000000.000000 => BadLine 15";
 
-#[test]
-fn durations_at_their_limits(rt: HostRuntime) -> Result<(), Fail> {
-    check(&rt, rt.alloc(), DURATIONS, full_changed)
-}
-
-const TEXTS: &str = "
+/// Texts of lines.
+pub(crate) const TEXTS: &str = "read: changed
 #EXTM3U | \u{feff}#EXTM3U => NotPlaylist
 #EXTM3U␊ | #EXTM3U\r␊ => 2 2 1
 #EXTM3U␊ | #EXTM3U ␊ => NotPlaylist
@@ -187,8 +181,3 @@ TYPE=PART | TYPE=MAP => BadLine 24
 s9.1.m4s\"␊ | s9.1.m4s\" => BadLine 24
 s9.1.m4s\"␊ | s9.1.m4s\"␊  => BadLine 25
 s9.1.m4s\"␊ | s9.1.m4s\"␊␊ => BadLine 25";
-
-#[test]
-fn texts_of_lines(rt: HostRuntime) -> Result<(), Fail> {
-    check(&rt, rt.alloc(), TEXTS, full_changed)
-}
