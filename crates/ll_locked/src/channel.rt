@@ -321,10 +321,10 @@ fn take(recorder: &Recorder, parked: &mut VecDeque<Stored>, ticket: u64) -> Opti
     ensures left { parked.new.items ≡ parked_for recorder.now.room.channel (less ticket (tickets recorder.now.room)) }
 {
     let place = place_of(recorder, parked, ticket)?;
-    match parked.remove(place) {
-        Some(one) => Some(one.into_parked()),
-        None => unreachable!(),
-    }
+    let Some(one) = parked.remove(place) else {
+        unreachable!();
+    };
+    Some(one.into_parked())
 }
 
 /// The place of the value of the open request of this ticket.

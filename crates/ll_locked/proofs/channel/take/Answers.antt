@@ -14,12 +14,12 @@ returns-in_err-place-clause-left c =
     none-left c.args.ticket c.args.recorder.now.room.channel (tickets c.args.recorder.now.room) _
     c.in_err-place.ensures c.requires.each
 
-pub returns-in-Some-clause-value : goal.returns-in-Some-clause-value
-returns-in-Some-clause-value c =
+pub returns-clause-value : goal.returns-clause-value
+returns-clause-value c =
     ap Some c.into_parked.ensures ∙ one-taken c.args.ticket c.args.recorder.now.room.channel c.in_ok-place.place (tickets c.args.recorder.now.room) _ c.in-Some.one
     c.in_ok-place.ensures c.requires.each c.in-Some.ensures.value
 
-pub returns-in-Some-clause-left : goal.returns-in-Some-clause-left
-returns-in-Some-clause-left c =
+pub returns-clause-left : goal.returns-clause-left
+returns-clause-left c =
     one-left c.args.ticket c.args.recorder.now.room.channel c.in_ok-place.place (tickets c.args.recorder.now.room) _ _ c.requires.distinct
     c.in_ok-place.ensures c.requires.each c.in-Some.ensures.items

@@ -1,4 +1,4 @@
-use Rattle.std.specs.Prelude.{◌≡◌}
+use Rattle.std.specs.Prelude.{◌≡◌, length}
 use Rattle.ll_room.specs.Home.{AreDistinct, tickets}
 use Rattle.ll_locked.specs.Channel.{parked_for}
 use Rattle.ll_locked.proofs.channel.Channel.finish.Given as goal
@@ -10,4 +10,4 @@ invariant-loop-one l = record {
 }
 
 abbrev pub decreases-loop-one : goal.decreases-loop-one
-decreases-loop-one l = goal.left-loop-one l
+decreases-loop-one l = length l.parked.items
