@@ -77,7 +77,7 @@ impl<L: Ledgers> Drop for Hub<L> {
 }
 
 impl<L: Ledgers> Hub<L> {
-    /// A hub of these channels, to which nothing has happened. They have distinct names, so that each is found by its own. It fails
+    /// A hub of these channels, to which nothing has happened. Of channels of one name the first is found by it. It fails
     /// only where no memory is found.
     pub fn new(alloc: Global, channels: Vec<Settings>, blanks: Blanks) -> Result<Hub<L>, AllocError>
         requires some { 1 ≤ length channels.items }
