@@ -1,14 +1,16 @@
 //! How many requests a release and a time-out look at, and a book that is full.
 use crate::kept::{Kept, pages};
-use ll_book::{ParkFault, Release};
+use ll_book::{Pages, ParkFault, Release};
 use ll_directive::Awaited;
 use ll_verdict::Settled;
-use std::alloc::Global;
+use std::alloc::{AllocError, Global};
 use std::process::Abort;
 use std::test::Fail;
 
 /// How many requests may wait.
 const LIMIT: u64 = 65_536;
+
+const HALF: u64 = LIMIT / 2;
 
 /// Holds so many requests that await the same, until the same time: whether all are held.
 fn hold(kept: &mut Kept, count: u64, awaited: Awaited, deadline: u64) -> bool {
@@ -20,28 +22,55 @@ fn hold(kept: &mut Kept, count: u64, awaited: Awaited, deadline: u64) -> bool {
     true
 }
 
+/// A release: how many requests are looked at for its holders, how many it releases, and at how many it looks.
+const RELEASES: [(Release, (usize, usize, usize)); 6] = [
+    (Release::Part(0, 0, 0), (2, 1, 2)),
+    (Release::Part(0, 0, 0), (1, 0, 1)),
+    (Release::Segment(0, 9), (1, 0, 1)),
+    (Release::Part(1, 9, 9), (1, 0, 1)),
+    (Release::Part(0, 2, 0), (1_001, 1_000, 1_001)),
+    (Release::All(0), (1, 0, 1)),
+];
+
+fn release(
+    alloc: Global,
+    kept: &mut Kept,
+    pages: &mut Pages,
+    which: Release,
+) -> Result<(usize, usize, usize), AllocError> {
+    let (held, then) = kept.release(alloc, which, pages)?;
+    Ok((held, then.released, then.looked))
+}
+
+fn check_releases(
+    rt: &impl Abort,
+    alloc: Global,
+    kept: &mut Kept,
+    pages: &mut Pages,
+) -> Result<(), AllocError> {
+    for (which, expected) in RELEASES {
+        let told = release(alloc, kept, pages, which)?;
+        assert!(rt; told == expected, "{told:?} in place of {expected:?}");
+    }
+    Ok(())
+}
+
+/// Holds the requests that these releases take: whether all are held.
+fn hold_both(kept: &mut Kept) -> bool {
+    hold(kept, 1_000, Awaited::Part(2, 0), 12_000) && hold(kept, 1, Awaited::Part(0, 0), 12_000)
+}
+
+fn check_held(rt: &impl Abort, alloc: Global, pages: &mut Pages) -> Result<(), AllocError> {
+    let mut kept = Kept::new(alloc);
+    assert!(rt; hold_both(&mut kept));
+    check_releases(rt, alloc, &mut kept, pages)
+}
+
 /// A release and the making of its holders look at what they take, and one.
 #[test]
 fn releases_look_at_what_they_take(rt: HostRuntime) -> Result<(), Fail> {
-    let mut kept = Kept::new(rt.alloc());
     let mut pages = pages(rt.alloc(), 0)?;
-    assert!(rt; hold(&mut kept, 1_000, Awaited::Part(2, 0), 12_000));
-    assert!(rt; hold(&mut kept, 1, Awaited::Part(0, 0), 12_000));
-    for (which, held, released, looked) in [
-        (Release::Part(0, 0, 0), 2, 1, 2),
-        (Release::Part(0, 0, 0), 1, 0, 1),
-        (Release::Segment(0, 9), 1, 0, 1),
-        (Release::Part(1, 9, 9), 1, 0, 1),
-        (Release::Part(0, 2, 0), 1_001, 1_000, 1_001),
-        (Release::All(0), 1, 0, 1),
-    ] {
-        let (at_first, then) = kept.release(rt.alloc(), which, &mut pages)?;
-        assert_eq!(rt;
-            (at_first, then.released, then.looked),
-            (held, released, looked)
-        );
-    }
-    Ok(())
+    Ok(check_held(&rt, rt.alloc(), &mut pages)?)
 }
 
 /// A request times out at its deadline, and not before.
@@ -72,26 +101,26 @@ fn take_all(rt: &impl Abort, kept: &mut Kept) -> u64 {
     count
 }
 
-/// Fills a book, half of it until an earlier time: whether that went well, and what one more request gets.
-fn fill(alloc: Global, half: u64) -> (Kept, bool, bool) {
-    let mut kept = Kept::new(alloc);
-    let is_held = hold(&mut kept, half, Awaited::Part(2, 0), 1_000)
-        && hold(&mut kept, half, Awaited::Segment(3), 2_000);
+/// Fills a book, half of it until an earlier time: whether that went well, and one more request finds it busy.
+fn fill(kept: &mut Kept) -> bool {
+    let is_held = hold(kept, HALF, Awaited::Part(2, 0), 1_000)
+        && hold(kept, HALF, Awaited::Segment(3), 2_000);
     let is_busy = matches!(kept.park(0, Awaited::Nothing, 0), Err(ParkFault::Busy));
-    (kept, is_held, is_busy)
+    is_held && is_busy && kept.book().is_busy()
+}
+
+fn check_full(rt: &impl Abort, kept: &mut Kept) {
+    assert!(rt; fill(kept));
+    let over = kept.expire(1_000);
+    let told = (over.released as u64, over.looked as u64);
+    assert!(rt; told == (HALF, HALF + 1), "{told:?}");
+    assert!(rt; take_all(rt, kept) == HALF);
+    assert!(rt; hold(kept, HALF, Awaited::Part(0, 0), 3_000) && kept.book().is_busy());
 }
 
 /// As many requests wait as may wait; those that time out make room, and are handed out in order.
 #[test]
 fn full_book_is_busy(rt: HostRuntime) {
-    let half = LIMIT / 2;
-    let (mut kept, is_held, is_busy) = fill(rt.alloc(), half);
-    assert!(rt; is_held && is_busy && kept.book().is_busy());
-    let over = kept.expire(1_000);
-    assert_eq!(rt;
-        (over.released as u64, over.looked as u64),
-        (half, half + 1)
-    );
-    assert_eq!(rt; take_all(&rt, &mut kept), half);
-    assert!(rt; hold(&mut kept, half, Awaited::Part(0, 0), 3_000) && kept.book().is_busy());
+    let mut kept = Kept::new(rt.alloc());
+    check_full(&rt, &mut kept);
 }

@@ -112,14 +112,32 @@ pub(crate) fn pages(alloc: Global, rendition: usize) -> Result<Pages, Fail> {
     let line =
         "channel cam target=4 part=1000000 skip=24 window=36 renditions=hi,lo first=0 start=0";
     let settings = Settings::read(alloc, line)?;
+    let pages = pages_of(alloc, &settings, rendition)?;
+    Ok(pages.ok_or("the rendition")?)
+}
+
+fn pages_of(
+    alloc: Global,
+    settings: &Settings,
+    rendition: usize,
+) -> Result<Option<Pages>, AllocError> {
     let mut renditions = Vec::new(alloc);
     for text in ["part hi 1000000 i", "part lo 1000000 i"] {
-        let mut window = Window::new(alloc, &settings)?;
-        window.push(Item::read(alloc, &settings, text)?)?;
-        let ranges = Ranges::new(alloc, &settings);
-        renditions.push(Rendition { window, ranges })?;
+        renditions.push(rendition_of(alloc, settings, text)?)?;
     }
-    let shown = Shown::of(alloc, &settings, &renditions, 2)?;
-    let pages = Pages::new(alloc, shown, rendition, None)?;
-    Ok(pages.ok_or("the rendition")?)
+    let shown = Shown::of(alloc, settings, &renditions, 2)?;
+    Pages::new(alloc, shown, rendition, None)
+}
+
+/// A rendition to which this part was published. No item that is refused is told apart from no memory.
+fn rendition_of(alloc: Global, settings: &Settings, text: &str) -> Result<Rendition, AllocError> {
+    let mut window = Window::new(alloc, settings)?;
+    let Ok(item) = Item::read(alloc, settings, text) else {
+        return Err(AllocError);
+    };
+    if window.push(item).is_err() {
+        return Err(AllocError);
+    }
+    let ranges = Ranges::new(alloc, settings);
+    Ok(Rendition { window, ranges })
 }

@@ -1,6 +1,6 @@
 //! A book against a plain list of who waits.
 use crate::kept::{Kept, pages};
-use ll_book::{Pages, Release};
+use ll_book::{Book, Pages, Release};
 use ll_directive::Awaited;
 use ll_verdict::Settled;
 use std::alloc::{AllocError, Global};
@@ -113,78 +113,138 @@ fn name(settled: Option<Settled>) -> &'static str {
     }
 }
 
-/// One event, in the book and in the list.
-fn step(
-    rt: &impl Abort,
-    alloc: Global,
-    numbers: &mut Numbers,
-    kept: &mut Kept,
-    rows: &mut Vec<Row>,
-    pages: &mut [Pages; 2],
-) -> Result<(), AllocError> {
-    let rendition = numbers.below(2) as usize;
-    let ticket = numbers.below(400);
-    match numbers.below(12) {
-        0..=6 => {
-            let (awaited, deadline) = (numbers.awaited(), numbers.below(1_000));
-            if let Ok(ticket) = kept.park(rendition, awaited, deadline) {
-                rows.push(Row {
+/// A book, a plain list of who waits, and the pages of the renditions.
+#[derive(Drop)]
+struct Both {
+    kept: Kept,
+    rows: Vec<Row>,
+    pages: [Pages; 2],
+}
+
+impl Both {
+    /// Holds a request.
+    fn park(
+        &mut self,
+        rendition: usize,
+        awaited: Awaited,
+        deadline: u64,
+    ) -> Result<(), AllocError> {
+        match self.kept.park(rendition, awaited, deadline) {
+            Ok(ticket) => Ok(
+                self.rows.push(Row {
                     ticket,
                     rendition,
                     awaited,
                     deadline,
                     reply: "",
-                })?;
-            }
-        }
-        7 => {
-            let which = numbers.release(rendition);
-            if let Some(pages) = pages.get_mut(rendition) {
-                let (_, then) = kept.release(alloc, which, pages)?;
-                assert_eq!(rt; then.released, release_rows(rows, which));
-            }
-        }
-        8 => {
-            let now = numbers.below(300);
-            assert_eq!(rt; kept.expire(now).released, expire_rows(rows, now));
-        }
-        9 | 10 => assert_eq!(rt; name(kept.take(ticket)), take_row(rows, ticket)),
-        _ => {
-            let before = rows.len();
-            rows.retain(|row| row.ticket != ticket);
-            let gone = before.saturating_sub(rows.len());
-            assert_eq!(rt; kept.drop_ticket(ticket).released, gone);
+                })?,
+            ),
+            Err(_) => Ok(()),
         }
     }
-    Ok(())
+
+    /// Releases requests: whether as many leave the book as the list.
+    fn release(
+        &mut self,
+        alloc: Global,
+        rendition: usize,
+        which: Release,
+    ) -> Result<bool, AllocError> {
+        let Some(pages) = self.pages.get_mut(rendition) else {
+            return Ok(false);
+        };
+        let (_, then) = self.kept.release(alloc, which, pages)?;
+        Ok(then.released == release_rows(&mut self.rows, which))
+    }
+
+    /// Gives up those whose time is over: whether as many leave the book as the list.
+    fn expire(&mut self, now: u64) -> bool {
+        self.kept.expire(now).released == expire_rows(&mut self.rows, now)
+    }
+
+    /// Takes a reply: whether it is the same.
+    fn take(&mut self, ticket: u64) -> bool {
+        name(self.kept.take(ticket)) == take_row(&mut self.rows, ticket)
+    }
+
+    /// Forgets a request: whether as many leave the book as the list.
+    fn drop_ticket(&mut self, ticket: u64) -> bool {
+        let before = self.rows.len();
+        self.rows.retain(|row| row.ticket != ticket);
+        let gone = before.saturating_sub(self.rows.len());
+        self.kept.drop_ticket(ticket).released == gone
+    }
+
+    /// One event: whether the book tells what the list tells.
+    fn step(&mut self, alloc: Global, numbers: &mut Numbers) -> Result<bool, AllocError> {
+        let rendition = numbers.below(2) as usize;
+        let ticket = numbers.below(400);
+        match numbers.below(12) {
+            0..=6 => {
+                let (awaited, deadline) = (numbers.awaited(), numbers.below(1_000));
+                self.park(rendition, awaited, deadline)?;
+                Ok(true)
+            }
+            7 => {
+                let which = numbers.release(rendition);
+                self.release(alloc, rendition, which)
+            }
+            8 => Ok(self.expire(numbers.below(300))),
+            9 | 10 => Ok(self.take(ticket)),
+            _ => Ok(self.drop_ticket(ticket)),
+        }
+    }
 }
 
-/// The book tells what the list tells.
-fn compare(rt: &impl Abort, kept: &Kept, rows: &[Row], ticket: u64) {
-    let book = kept.book();
+/// How many requests there are, how many of them wait, the first ticket that has a reply, and whether this ticket is there and whether it
+/// has a reply.
+type State = (usize, usize, Option<u64>, bool, bool);
+
+/// What a book tells.
+fn book_state(book: &Book, ticket: u64) -> State {
+    (
+        book.len(),
+        book.len().saturating_sub(book.ready()),
+        book.first_ready(),
+        book.find(ticket).is_some(),
+        book.find_ready(ticket).is_some(),
+    )
+}
+
+/// What the list tells.
+fn list_state(rows: &[Row], ticket: u64) -> State {
     let ready = rows.iter().find(|row| !row.reply.is_empty());
-    let waiting = rows.iter().filter(|row| row.reply.is_empty()).count();
     let found = rows.iter().find(|row| row.ticket == ticket);
-    let is_ready = found.is_some_and(|row| !row.reply.is_empty());
-    assert_eq!(rt; book.len(), rows.len());
-    assert_eq!(rt; book.len().saturating_sub(book.ready()), waiting);
-    assert_eq!(rt; book.first_ready(), ready.map(|row| row.ticket));
-    assert_eq!(rt; book.find(ticket).is_some(), found.is_some());
-    assert_eq!(rt; book.find_ready(ticket).is_some(), is_ready);
+    (
+        rows.len(),
+        rows.iter().filter(|row| row.reply.is_empty()).count(),
+        ready.map(|row| row.ticket),
+        found.is_some(),
+        found.is_some_and(|row| !row.reply.is_empty()),
+    )
+}
+
+fn check_events(rt: &impl Abort, alloc: Global, both: &mut Both) -> Result<(), AllocError> {
+    let mut numbers = Numbers { state: 7 };
+    for _ in 0..2_000 {
+        let is_same = both.step(alloc, &mut numbers)?;
+        let ticket = numbers.below(400);
+        let told = book_state(both.kept.book(), ticket);
+        let is_same = is_same && told == list_state(&both.rows, ticket);
+        assert!(rt; is_same, "at {ticket}: {told:?}");
+    }
+    Ok(())
 }
 
 /// After any events, the book is what the plain list is.
 #[test]
 fn books_are_plain_lists(rt: HostRuntime) -> Result<(), Fail> {
     let alloc = rt.alloc();
-    let mut numbers = Numbers { state: 7 };
-    let mut kept = Kept::new(alloc);
-    let mut rows = Vec::new(alloc);
-    let mut pages = [pages(alloc, 0)?, pages(alloc, 1)?];
-    for _ in 0..2_000 {
-        step(&rt, alloc, &mut numbers, &mut kept, &mut rows, &mut pages)?;
-        let ticket = numbers.below(400);
-        compare(&rt, &kept, &rows, ticket);
-    }
-    Ok(())
+    let pages = [pages(alloc, 0)?, pages(alloc, 1)?];
+    let mut both = Both {
+        kept: Kept::new(alloc),
+        rows: Vec::new(alloc),
+        pages,
+    };
+    Ok(check_events(&rt, alloc, &mut both)?)
 }
