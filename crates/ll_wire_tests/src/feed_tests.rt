@@ -1,8 +1,24 @@
 ghost use Rattle.std.specs.Prelude.{◌<◌};
 
-use ll_publish::{Feed, Line};
+use crate::rows::{bytes, column, number};
+use ll_item::ItemFault;
+use ll_publish::{Feed, Line, Refusal, reply_text};
+use ll_verdict::PublishFault;
 use std::alloc::{AllocError, Global};
-use std::test::Fail;
+
+pub(crate) fn add_answer(
+    alloc: Global,
+    told: &mut String,
+    question: &str,
+    input: &str,
+) -> Result<(), AllocError> {
+    match question {
+        "both ways" => add_stream(alloc, told, input),
+        "long" => add_long(alloc, told, input),
+        "pieces" => add_pieces(alloc, told, input),
+        _ => add_reply(alloc, told, input),
+    }
+}
 
 /// Hands these bytes to the feed, once more where no memory is found: a refusal changes nothing.
 fn take(feed: &mut Feed, bytes: &[u8]) -> Result<(), AllocError> {
@@ -37,103 +53,100 @@ fn note_lines(alloc: Global, feed: &mut Feed, notes: &mut String) -> Result<(), 
     Ok(())
 }
 
-/// The lines of these bytes, which come in pieces of so many.
-fn lines_of(alloc: Global, bytes: &[u8], size: usize) -> Result<String, AllocError>
+/// Notes the lines of these bytes, which come in pieces of so many.
+fn add_lines(alloc: Global, told: &mut String, bytes: &[u8], size: usize) -> Result<(), AllocError>
     requires { 0 < size }
 {
     let mut feed = Feed::new(alloc);
-    let mut notes = String::new(alloc);
     for piece in bytes.chunks(size) {
         take(&mut feed, piece)?;
-        note_lines(alloc, &mut feed, &mut notes)?;
-    }
-    Ok(notes)
-}
-
-/// The same of all bytes at once, and of one after another.
-fn both_ways(alloc: Global, bytes: &[u8]) -> Result<(String, String), AllocError> {
-    Ok((
-        lines_of(alloc, bytes, bytes.len() + 1)?,
-        lines_of(alloc, bytes, 1)?,
-    ))
-}
-
-const STREAMS: [(&[u8], &str); 10] = [
-    (
-        b"cam part hi 1000000 if\ncam end hi\n",
-        "cam 18 part hi 1000; cam 6 end hi; ",
-    ),
-    (b"cam end hi\r\n", "cam 6 end hi; "),
-    (b"cam end hi\r\r\n", "cam 7 end hi\r; "),
-    (b"cam end hi", ""),
-    (b"cam end hi\r", ""),
-    (b"cam end hi\ncam end", "cam 6 end hi; "),
-    (b"\n\r\n", "Bad; Bad; "),
-    (b"cam\ncam \n end\n", "Bad; cam 0 ;  3 end; "),
-    (b"cam \xff\n\xff cam\ncam e\n", "Bad; Bad; cam 1 e; "),
-    (b"cam a b\n", "cam 3 a b; "),
-];
-
-#[test]
-fn lines_are_told_in_any_pieces(rt: HostRuntime) -> Result<(), Fail> {
-    for (bytes, expected) in STREAMS {
-        let (whole, single) = both_ways(rt.alloc(), bytes)?;
-        let same = whole.as_str() == expected && single.as_str() == expected;
-        assert!(rt; same, "{whole}, byte by byte {single}");
+        note_lines(alloc, &mut feed, told)?;
     }
     Ok(())
 }
 
-/// A line for the channel `c` of so many bytes, and what comes after them.
-fn long_line(alloc: Global, count: usize, rest: &str) -> Result<Vec<u8>, AllocError> {
-    let mut bytes = Vec::new(alloc);
-    bytes.extend_from_slice(b"c ")?;
-    bytes.resize(count, b'x')?;
-    bytes.extend_from_slice(rest.as_bytes())?;
-    Ok(bytes)
+/// Bytes, and the lines that they are.
+pub(crate) const STREAMS: &str = "feed: both ways
+cam part hi 1000000 if␊cam end hi␊ => cam 18 part hi 1000; cam 6 end hi; 
+cam end hi\r␊ => cam 6 end hi; 
+cam end hi\r\r␊ => cam 7 end hi\r; 
+cam end hi => 
+cam end hi\r => 
+cam end hi␊cam end => cam 6 end hi; 
+␊\r␊ => Bad; Bad; 
+cam␊cam ␊ end␊ => Bad; cam 0 ;  3 end; 
+cam \u{ff}␊\u{ff} cam␊cam e␊ => Bad; Bad; cam 1 e; 
+cam a b␊ => cam 3 a b; ";
+
+fn add_stream(alloc: Global, told: &mut String, input: &str) -> Result<(), AllocError> {
+    let bytes = bytes(alloc, input)?;
+    add_both_ways(alloc, told, &bytes)
 }
 
-const LONG: [(usize, &str, &str); 12] = [
-    (4096, "\nd e\n", "c 4094 xxxxxxxxxxxx; d 1 e; "),
-    (4096, "\r\nd e\n", "c 4094 xxxxxxxxxxxx; d 1 e; "),
-    (4096, "", ""),
-    (4096, "\r", ""),
-    (4096, "\r\r", "TooLong; "),
-    (4096, "\rx", "TooLong; "),
-    (4097, "", "TooLong; "),
-    (4097, "\nd e\n", "TooLong; d 1 e; "),
-    (4097, "\r\nd e\n", "TooLong; d 1 e; "),
-    (4098, "\n\nd e\n", "TooLong; Bad; d 1 e; "),
-    (9000, " x\nd e\n", "TooLong; d 1 e; "),
-    (9000, " x\nd e", "TooLong; "),
-];
-
-#[test]
-fn a_line_that_is_too_long_is_told_once(rt: HostRuntime) -> Result<(), Fail> {
-    for (count, rest, expected) in LONG {
-        let bytes = long_line(rt.alloc(), count, rest)?;
-        let (whole, single) = both_ways(rt.alloc(), &bytes)?;
-        let same = whole.as_str() == expected && single.as_str() == expected;
-        assert!(rt; same, "{count} bytes: {whole}, byte by byte {single}");
+/// Notes the lines of all bytes at once, and those of one after another where they differ.
+fn add_both_ways(alloc: Global, told: &mut String, bytes: &[u8]) -> Result<(), AllocError> {
+    add_lines(alloc, told, bytes, 9_999)?;
+    let mut single = String::new(alloc);
+    add_lines(alloc, &mut single, bytes, 1)?;
+    if single.as_str() == told.as_str() {
+        return Ok(());
     }
-    Ok(())
+    write!(told, ", byte by byte {single}")
+}
+
+/// The length of a line for the channel `c`, what comes after it, and what is told: a line that is too long is told once.
+pub(crate) const LONG: &str = "feed: long
+4096 | ␊d e␊ => c 4094 xxxxxxxxxxxx; d 1 e; 
+4096 | \r␊d e␊ => c 4094 xxxxxxxxxxxx; d 1 e; 
+4096 |  => 
+4096 | \r => 
+4096 | \r\r => TooLong; 
+4096 | \rx => TooLong; 
+4097 |  => TooLong; 
+4097 | ␊d e␊ => TooLong; d 1 e; 
+4097 | \r␊d e␊ => TooLong; d 1 e; 
+4098 | ␊␊d e␊ => TooLong; Bad; d 1 e; 
+9000 |  x␊d e␊ => TooLong; d 1 e; 
+9000 |  x␊d e => TooLong; ";
+
+fn add_long(alloc: Global, told: &mut String, input: &str) -> Result<(), AllocError> {
+    let line = "x".repeat(alloc, number(input, 0).saturating_sub(2))?;
+    let text = format!(in alloc; "c {line}{}", column(input, 1))?;
+    add_both_ways(alloc, told, text.as_str().as_bytes())
 }
 
 /// After each piece the lines that it ends; a line that has no end yet is told by a later piece.
-#[test]
-fn each_piece_tells_what_it_ends(rt: HostRuntime) -> Result<(), Fail> {
-    let alloc = rt.alloc();
+pub(crate) const PIECES: &str = "feed: pieces
+cam part hi 10 | 00000 if␊cam |  |  end hi␊ => /cam 18 part hi 1000; //cam 6 end hi; /";
+
+fn add_pieces(alloc: Global, told: &mut String, input: &str) -> Result<(), AllocError> {
     let mut feed = Feed::new(alloc);
-    for (piece, expected) in [
-        ("cam part hi 10", ""),
-        ("00000 if\ncam", "cam 18 part hi 1000; "),
-        ("", ""),
-        (" end hi\n", "cam 6 end hi; "),
-    ] {
+    for piece in input.split(" | ") {
         take(&mut feed, piece.as_bytes())?;
-        let mut notes = String::new(alloc);
-        note_lines(alloc, &mut feed, &mut notes)?;
-        assert!(rt; notes.as_str() == expected, "after {piece}: {notes}");
+        note_lines(alloc, &mut feed, told)?;
+        told.push('/')?;
     }
     Ok(())
+}
+
+/// What an item is answered, and its line.
+pub(crate) const REPLIES: &str = "feed: reply
+1 => ok 1␊
+18446744073709551615 => ok 18446744073709551615␊
+too long a line => no 15 LineTooLong␊
+a bad line => no 13 BadLine␊
+too long a part => no 4 TooLong␊";
+
+fn reply(name: &str) -> Result<u64, Refusal> {
+    match name {
+        "too long a line" => Err(Refusal::LineTooLong),
+        "a bad line" => Err(Refusal::from(ItemFault::BadLine)),
+        "too long a part" => Err(Refusal::from(PublishFault::TooLong)),
+        _ => Ok(name.parse::<u64>().unwrap_or(999)),
+    }
+}
+
+fn add_reply(alloc: Global, told: &mut String, input: &str) -> Result<(), AllocError> {
+    let text = reply_text(alloc, &reply(input))?;
+    told.push_str(text.as_str())
 }

@@ -6,7 +6,7 @@ mod feed_tests;
 #[cfg(test)]
 mod pages;
 #[cfg(test)]
-mod reply_tests;
+mod rows;
 #[cfg(test)]
 mod session_tests;
 #[cfg(test)]

@@ -3,19 +3,32 @@ use ll_item::{Item, Settings};
 use ll_page::{Form, Page, Rendition, Shown};
 use ll_range::Ranges;
 use ll_window::Window;
-use std::alloc::Global;
-use std::test::Fail;
+use std::alloc::{AllocError, Global};
 
-/// The playlist of a channel to which one part was published. Its text has 401 bytes.
-pub(crate) fn page_of_one_part(alloc: Global) -> Result<Page, Fail> {
+/// The playlist of a channel to which one part was published, where memory is found. Its text has 426 bytes.
+pub(crate) fn page_of_one_part(alloc: Global) -> Result<Option<Page>, AllocError> {
     let line = "channel cam target=4 part=1000000 skip=24 window=36 renditions=hi first=0 start=0";
-    let settings = Settings::read(alloc, line)?;
-    let mut window = Window::new(alloc, &settings)?;
-    window.push(Item::read(alloc, &settings, "part hi 1000000 -")?)?;
-    let ranges = Ranges::new(alloc, &settings);
+    match Settings::read(alloc, line) {
+        Ok(settings) => page_of(alloc, &settings),
+        Err(_) => Ok(None),
+    }
+}
+
+fn page_of(alloc: Global, settings: &Settings) -> Result<Option<Page>, AllocError> {
     let mut renditions = Vec::new(alloc);
-    renditions.push(Rendition { window, ranges })?;
-    let shown = Shown::of(alloc, &settings, &renditions, 1)?;
-    let page = Page::make(alloc, &shown, 0, Form::Full)?.ok_or("the rendition")?;
-    Ok(page)
+    renditions.push(rendition(alloc, settings)?)?;
+    let shown = Shown::of(alloc, settings, &renditions, 1)?;
+    Page::make(alloc, &shown, 0, Form::Full)
+}
+
+fn rendition(alloc: Global, settings: &Settings) -> Result<Rendition, AllocError> {
+    let mut window = Window::new(alloc, settings)?;
+    let Ok(item) = Item::read(alloc, settings, "part hi 1000000 -") else {
+        return Err(AllocError);
+    };
+    if window.push(item).is_err() {
+        return Err(AllocError);
+    }
+    let ranges = Ranges::new(alloc, settings);
+    Ok(Rendition { window, ranges })
 }

@@ -1,10 +1,24 @@
 use crate::pages::page_of_one_part;
+use crate::rows::{column, number};
 use ll_page::Page;
 use ll_session::Session;
 use ll_verdict::Reply;
 use ll_wire::Answer;
 use std::alloc::{AllocError, Global};
-use std::test::Fail;
+
+pub(crate) fn add_answer(
+    alloc: Global,
+    told: &mut String,
+    question: &str,
+    input: &str,
+) -> Result<(), AllocError> {
+    match question {
+        "both ways" => add_both_ways(alloc, told, input),
+        "cut" => add_cuts(alloc, told, input),
+        "held" => add_held(alloc, told, input),
+        _ => add_sent(alloc, told, number(input, 0)),
+    }
+}
 
 /// Answers each want at once with NotFound, and notes its channel's name.
 fn answer_wants(session: &mut Session, notes: &mut String) -> Result<(), AllocError> {
@@ -51,147 +65,121 @@ fn note_answer(head: &[u8], notes: &mut String) -> Result<(), AllocError> {
 }
 
 /// All that comes of these two pieces.
-fn talk(alloc: Global, session: &mut Session, pieces: [&[u8]; 2]) -> Result<String, AllocError> {
-    let mut notes = String::new(alloc);
+fn talk(session: &mut Session, notes: &mut String, pieces: [&[u8]; 2]) -> Result<(), AllocError> {
     for piece in pieces {
         session.feed(piece)?;
-        answer_wants(session, &mut notes)?;
+        answer_wants(session, notes)?;
     }
-    send_all(session, &mut notes)?;
-    Ok(notes)
+    send_all(session, notes)
 }
 
 /// The same of a new session.
-fn notes_of(alloc: Global, pieces: [&[u8]; 2]) -> Result<String, AllocError> {
+fn add_talk(alloc: Global, notes: &mut String, pieces: [&[u8]; 2]) -> Result<(), AllocError> {
     let mut session = Session::new(alloc);
-    let notes = talk(alloc, &mut session, pieces);
+    let done = talk(&mut session, notes, pieces);
     session.end();
-    notes
+    done
+}
+
+fn talk_bytes(session: &mut Session, notes: &mut String, bytes: &[u8]) -> Result<(), AllocError> {
+    for piece in bytes.chunks(1) {
+        session.feed(piece)?;
+        answer_wants(session, notes)?;
+    }
+    send_all(session, notes)
 }
 
 /// What comes of these bytes one by one.
-fn notes_of_bytes(alloc: Global, bytes: &[u8]) -> Result<String, AllocError> {
+fn add_talk_of_bytes(alloc: Global, notes: &mut String, bytes: &[u8]) -> Result<(), AllocError> {
     let mut session = Session::new(alloc);
-    let notes = talk_bytes(alloc, &mut session, bytes);
+    let done = talk_bytes(&mut session, notes, bytes);
     session.end();
-    notes
+    done
 }
 
-fn talk_bytes(alloc: Global, session: &mut Session, bytes: &[u8]) -> Result<String, AllocError> {
-    let mut notes = String::new(alloc);
-    for piece in bytes.chunks(1) {
-        session.feed(piece)?;
-        answer_wants(session, &mut notes)?;
+/// Adds what comes of all bytes at once, and what comes of one after another where that differs.
+fn add_both_ways(alloc: Global, told: &mut String, input: &str) -> Result<(), AllocError> {
+    add_talk(alloc, told, [input.as_bytes(), b""])?;
+    let mut single = String::new(alloc);
+    add_talk_of_bytes(alloc, &mut single, input.as_bytes())?;
+    if single.as_str() == told.as_str() {
+        return Ok(());
     }
-    send_all(session, &mut notes)?;
-    Ok(notes)
+    write!(told, ", byte by byte {single}")
 }
 
-const TALKS: [(&str, &str); 8] = [
-    (
-        "GET /a/v/live.m3u8 HTTP/1.1\r\nHost: h\r\n\r\n",
-        "a 404+ open",
-    ),
-    (
-        "GET /a/v/live.m3u8 HTTP/1.1\nHost:\n\nGET /b/v/live.m3u8 HTTP/1.1\nHost:\n\nGET /c/v/live.m3u8 HTTP/1.1\nHost:\n\n",
-        "a b c 404+ 404+ 404+ open",
-    ),
-    (
-        "POST / HTTP/1.1\nHost:\n\nGET /a/v/live.m3u8 HTTP/1.1\nHost:\n\n",
-        "405- shut",
-    ),
-    ("GET\n", "400- shut"),
-    (
-        "GET /x HTTP/1.1\nHost:\n\nGET # HTTP/1.1\nHost:\n\nGET /a/v/live.m3u8 HTTP/1.1\nHost:\n\n",
-        "a 404+ 400+ 404+ open",
-    ),
-    (
-        "GET /x HTTP/1.0\n\nGET /a/v/live.m3u8 HTTP/1.1\nHost:\n\n",
-        "404- shut",
-    ),
-    (
-        "GET /a/v/live.m3u8 HTTP/1.0\n\nGET /b/v/live.m3u8 HTTP/1.1\nHost:\n\n",
-        "a 404- shut",
-    ),
-    (
-        "GET /a/v/live.m3u8 HTTP/1.1\nHost:\nConnection: close\n\nGET /b/v/live.m3u8 HTTP/1.1\nHost:\n\n",
-        "a 404- shut",
-    ),
-];
+/// Requests, and their answers in order.
+pub(crate) const TALKS: &str = "session: both ways
+GET /a/v/live.m3u8 HTTP/1.1\r␊Host: h\r␊\r␊ => a 404+ open
+GET /a/v/live.m3u8 HTTP/1.1␊Host:␊␊GET /b/v/live.m3u8 HTTP/1.1␊Host:␊␊GET /c/v/live.m3u8 HTTP/1.1␊Host:␊␊ => a b c 404+ 404+ 404+ open
+POST / HTTP/1.1␊Host:␊␊GET /a/v/live.m3u8 HTTP/1.1␊Host:␊␊ => 405- shut
+GET␊ => 400- shut
+GET /x HTTP/1.1␊Host:␊␊GET # HTTP/1.1␊Host:␊␊GET /a/v/live.m3u8 HTTP/1.1␊Host:␊␊ => a 404+ 400+ 404+ open
+GET /x HTTP/1.0␊␊GET /a/v/live.m3u8 HTTP/1.1␊Host:␊␊ => 404- shut
+GET /a/v/live.m3u8 HTTP/1.0␊␊GET /b/v/live.m3u8 HTTP/1.1␊Host:␊␊ => a 404- shut
+GET /a/v/live.m3u8 HTTP/1.1␊Host:␊Connection: close␊␊GET /b/v/live.m3u8 HTTP/1.1␊Host:␊␊ => a 404- shut";
 
-#[test]
-fn requests_are_answered_in_order(rt: HostRuntime) -> Result<(), Fail> {
-    for (text, expected) in TALKS {
-        let notes = notes_of(rt.alloc(), [text.as_bytes(), b""])?;
-        assert!(rt; notes.as_str() == expected, "at {text} {notes}");
-        let notes = notes_of_bytes(rt.alloc(), text.as_bytes())?;
-        assert!(rt;
-            notes.as_str() == expected,
-            "byte by byte at {text} {notes}"
-        );
+/// Requests, and their answers wherever their bytes are cut.
+pub(crate) const CUT: &str = "session: cut
+GET /x HTTP/1.1␊Host:␊␊GET # HTTP/1.1␊Host:␊␊GET /a/v/live.m3u8 HTTP/1.1␊Host:␊␊ => a 404+ 400+ 404+ open";
+
+/// Adds the answers to bytes that are not cut, and then those to bytes that are cut somewhere, where they differ.
+fn add_cuts(alloc: Global, told: &mut String, input: &str) -> Result<(), AllocError> {
+    add_talk(alloc, told, [input.as_bytes(), b""])?;
+    let whole = told.clone()?;
+    for at in 0..input.len() {
+        let (front, back) = input.as_bytes().split_at(at);
+        let mut notes = String::new(alloc);
+        add_talk(alloc, &mut notes, [front, back])?;
+        if notes.as_str() != whole.as_str() {
+            write!(told, ", cut at {at}: {notes}")?;
+        }
     }
     Ok(())
 }
 
-#[test]
-fn cuts_change_nothing(rt: HostRuntime) -> Result<(), Fail> {
-    let (text, expected) = TALKS[4];
-    for at in 0..text.len() {
-        let (front, back) = text.as_bytes().split_at(at);
-        let notes = notes_of(rt.alloc(), [front, back])?;
-        assert!(rt; notes.as_str() == expected, "at {at} {notes}");
-    }
-    Ok(())
-}
+/// A request that is held, of how many bytes two pieces are that come then, and what comes of them: few bytes may wait.
+pub(crate) const HELD: &str = "session: held
+GET /a/v/live.m3u8 HTTP/1.1␊Host:␊␊ | 16384 | 0 => a held  held 
+GET /a/v/live.m3u8 HTTP/1.1␊Host:␊␊ | 16385 | 0 => a none  none 431- 
+GET /a/v/live.m3u8 HTTP/1.1␊Host:␊␊ | 16384 | 1 => a held  none 431- 
+GET /a/v/live.m3u8 HTTP/1.0␊␊ | 16384 | 0 => a held  held 
+GET /a/v/live.m3u8 HTTP/1.0␊␊ | 1 | 16384 => a held  none 431- ";
 
-/// What comes of a request that is held, and then of so many bytes in two pieces.
-fn held(alloc: Global, head: &str, counts: [usize; 2]) -> Result<String, AllocError> {
+fn add_held(alloc: Global, notes: &mut String, input: &str) -> Result<(), AllocError> {
     let mut session = Session::new(alloc);
-    let notes = hold(alloc, &mut session, head, counts);
+    let counts = [number(input, 1), number(input, 2)];
+    let done = hold(alloc, &mut session, notes, column(input, 0), counts);
     session.end();
-    notes
+    done
 }
 
 fn hold(
     alloc: Global,
     session: &mut Session,
+    notes: &mut String,
     head: &str,
     counts: [usize; 2],
-) -> Result<String, AllocError> {
-    let mut notes = String::new(alloc);
+) -> Result<(), AllocError> {
     session.feed(head.as_bytes())?;
     if let Some(want) = session.next_want()? {
         notes.push_str(want.channel())?;
     }
     for count in counts {
-        let mut bytes = Vec::new(alloc);
-        bytes.resize(count, b'x')?;
-        session.feed(&bytes)?;
+        feed_count(alloc, session, count)?;
         notes.push_str(if session.waiting() {
             " held "
         } else {
             " none "
         })?;
     }
-    send_answers(session, &mut notes)?;
-    Ok(notes)
+    send_answers(session, notes)
 }
 
-#[test]
-fn few_bytes_may_wait(rt: HostRuntime) -> Result<(), Fail> {
-    let kept = "GET /a/v/live.m3u8 HTTP/1.1\nHost:\n\n";
-    let last = "GET /a/v/live.m3u8 HTTP/1.0\n\n";
-    for (head, counts, expected) in [
-        (kept, [16_384, 0], "a held  held "),
-        (kept, [16_385, 0], "a none  none 431- "),
-        (kept, [16_384, 1], "a held  none 431- "),
-        (last, [16_384, 0], "a held  held "),
-        (last, [1, 16_384], "a held  none 431- "),
-    ] {
-        let notes = held(rt.alloc(), head, counts)?;
-        assert!(rt; notes.as_str() == expected, "at {head} {notes}");
-    }
-    Ok(())
+/// So many bytes come.
+fn feed_count(alloc: Global, session: &mut Session, count: usize) -> Result<(), AllocError> {
+    let bytes = "x".repeat(alloc, count)?;
+    session.feed(bytes.as_str().as_bytes())
 }
 
 /// Sends all that is put out, so many bytes at a time, and gives what was sent.
@@ -210,13 +198,8 @@ fn sent_by(alloc: Global, session: &mut Session, step: usize) -> Result<Vec<u8>,
     Ok(text)
 }
 
-/// Answers one request with this playlist and the next one with NotFound. Gives what is put out, and what is sent of it.
-fn put_out_and_sent(
-    alloc: Global,
-    session: &mut Session,
-    page: &Page,
-    step: usize,
-) -> Result<(Vec<u8>, Vec<u8>), AllocError> {
+/// Answers one request with this playlist and the next one with NotFound.
+fn put_out(session: &mut Session, page: &Page) -> Result<(), AllocError> {
     session.feed(b"GET /a/v/live.m3u8 HTTP/1.1\nHost:\n\nGET /a/v/live.m3u8 HTTP/1.1\nHost:\n\n")?;
     for answer in [
         Answer::Reply(Reply::Text(page.again()?)),
@@ -227,19 +210,48 @@ fn put_out_and_sent(
             session.answered(&answer)?;
         }
     }
-    Ok((session.output()?, sent_by(alloc, session, step)?))
+    Ok(())
 }
 
-#[test]
-fn answers_are_sent_in_pieces(rt: HostRuntime) -> Result<(), Fail> {
-    let page = page_of_one_part(rt.alloc())?;
-    for step in [1, 100, 133, 134, 135, 534, 535, 999] {
-        let mut session = Session::new(rt.alloc());
-        let both = put_out_and_sent(rt.alloc(), &mut session, &page, step);
-        session.end();
-        let (put_out, sent) = both?;
-        assert_eq!(rt; put_out.len(), 535 + 129);
-        assert!(rt; put_out == sent, "at {step}");
+/// How many bytes of two answers are sent at a time, how many are put out, and whether these are what is sent.
+pub(crate) const SENT: &str = "session: sent
+1 => 689 true
+100 => 689 true
+133 => 689 true
+134 => 689 true
+135 => 689 true
+559 => 689 true
+560 => 689 true
+999 => 689 true";
+
+fn add_sent(alloc: Global, told: &mut String, step: usize) -> Result<(), AllocError> {
+    match page_of_one_part(alloc)? {
+        Some(page) => add_sent_of(alloc, told, &page, step),
+        None => told.push_str("no page"),
     }
-    Ok(())
+}
+
+fn add_sent_of(
+    alloc: Global,
+    told: &mut String,
+    page: &Page,
+    step: usize,
+) -> Result<(), AllocError> {
+    let mut session = Session::new(alloc);
+    let done = add_answers(alloc, told, &mut session, page, step);
+    session.end();
+    done
+}
+
+fn add_answers(
+    alloc: Global,
+    told: &mut String,
+    session: &mut Session,
+    page: &Page,
+    step: usize,
+) -> Result<(), AllocError> {
+    put_out(session, page)?;
+    let all = session.output()?;
+    let sent = sent_by(alloc, session, step)?;
+    write!(told, "{} {}", all.len(), all == sent)
 }

@@ -1,280 +1,186 @@
 use crate::pages::page_of_one_part;
+use crate::rows::{bytes, column, number};
 use ll_directive::TargetFault;
+use ll_page::Page;
 use ll_verdict::Reply;
-use ll_wire::{Answer, Head, HeadFault, Request, Unavailable, next_head, response};
-use std::test::Fail;
+use ll_wire::{Answer, HeadFault, Unavailable, next_head, response};
+use std::alloc::{AllocError, Global};
 
-fn whole(len: usize, from: usize, to: usize, keep: bool) -> Head {
-    Head::Whole(len, Request { from, to, keep })
-}
-
-#[test]
-fn heads_are_judged(rt: HostRuntime) -> Result<(), Fail> {
-    for (text, head) in [
-        ("GET /a HTTP/1.1\r\nHost: a\r\n\r\n", whole(28, 4, 6, true)),
-        (
-            "GET /a HTTP/1.1\r\nHost: a\r\n\r\nGET /b",
-            whole(28, 4, 6, true),
-        ),
-        (
-            "GET /a?_HLS_msn=3 HTTP/1.1\nhost:a\n\n",
-            whole(35, 4, 17, true),
-        ),
-        (
-            "\r\n\nGET /a HTTP/1.1\r\nHost: a\r\n\r\n",
-            whole(31, 7, 9, true),
-        ),
-        ("GET /a HTTP/1.0\r\n\r\n", whole(19, 4, 6, false)),
-        (
-            "GET /a HTTP/1.0\r\nHost: a\r\nHost: b\r\nConnection: keep-alive\r\n\r\n",
-            whole(61, 4, 6, false),
-        ),
-        (
-            "GET http://h/a HTTP/1.1\r\nHOST: h\r\n\r\n",
-            whole(36, 4, 14, true),
-        ),
-        (
-            "GET /a HTTP/1.1\r\nHost: a\r\nConnection: close\r\n\r\n",
-            whole(47, 4, 6, false),
-        ),
-        (
-            "GET /a HTTP/1.1\r\nHost: a\r\nConnection: Close\r\n\r\n",
-            whole(47, 4, 6, false),
-        ),
-        (
-            "GET /a HTTP/1.1\r\nHost: a\r\nConnection: CLOSE\r\n\r\n",
-            whole(47, 4, 6, false),
-        ),
-        (
-            "GET /a HTTP/1.1\r\nHost: a\r\nConnection: keep-alive\r\n\r\n",
-            whole(52, 4, 6, true),
-        ),
-        (
-            "GET /a HTTP/1.1\r\nHost: a\r\nConnection: closed\r\n\r\n",
-            whole(48, 4, 6, true),
-        ),
-        (
-            "GET /a HTTP/1.1\r\nHost: a\r\nConnection: a, close\r\n\r\n",
-            whole(50, 4, 6, false),
-        ),
-        (
-            "GET /a HTTP/1.1\r\nHost: a\r\nConnection: a,\t cLose ,b\r\n\r\n",
-            whole(54, 4, 6, false),
-        ),
-        (
-            "GET /a HTTP/1.1\r\nHost: a\r\nConnection: a,,close\r\n\r\n",
-            whole(50, 4, 6, false),
-        ),
-        (
-            "GET /a HTTP/1.1\r\nHost: a\r\nConnection: clo se\r\n\r\n",
-            whole(48, 4, 6, true),
-        ),
-        (
-            "GET /a HTTP/1.1\r\nHost: a\r\nConnection: \r\n\r\n",
-            whole(42, 4, 6, true),
-        ),
-        (
-            "GET /a HTTP/1.1\r\nHost: a\r\nConnection: keep-alive, x-close\r\n\r\n",
-            whole(61, 4, 6, true),
-        ),
-        (
-            "GET /a HTTP/1.1\r\nCONNECTION: a\r\nHost: a\r\nconnection: close\r\n\r\n",
-            whole(62, 4, 6, false),
-        ),
-        (
-            "GET /a HTTP/1.1\r\nHost: a\r\nContent-Length: 0\r\n\r\n",
-            whole(47, 4, 6, true),
-        ),
-        (
-            "GET /a HTTP/1.1\r\nHost: a\r\ncontent-length:\t0 \r\n\r\n",
-            whole(48, 4, 6, true),
-        ),
-        ("", Head::Part),
-        ("G", Head::Part),
-        ("GET ", Head::Part),
-        ("GET /a", Head::Part),
-        ("GET /a HTTP/1.1\r\nHost: a\r\n", Head::Part),
-        ("GET /a HTTP/1.1\r\nHost: a\r\n\r", Head::Part),
-        ("\r\n", Head::Part),
-        ("\r", Head::Part),
-        ("POST /a HTTP/1.1\r\n", Head::Part),
-        (" ", Head::Bad(HeadFault::BadHead)),
-        ("GET  /a", Head::Bad(HeadFault::BadHead)),
-        ("GET /a HTTP/2", Head::Bad(HeadFault::BadHead)),
-        ("GET /a\r\n", Head::Bad(HeadFault::BadHead)),
-        (
-            "GET /a HTTP/1.1\r\nHost : a\r\n",
-            Head::Bad(HeadFault::BadHead),
-        ),
-        (
-            "GET /a HTTP/1.1\r\nHost: a\r\n b\r\n",
-            Head::Bad(HeadFault::BadHead),
-        ),
-        ("\r\rGET", Head::Bad(HeadFault::BadHead)),
-        ("GET /a HTTP/1.1\r\na: \x01", Head::Bad(HeadFault::BadHead)),
-        ("GET /a HTTP/1.1\r\n\r\n", Head::Bad(HeadFault::BadHost)),
-        (
-            "GET /a HTTP/1.1\r\nHost: a\r\nHost: a\r\n\r\n",
-            Head::Bad(HeadFault::BadHost),
-        ),
-        (
-            "GET /a HTTP/1.1\r\nHost: a\r\nHOST: b\r\n\r\n",
-            Head::Bad(HeadFault::BadHost),
-        ),
-        (
-            "POST /a HTTP/1.1\r\nHost: a\r\n\r\n",
-            Head::Bad(HeadFault::BadMethod),
-        ),
-        (
-            "get /a HTTP/1.1\r\nHost: a\r\n\r\n",
-            Head::Bad(HeadFault::BadMethod),
-        ),
-        ("HEAD /a HTTP/1.0\r\n\r\n", Head::Bad(HeadFault::BadMethod)),
-        (
-            "GET /a HTTP/1.1\r\nHost: a\r\nContent-Length: 00\r\n\r\n",
-            Head::Bad(HeadFault::BadBody),
-        ),
-        (
-            "GET /a HTTP/1.1\r\nHost: a\r\nContent-Length: 1\r\n\r\n",
-            Head::Bad(HeadFault::BadBody),
-        ),
-        (
-            "GET /a HTTP/1.1\r\nHost: a\r\nContent-Length:\r\n\r\n",
-            Head::Bad(HeadFault::BadBody),
-        ),
-        (
-            "GET /a HTTP/1.1\r\nHost: a\r\nContent-Length: 0\r\nContent-Length: 5\r\n\r\n",
-            Head::Bad(HeadFault::BadBody),
-        ),
-        (
-            "GET /a HTTP/1.1\r\nHost: a\r\nTransfer-Encoding: chunked\r\n\r\n",
-            Head::Bad(HeadFault::BadBody),
-        ),
-        (
-            "GET /a HTTP/1.1\r\nHost: a\r\ntransfer-encoding:\r\n\r\n",
-            Head::Bad(HeadFault::BadBody),
-        ),
-        (
-            "GET /a HTTP/1.0\r\nContent-Length: 1\r\n\r\n",
-            Head::Bad(HeadFault::BadBody),
-        ),
-        ("POST /a HTTP/1.1\r\n\r\n", Head::Bad(HeadFault::BadHost)),
-        (
-            "POST /a HTTP/1.1\r\nContent-Length: 1\r\n\r\n",
-            Head::Bad(HeadFault::BadHost),
-        ),
-        (
-            "POST /a HTTP/1.1\r\nHost: a\r\nContent-Length: 1\r\n\r\n",
-            Head::Bad(HeadFault::BadMethod),
-        ),
-        (
-            "POST /a HTTP/1.1\r\nHost: a\r\n\x02",
-            Head::Bad(HeadFault::BadHead),
-        ),
-    ] {
-        assert!(rt; next_head(text.as_bytes()) == head, "at {text}");
-    }
-    Ok(())
-}
-
-#[test]
-fn limits_are_kept(rt: HostRuntime) -> Result<(), Fail> {
-    for (fields, end, head) in [
-        (63, "\r\n", whole(28 + 63 * 6, 4, 6, true)),
-        (64, "\r\n", Head::Bad(HeadFault::HeadTooLarge)),
-        (64, "", Head::Part),
-        (64, " ", Head::Bad(HeadFault::BadHead)),
-        (1300, "b: 1\r\n", Head::Part),
-        (1360, "b:", Head::Part),
-        (1360, "b: 1\r", Head::Part),
-        (1360, "b: 1\r\n", Head::Bad(HeadFault::HeadTooLarge)),
-        (1360, "b: 1\r\n\r\n", Head::Bad(HeadFault::HeadTooLarge)),
-        (1360, "\x00", Head::Bad(HeadFault::BadHead)),
-    ] {
-        let mut text = String::from_str(rt.alloc(), "GET /a HTTP/1.1\r\nHost: a\r\n")?;
-        for _ in 0..fields {
-            text.push_str("a: 1\r\n")?;
-        }
-        text.push_str(end)?;
-        let found = next_head(text.as_bytes());
-        assert!(rt; found == head, "at {fields} {end} {found:?}");
-    }
-    for (length, end, head) in [
-        (8186, "", Head::Part),
-        (8187, "", Head::Bad(HeadFault::HeadTooLarge)),
-        (9000, "", Head::Bad(HeadFault::HeadTooLarge)),
-        (
-            8166,
-            " HTTP/1.1\r\nHost: a\r\n\r\n",
-            Head::Bad(HeadFault::HeadTooLarge),
-        ),
-        (
-            8165,
-            " HTTP/1.1\r\nHost: a\r\n\r\n",
-            whole(8192, 4, 8170, true),
-        ),
-    ] {
-        let mut text = String::from_str(rt.alloc(), "GET /")?;
-        for _ in 0..length {
-            text.push_str("a")?;
-        }
-        text.push_str(end)?;
-        let found = next_head(text.as_bytes());
-        assert!(rt; found == head, "at {length} {found:?}");
-    }
-    Ok(())
-}
-
-#[test]
-fn targets_may_be_any_bytes_until_they_end(rt: HostRuntime) {
-    for (bytes, head) in [
-        (b"GET /\xFF".as_slice(), Head::Part),
-        (b"GET /\xFF\xFFx".as_slice(), Head::Part),
-        (
-            b"GET /\xC3\xA4 HTTP/1.1\r\nHost:\r\n\r\n".as_slice(),
-            whole(27, 4, 7, true),
-        ),
-        (b"GET /\xFF ".as_slice(), Head::Bad(HeadFault::BadHead)),
-        (b"GET /\x7F".as_slice(), Head::Bad(HeadFault::BadHead)),
-        (b"POST\xFF".as_slice(), Head::Bad(HeadFault::BadHead)),
-    ] {
-        let found = next_head(bytes);
-        assert!(rt; found == head, "at {found:?}");
+pub(crate) fn add_answer(
+    alloc: Global,
+    told: &mut String,
+    question: &str,
+    input: &str,
+) -> Result<(), AllocError> {
+    match question {
+        "head" => write!(told, "{:?}", next_head(input.as_bytes())),
+        "limit" => add_limit(alloc, told, input),
+        "bytes" => add_head_of_bytes(alloc, told, input),
+        "method" => add_method(alloc, told),
+        "playlist" => add_playlist(alloc, told),
+        _ => add_length(alloc, told, input),
     }
 }
 
-#[test]
-fn answers_are_written(rt: HostRuntime) -> Result<(), Fail> {
-    for (answer, keep, length) in [
-        (Answer::Head(HeadFault::BadHost), false, 125),
-        (Answer::Head(HeadFault::BadMethod), false, 147),
-        (Answer::Head(HeadFault::HeadTooLarge), false, 151),
-        (Answer::Target(TargetFault::NotFound), true, 129),
-        (Answer::Reply(Reply::NotFound), true, 129),
-        (Answer::Reply(Reply::Busy), false, 130),
-        (Answer::Unavailable(Unavailable::RecordFull), false, 137),
-    ] {
-        let message = response(rt.alloc(), &answer, keep)?;
-        assert_eq!(rt; message.head.len(), length);
-        assert!(rt; message.body.bytes().is_empty());
-    }
-    let message = response(rt.alloc(), &Answer::Head(HeadFault::BadMethod), true)?;
-    assert!(rt;
-        message.head.as_slice()
-            == b"HTTP/1.1 405 Method Not Allowed\r\nContent-Type: text/plain\r\nContent-Length: 10\r\nCache-Control: no-cache\r\nAllow: GET\r\nConnection: keep-alive\r\n\r\nBadMethod\n".as_slice()
-    );
-    Ok(())
+/// Bytes, and what stands at their front.
+pub(crate) const HEADS: &str = "wire: head
+GET /a HTTP/1.1\r␊Host: a\r␊\r␊ => Whole(28, Request { from: 4, to: 6, keep: true })
+GET /a HTTP/1.1\r␊Host: a\r␊\r␊GET /b => Whole(28, Request { from: 4, to: 6, keep: true })
+GET /a?_HLS_msn=3 HTTP/1.1␊host:a␊␊ => Whole(35, Request { from: 4, to: 17, keep: true })
+\r␊␊GET /a HTTP/1.1\r␊Host: a\r␊\r␊ => Whole(31, Request { from: 7, to: 9, keep: true })
+GET /a HTTP/1.0\r␊\r␊ => Whole(19, Request { from: 4, to: 6, keep: false })
+GET /a HTTP/1.0\r␊Host: a\r␊Host: b\r␊Connection: keep-alive\r␊\r␊ => Whole(61, Request { from: 4, to: 6, keep: false })
+GET http://h/a HTTP/1.1\r␊HOST: h\r␊\r␊ => Whole(36, Request { from: 4, to: 14, keep: true })
+GET /a HTTP/1.1\r␊Host: a\r␊Connection: close\r␊\r␊ => Whole(47, Request { from: 4, to: 6, keep: false })
+GET /a HTTP/1.1\r␊Host: a\r␊Connection: Close\r␊\r␊ => Whole(47, Request { from: 4, to: 6, keep: false })
+GET /a HTTP/1.1\r␊Host: a\r␊Connection: CLOSE\r␊\r␊ => Whole(47, Request { from: 4, to: 6, keep: false })
+GET /a HTTP/1.1\r␊Host: a\r␊Connection: keep-alive\r␊\r␊ => Whole(52, Request { from: 4, to: 6, keep: true })
+GET /a HTTP/1.1\r␊Host: a\r␊Connection: closed\r␊\r␊ => Whole(48, Request { from: 4, to: 6, keep: true })
+GET /a HTTP/1.1\r␊Host: a\r␊Connection: a, close\r␊\r␊ => Whole(50, Request { from: 4, to: 6, keep: false })
+GET /a HTTP/1.1\r␊Host: a\r␊Connection: a,\t cLose ,b\r␊\r␊ => Whole(54, Request { from: 4, to: 6, keep: false })
+GET /a HTTP/1.1\r␊Host: a\r␊Connection: a,,close\r␊\r␊ => Whole(50, Request { from: 4, to: 6, keep: false })
+GET /a HTTP/1.1\r␊Host: a\r␊Connection: clo se\r␊\r␊ => Whole(48, Request { from: 4, to: 6, keep: true })
+GET /a HTTP/1.1\r␊Host: a\r␊Connection: \r␊\r␊ => Whole(42, Request { from: 4, to: 6, keep: true })
+GET /a HTTP/1.1\r␊Host: a\r␊Connection: keep-alive, x-close\r␊\r␊ => Whole(61, Request { from: 4, to: 6, keep: true })
+GET /a HTTP/1.1\r␊CONNECTION: a\r␊Host: a\r␊connection: close\r␊\r␊ => Whole(62, Request { from: 4, to: 6, keep: false })
+GET /a HTTP/1.1\r␊Host: a\r␊Content-Length: 0\r␊\r␊ => Whole(47, Request { from: 4, to: 6, keep: true })
+GET /a HTTP/1.1\r␊Host: a\r␊content-length:\t0 \r␊\r␊ => Whole(48, Request { from: 4, to: 6, keep: true })
+ => Part
+G => Part
+GET  => Part
+GET /a => Part
+GET /a HTTP/1.1\r␊Host: a\r␊ => Part
+GET /a HTTP/1.1\r␊Host: a\r␊\r => Part
+\r␊ => Part
+\r => Part
+POST /a HTTP/1.1\r␊ => Part
+  => Bad(BadHead)
+GET  /a => Bad(BadHead)
+GET /a HTTP/2 => Bad(BadHead)
+GET /a\r␊ => Bad(BadHead)
+GET /a HTTP/1.1\r␊Host : a\r␊ => Bad(BadHead)
+GET /a HTTP/1.1\r␊Host: a\r␊ b\r␊ => Bad(BadHead)
+\r\rGET => Bad(BadHead)
+GET /a HTTP/1.1\r␊a: \x01 => Bad(BadHead)
+GET /a HTTP/1.1\r␊\r␊ => Bad(BadHost)
+GET /a HTTP/1.1\r␊Host: a\r␊Host: a\r␊\r␊ => Bad(BadHost)
+GET /a HTTP/1.1\r␊Host: a\r␊HOST: b\r␊\r␊ => Bad(BadHost)
+POST /a HTTP/1.1\r␊Host: a\r␊\r␊ => Bad(BadMethod)
+get /a HTTP/1.1\r␊Host: a\r␊\r␊ => Bad(BadMethod)
+HEAD /a HTTP/1.0\r␊\r␊ => Bad(BadMethod)
+GET /a HTTP/1.1\r␊Host: a\r␊Content-Length: 00\r␊\r␊ => Bad(BadBody)
+GET /a HTTP/1.1\r␊Host: a\r␊Content-Length: 1\r␊\r␊ => Bad(BadBody)
+GET /a HTTP/1.1\r␊Host: a\r␊Content-Length:\r␊\r␊ => Bad(BadBody)
+GET /a HTTP/1.1\r␊Host: a\r␊Content-Length: 0\r␊Content-Length: 5\r␊\r␊ => Bad(BadBody)
+GET /a HTTP/1.1\r␊Host: a\r␊Transfer-Encoding: chunked\r␊\r␊ => Bad(BadBody)
+GET /a HTTP/1.1\r␊Host: a\r␊transfer-encoding:\r␊\r␊ => Bad(BadBody)
+GET /a HTTP/1.0\r␊Content-Length: 1\r␊\r␊ => Bad(BadBody)
+POST /a HTTP/1.1\r␊\r␊ => Bad(BadHost)
+POST /a HTTP/1.1\r␊Content-Length: 1\r␊\r␊ => Bad(BadHost)
+POST /a HTTP/1.1\r␊Host: a\r␊Content-Length: 1\r␊\r␊ => Bad(BadMethod)
+POST /a HTTP/1.1\r␊Host: a\r␊\x02 => Bad(BadHead)";
+
+/// A front, how often what follows comes, that, and an end: what stands at the front of them all.
+pub(crate) const LIMITS: &str = "wire: limit
+GET /a HTTP/1.1\r␊Host: a\r␊ | 63 | a: 1\r␊ | \r␊ => Whole(406, Request { from: 4, to: 6, keep: true })
+GET /a HTTP/1.1\r␊Host: a\r␊ | 64 | a: 1\r␊ | \r␊ => Bad(HeadTooLarge)
+GET /a HTTP/1.1\r␊Host: a\r␊ | 64 | a: 1\r␊ |  => Part
+GET /a HTTP/1.1\r␊Host: a\r␊ | 64 | a: 1\r␊ |   => Bad(BadHead)
+GET /a HTTP/1.1\r␊Host: a\r␊ | 1300 | a: 1\r␊ | b: 1\r␊ => Part
+GET /a HTTP/1.1\r␊Host: a\r␊ | 1360 | a: 1\r␊ | b: => Part
+GET /a HTTP/1.1\r␊Host: a\r␊ | 1360 | a: 1\r␊ | b: 1\r => Part
+GET /a HTTP/1.1\r␊Host: a\r␊ | 1360 | a: 1\r␊ | b: 1\r␊ => Bad(HeadTooLarge)
+GET /a HTTP/1.1\r␊Host: a\r␊ | 1360 | a: 1\r␊ | b: 1\r␊\r␊ => Bad(HeadTooLarge)
+GET /a HTTP/1.1\r␊Host: a\r␊ | 1360 | a: 1\r␊ | \x00 => Bad(BadHead)
+GET / | 8186 | a |  => Part
+GET / | 8187 | a |  => Bad(HeadTooLarge)
+GET / | 9000 | a |  => Bad(HeadTooLarge)
+GET / | 8166 | a |  HTTP/1.1\r␊Host: a\r␊\r␊ => Bad(HeadTooLarge)
+GET / | 8165 | a |  HTTP/1.1\r␊Host: a\r␊\r␊ => Whole(8192, Request { from: 4, to: 8170, keep: true })";
+
+fn add_limit(alloc: Global, told: &mut String, input: &str) -> Result<(), AllocError> {
+    let middle = column(input, 2).repeat(alloc, number(input, 1))?;
+    let text = format!(in alloc; "{}{middle}{}", column(input, 0), column(input, 3))?;
+    write!(told, "{:?}", next_head(text.as_str().as_bytes()))
 }
 
-#[test]
-fn playlists_are_answered(rt: HostRuntime) -> Result<(), Fail> {
-    let page = page_of_one_part(rt.alloc())?;
-    assert_eq!(rt; page.text().len(), 401);
-    let again = page.again()?;
-    let message = response(rt.alloc(), &Answer::Reply(Reply::Text(page)), true)?;
-    let head =
-        b"HTTP/1.1 200 OK\r\nContent-Type: application/vnd.apple.mpegurl\r\nContent-Length: 401\r\nCache-Control: no-cache\r\nConnection: keep-alive\r\n\r\n".as_slice();
-    assert!(rt; message.head.as_slice() == head);
-    assert!(rt; message.body.bytes() == again.text().as_bytes());
-    Ok(())
+/// Targets may be any bytes until they end.
+pub(crate) const TARGETS: &str = "wire: bytes
+GET /\u{ff} => Part
+GET /\u{ff}\u{ff}x => Part
+GET /\u{c3}\u{a4} HTTP/1.1\r␊Host:\r␊\r␊ => Whole(27, Request { from: 4, to: 7, keep: true })
+GET /\u{ff}  => Bad(BadHead)
+GET /\x7F => Bad(BadHead)
+POST\u{ff} => Bad(BadHead)";
+
+fn add_head_of_bytes(alloc: Global, told: &mut String, input: &str) -> Result<(), AllocError> {
+    let bytes = bytes(alloc, input)?;
+    write!(told, "{:?}", next_head(&bytes))
+}
+
+fn answer(name: &str) -> Answer {
+    match name {
+        "BadHost" => Answer::Head(HeadFault::BadHost),
+        "BadMethod" => Answer::Head(HeadFault::BadMethod),
+        "HeadTooLarge" => Answer::Head(HeadFault::HeadTooLarge),
+        "target NotFound" => Answer::Target(TargetFault::NotFound),
+        "NotFound" => Answer::Reply(Reply::NotFound),
+        "Busy" => Answer::Reply(Reply::Busy),
+        _ => Answer::Unavailable(Unavailable::RecordFull),
+    }
+}
+
+/// An answer, and whether the connection is kept: the lengths of its head and of its body.
+pub(crate) const LENGTHS: &str = "wire: length
+BadHost | shut => 125 0
+BadMethod | shut => 147 0
+HeadTooLarge | shut => 151 0
+target NotFound | kept => 129 0
+NotFound | kept => 129 0
+Busy | shut => 130 0
+RecordFull | shut => 137 0";
+
+fn add_length(alloc: Global, told: &mut String, input: &str) -> Result<(), AllocError> {
+    let keep = column(input, 1) == "kept";
+    let message = response(alloc, &answer(column(input, 0)), keep)?;
+    write!(
+        told,
+        "{} {}",
+        message.head.len(),
+        message.body.bytes().len()
+    )
+}
+
+const METHOD: &str =
+    "HTTP/1.1 405 Method Not Allowed\r\nContent-Type: text/plain\r\nContent-Length: 10\r\nCache-Control: no-cache\r\nAllow: GET\r\nConnection: keep-alive\r\n\r\nBadMethod\n";
+
+const PLAYLIST: &str =
+    "HTTP/1.1 200 OK\r\nContent-Type: application/vnd.apple.mpegurl\r\nContent-Length: 426\r\nCache-Control: no-cache\r\nConnection: keep-alive\r\n\r\n";
+
+/// An answer after which the connection is kept: whether its head is the one above, and then how long the playlist is that it has, and
+/// whether its body is that.
+pub(crate) const WHOLE: &str = "wire: method
+BadMethod => true";
+
+fn add_method(alloc: Global, told: &mut String) -> Result<(), AllocError> {
+    let message = response(alloc, &Answer::Head(HeadFault::BadMethod), true)?;
+    write!(told, "{}", message.head.as_slice() == METHOD.as_bytes())
+}
+
+pub(crate) const PLAYLISTS: &str = "wire: playlist
+of one part => true 426 true";
+
+fn add_playlist(alloc: Global, told: &mut String) -> Result<(), AllocError> {
+    match page_of_one_part(alloc)? {
+        Some(page) => add_playlist_of(alloc, told, &page),
+        None => told.push_str("no page"),
+    }
+}
+
+fn add_playlist_of(alloc: Global, told: &mut String, page: &Page) -> Result<(), AllocError> {
+    let message = response(alloc, &Answer::Reply(Reply::Text(page.again()?)), true)?;
+    let text = page.text().as_bytes();
+    let is_head = message.head.as_slice() == PLAYLIST.as_bytes();
+    let is_body = message.body.bytes() == text;
+    write!(told, "{is_head} {} {is_body}", text.len())
 }
