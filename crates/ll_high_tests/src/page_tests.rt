@@ -7,9 +7,9 @@ use std::alloc::{AllocError, Global};
 
 /// The playlist of an ended rendition of a date range and no parts, where the target duration is 4 s and the part target 1 s.
 const ENDED: &str = "#EXTM3U\n\
-    #EXT-X-VERSION:9\n\
+    #EXT-X-VERSION:10\n\
     #EXT-X-TARGETDURATION:4\n\
-    #EXT-X-SERVER-CONTROL:CAN-BLOCK-RELOAD=YES,PART-HOLD-BACK=3.000000,CAN-SKIP-UNTIL=24.000000\n\
+    #EXT-X-SERVER-CONTROL:CAN-BLOCK-RELOAD=YES,PART-HOLD-BACK=3.000000,CAN-SKIP-UNTIL=24.000000,CAN-SKIP-DATERANGES=YES\n\
     #EXT-X-PART-INF:PART-TARGET=1.000000\n\
     #EXT-X-MEDIA-SEQUENCE:0\n\
     #EXT-X-DISCONTINUITY-SEQUENCE:0\n\
@@ -19,9 +19,9 @@ const ENDED: &str = "#EXTM3U\n\
 
 /// The playlist of a segment of one part and, after a break, an open segment of one part.
 const BROKEN: &str = "#EXTM3U\n\
-    #EXT-X-VERSION:9\n\
+    #EXT-X-VERSION:10\n\
     #EXT-X-TARGETDURATION:4\n\
-    #EXT-X-SERVER-CONTROL:CAN-BLOCK-RELOAD=YES,PART-HOLD-BACK=3.000000,CAN-SKIP-UNTIL=24.000000\n\
+    #EXT-X-SERVER-CONTROL:CAN-BLOCK-RELOAD=YES,PART-HOLD-BACK=3.000000,CAN-SKIP-UNTIL=24.000000,CAN-SKIP-DATERANGES=YES\n\
     #EXT-X-PART-INF:PART-TARGET=1.000000\n\
     #EXT-X-MEDIA-SEQUENCE:0\n\
     #EXT-X-DISCONTINUITY-SEQUENCE:0\n\
@@ -38,9 +38,9 @@ const BROKEN: &str = "#EXTM3U\n\
 
 /// The delta update of an ended rendition of eight segments of a second each, where the skip limit is 6 s.
 const SKIPPED: &str = "#EXTM3U\n\
-    #EXT-X-VERSION:9\n\
+    #EXT-X-VERSION:10\n\
     #EXT-X-TARGETDURATION:1\n\
-    #EXT-X-SERVER-CONTROL:CAN-BLOCK-RELOAD=YES,PART-HOLD-BACK=3.000000,CAN-SKIP-UNTIL=6.000000\n\
+    #EXT-X-SERVER-CONTROL:CAN-BLOCK-RELOAD=YES,PART-HOLD-BACK=3.000000,CAN-SKIP-UNTIL=6.000000,CAN-SKIP-DATERANGES=YES\n\
     #EXT-X-PART-INF:PART-TARGET=1.000000\n\
     #EXT-X-MEDIA-SEQUENCE:0\n\
     #EXT-X-DISCONTINUITY-SEQUENCE:0\n\
@@ -222,8 +222,7 @@ TWO | 0 | nothing => ENDED
 TWO | 1 | nothing => BROKEN
 TWO | 0 | YES => ENDED
 TWO | 1 | v2 => BROKEN
-ONE | 0 | YES => SKIPPED
-ONE | 0 | v2 => SKIPPED";
+ONE | 0 | YES => SKIPPED";
 
 /// Adds the playlist of a view, where this may be skipped, or what the view tells.
 fn add_view(
