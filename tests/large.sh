@@ -107,8 +107,8 @@ expect as_many_wait_as_may 0 '' replay
 # day COUNT SKIPPED: the playlist of a window of a day after so many segments of a second, of which a delta update skips so many.
 day() {
     awk -v count="$1" -v skipped="$2" 'BEGIN {
-        print "#EXTM3U\n#EXT-X-VERSION:9\n#EXT-X-TARGETDURATION:1"
-        print "#EXT-X-SERVER-CONTROL:CAN-BLOCK-RELOAD=YES,PART-HOLD-BACK=3.000000,CAN-SKIP-UNTIL=6.000000"
+        print "#EXTM3U\n#EXT-X-VERSION:10\n#EXT-X-TARGETDURATION:1"
+        print "#EXT-X-SERVER-CONTROL:CAN-BLOCK-RELOAD=YES,PART-HOLD-BACK=3.000000,CAN-SKIP-UNTIL=6.000000,CAN-SKIP-DATERANGES=YES"
         print "#EXT-X-PART-INF:PART-TARGET=1.000000"
         first = count > 86400 ? count - 86400 : 0
         printf "#EXT-X-MEDIA-SEQUENCE:%d\n#EXT-X-DISCONTINUITY-SEQUENCE:0\n", first
@@ -154,8 +154,8 @@ awk -v settings="$settings" 'BEGIN {
     print "get 1 /cam/hi/live.m3u8"
 }' >"$room/script"
 awk 'BEGIN {
-    print "#EXTM3U\n#EXT-X-VERSION:9\n#EXT-X-TARGETDURATION:4"
-    print "#EXT-X-SERVER-CONTROL:CAN-BLOCK-RELOAD=YES,PART-HOLD-BACK=3.000000,CAN-SKIP-UNTIL=24.000000"
+    print "#EXTM3U\n#EXT-X-VERSION:10\n#EXT-X-TARGETDURATION:4"
+    print "#EXT-X-SERVER-CONTROL:CAN-BLOCK-RELOAD=YES,PART-HOLD-BACK=3.000000,CAN-SKIP-UNTIL=24.000000,CAN-SKIP-DATERANGES=YES"
     print "#EXT-X-PART-INF:PART-TARGET=1.000000\n#EXT-X-MEDIA-SEQUENCE:9991\n#EXT-X-DISCONTINUITY-SEQUENCE:0\n#EXT-X-MAP:URI=\"init0.mp4\""
     for (s = 9991; s < 10000; s++) {
         time = 4 * s
