@@ -4,8 +4,8 @@ ghost use Rattle.std.specs.Str.{is_utf8};
 ghost use Rattle.ll_entry.specs.Leads.{chunk_text};
 ghost use Rattle.ll_entry.specs.ItemLines.{settings_line};
 
-use ll_item::Settings;
 use ll_entry::push_settings;
+use ll_item::Settings;
 use std::alloc::{AllocError, Global};
 use std::marker::Model;
 

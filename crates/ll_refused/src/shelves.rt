@@ -2,8 +2,8 @@
 use crate::calls::{Tried, UNTRIED, judge};
 use crate::rows::Row;
 use crate::tools::Tools;
-use ll_rooms::Shelf;
 use ll_room::Parked;
+use ll_rooms::Shelf;
 use std::sync::Wait;
 
 /// The ticket of the request that is put on a shelf: the last of three.

@@ -3,8 +3,8 @@ use crate::calls::{Tried, UNTRIED, judge};
 use crate::rows::{Answer, Made, PART, Row, SECOND, answer_of, item, want};
 use crate::shelves::empty;
 use crate::tools::{Tools, idle_room};
-use ll_rooms::Shelf;
 use ll_room::{Asked, Closed, Collected, Parked, Room};
+use ll_rooms::Shelf;
 use std::sync::Wait;
 
 /// A call with a channel that has had two parts, and three requests for the second, whose replies are there. The memory of its record is
