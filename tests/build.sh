@@ -1,6 +1,6 @@
 #!/usr/bin/env bash
 # build.sh [NAME]: proves the program, llhls or that of this name, and every library that it stands on, on all processors, and prints the program's path. Standard
-# error is told each crate that is proved, in a line. What is proved is kept for `make test`: it is proved as `rt ci` proves a repository, in a copy of these
+# error is told each crate that is proved, in a line. Where the kit keeps what it proved, `make test` takes it from there: it is proved as `rt ci` proves a repository, in a copy of these
 # crates without their must-fail edits.
 set -euo pipefail
 cd "$(dirname "${BASH_SOURCE[0]}")/.."

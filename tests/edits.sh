@@ -1,6 +1,6 @@
 #!/usr/bin/env bash
 # edits.sh [CRATE..]: tries each must-fail edit of these crates, or of all: those of `edits/CRATE`, and those of `crates/CRATE/must-fail`, which `make test` tries too.
-# They are tried as `rt ci` tries them, in a copy of the crates; what is proved and tried is kept for later runs. The last line, `N passed, M failed`, counts crates and edits.
+# They are tried as `rt ci` tries them, in a copy of the crates; where the kit keeps what was proved and tried, later runs take it from there. The last line, `N passed, M failed`, counts crates and edits.
 set -euo pipefail
 cd "$(dirname "${BASH_SOURCE[0]}")/.."
 . tests/copy.sh
