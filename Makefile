@@ -36,6 +36,7 @@ bench: kit
 	@$(HERE)bench/replay.sh
 	@$(HERE)bench/apply.sh
 	@$(HERE)bench/check.sh
+	@$(HERE)bench/growth.sh
 	@$(HERE)bench/waiting.sh
 	@$(HERE)bench/connections.sh
 	@$(HERE)bench/serve.sh

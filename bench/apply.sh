@@ -6,16 +6,12 @@
 # many runs that apply a playlist without segments to itself, which is the start of the program, each before one of the
 # others; after them stand the slower and the faster quartile. Memory is a median too, and for a byte less that of the
 # start. With few segments the start outweighs the rest, and the numbers say little. It judges nothing.
-set -eu
-here=$(cd "$(dirname "${BASH_SOURCE[0]}")" && pwd)
-program=$("$here/../tests/program.sh")
-room=$(mktemp -d)
-trap 'rm -rf "$room"' EXIT
+. "$(dirname "${BASH_SOURCE[0]}")/common.sh" || exit 2
+take_program_or_proved
 runs=${RUNS:-99}
 if [ "$#" = 0 ]; then
     set -- 100 20000
 fi
-"${CC:-cc}" -O2 -Wall -o "$room/measure" "$here/measure.c"
 mkdir "$room/none" "$room/some"
 
 # make FOLDER SEGMENTS NEW WINDOW: makes base, delta and wanted there: a playlist after so many segments, then the update and
@@ -41,49 +37,33 @@ make() {
         !/^(ok|reply) / { print >file }' "$room/answers"
 }
 
-# measure: runs none and some in turn.
-measure() {
+# apply: runs none and some in turn.
+apply() {
     local run folder
     rm -f "$room"/*/measured
     for ((run = 0; run < runs; run++)); do
         for folder in "$room/none" "$room/some"; do
-            "$room/measure" /dev/null "$folder/applied" "$program" apply "$folder/base" "$folder/delta" >>"$folder/measured"
+            runs=1 measure /dev/null "$folder/applied" apply "$folder/base" "$folder/delta" >>"$folder/measured"
         done
     done
-}
-
-# times FOLDER: prints the median and the slower and the faster quartile of the times in microseconds.
-times() {
-    sort -n "$1/measured" | awk '
-        { time[NR] = $1 }
-        END { print time[int((NR + 1) / 2)], time[NR - int(NR / 4)], time[1 + int(NR / 4)] }'
-}
-
-# peak FOLDER: prints the median of the peak memory in KiB.
-peak() {
-    sort -n -k 2 "$1/measured" | awk '{ peak[NR] = $2 } END { print peak[int((NR + 1) / 2)] }'
 }
 
 make "$room/none" 0 0 9
 first=
 for segments in "$@"; do
     make "$room/some" "$segments" 4 "$segments"
-    if ! grep -q "^#EXT-X-SKIP:SKIPPED-SEGMENTS=$((segments - 7))\$" "$room/some/delta"; then
-        echo "of $segments segments the update does not skip all but 7" >&2
-        exit 1
-    fi
-    measure
+    grep -q "^#EXT-X-SKIP:SKIPPED-SEGMENTS=$((segments - 7))\$" "$room/some/delta" || wrong "of $segments segments the update does not skip all but 7"
+    apply
     shown=$(grep -c '^#EXTINF:' "$room/some/applied" || true)
     if [ "$shown" != "$segments" ] || ! cmp "$room/some/applied" "$room/some/wanted" >&2; then
-        echo "of $segments segments $shown were shown, or others" >&2
-        exit 1
+        wrong "of $segments segments $shown were shown, or others"
     fi
     bytes=$(cat "$room/some/base" "$room/some/delta" | wc -c)
-    read -r start _ < <(times "$room/none")
-    read -r median slower faster < <(times "$room/some")
-    first=${first:-$bytes $median $start}
-    awk -v segments="$segments" -v bytes="$bytes" -v median="$median" -v slower="$slower" -v faster="$faster" \
-        -v peak="$(peak "$room/some")" -v least="$(peak "$room/none")" -v start="$start" -v first="$first" '
+    start=$(median <"$room/none/measured")
+    read -r time faster slower _ < <(spread <"$room/some/measured")
+    first=${first:-$bytes $time $start}
+    awk -v segments="$segments" -v bytes="$bytes" -v median="$time" -v slower="$slower" -v faster="$faster" \
+        -v peak="$(median 2 <"$room/some/measured")" -v least="$(median 2 <"$room/none/measured")" -v start="$start" -v first="$first" '
         # (a run that was faster than the start counts as one of a microsecond)
         function speed(bytes, time, start) { return bytes * 1e6 / (time > start ? time - start : 1) }
         BEGIN {

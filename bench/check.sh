@@ -4,16 +4,12 @@
 # as many entries that are requests for the playlist as it is, after ten segments. For each number it prints the entries and the bytes per second of
 # `llhls check`, and the ratio to the first number's; then the peak memory, and the memory that a byte of the record takes. Times are the median of
 # RUNS runs (9 where it isn't set). It judges nothing.
-set -eu
-here=$(cd "$(dirname "${BASH_SOURCE[0]}")" && pwd)
-program=$("$here/../tests/program.sh")
-room=$(mktemp -d)
-trap 'rm -rf "$room"' EXIT
+. "$(dirname "${BASH_SOURCE[0]}")/common.sh" || exit 2
+take_program_or_proved
 runs=${RUNS:-9}
 if [ "$#" = 0 ]; then
     set -- 100000 1000000
 fi
-"${CC:-cc}" -O2 -Wall -o "$room/measure" "$here/measure.c"
 
 # make ENTRIES: makes a record of at least so many entries, in chunks of 10,000 or a little more.
 make() {
@@ -61,25 +57,21 @@ make_plain() {
     }'
 }
 
-# measure MAKE ENTRIES: makes a record, checks it again and again, and prints what that takes.
+# check MAKE ENTRIES: makes a record, checks it again and again, and prints what that takes.
 first=
-measure() {
-    local made run bytes median peak
+check() {
+    local made run bytes time
     "$1" "$2" >"$room/record" 2>"$room/made"
     made=$(<"$room/made")
     rm -f "$room/measured"
     for ((run = 0; run < runs; run++)); do
-        "$room/measure" /dev/null "$room/answer" "$program" check "$room/record" >>"$room/measured"
-        if [ "$(<"$room/answer")" != "ok $made" ]; then
-            echo "of $made entries: $(<"$room/answer")" >&2
-            exit 1
-        fi
+        runs=1 measure /dev/null "$room/answer" check "$room/record" >>"$room/measured"
+        [ "$(<"$room/answer")" = "ok $made" ] || wrong "of $made entries: $(<"$room/answer")"
     done
     bytes=$(wc -c <"$room/record")
-    median=$(sort -n "$room/measured" | awk '{ time[NR] = $1 } END { print time[int((NR + 1) / 2)] }')
-    peak=$(sort -n -k 2 "$room/measured" | awk '{ peak[NR] = $2 } END { print peak[int((NR + 1) / 2)] }')
-    first=${first:-$made $median}
-    awk -v made="$made" -v bytes="$bytes" -v median="$median" -v peak="$peak" -v first="$first" '
+    time=$(median <"$room/measured")
+    first=${first:-$made $time}
+    awk -v made="$made" -v bytes="$bytes" -v median="$time" -v peak="$(median 2 <"$room/measured")" -v first="$first" '
         BEGIN {
             split(first, of)
             printf "%d entries, %d bytes: %.0f entries/s, %.0f bytes/s, ratio %.2f; ", made, bytes, made * 1e6 / median, bytes * 1e6 / median, (made / median) / (of[1] / of[2])
@@ -88,10 +80,10 @@ measure() {
 }
 
 for entries in "$@"; do
-    measure make "$entries"
+    check make "$entries"
 done
 echo 'requests for the playlist as it is:'
 first=
 for entries in "$@"; do
-    measure make_plain $((10 * entries))
+    check make_plain $((10 * entries))
 done

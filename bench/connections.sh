@@ -5,14 +5,10 @@
 # 1 byte a hundredth and a tenth): it prints the time for each head, and its ratio to that of the smaller number, which is near 1 if a head doesn't
 # cost more the more came before. Times are the median of RUNS runs (3 where it isn't set), less that of a script without requests.
 # It judges nothing.
-set -eu
-here=$(cd "$(dirname "${BASH_SOURCE[0]}")" && pwd)
-program=$("$here/../tests/program.sh")
-room=$(mktemp -d)
-trap 'rm -rf "$room"' EXIT
+. "$(dirname "${BASH_SOURCE[0]}")/common.sh" || exit 2
+take_program_or_proved
 runs=${RUNS:-3}
 requests=${1:-20000}
-"${CC:-cc}" -O2 -Wall -o "$room/measure" "$here/measure.c"
 
 opening() {
     echo 'channel cam target=60 part=1000000 skip=360 window=540 renditions=hi first=0 start=0'
@@ -47,28 +43,17 @@ heads() {
     }'
 }
 
-# median SCRIPT: the median time in microseconds.
-median() {
-    local run
-    for ((run = 0; run < runs; run++)); do
-        "$room/measure" "$1" "$room/answers" "$program" replay
-    done | sort -n | awk '{ time[NR] = $1 } END { print time[int((NR + 1) / 2)] }'
-}
-
 # taken COUNT: the time of room/script, which has so many requests, each of which gets a playlist.
 taken() {
     local with answered
-    with=$(median "$room/script")
-    answered=$(grep -cE '^(reply [0-9]+ 200 |sent )' "$room/answers" || true)
-    if [ "$answered" != "$1" ]; then
-        echo "of $1 requests $answered were answered" >&2
-        exit 1
-    fi
+    with=$(replayed "$room/script" | median)
+    answered=$(answers '^(reply [0-9]+ 200 |sent )')
+    [ "$answered" = "$1" ] || wrong "of $1 requests $answered were answered"
     echo $((with > without ? with - without : 1))
 }
 
 opening >"$room/script"
-without=$(median "$room/script")
+without=$(replayed "$room/script" | median)
 gets "$requests" >"$room/script"
 first=$(taken "$requests")
 echo "get lines: $((requests * 1000000 / first)) requests/s"

@@ -2,27 +2,20 @@
 # growth.sh: how costs grow. For each kind of work it runs a small and a large input, and prints the time per unit of both, less the
 # start of the program, and their ratio: about 1 where the cost is linear. Where a run takes less than five times what the start
 # varies by, it prints "too short to tell". Times are the median of RUNS runs (9 where it isn't set). It judges nothing.
-set -eu
-export LC_ALL=C
-here=$(cd "$(dirname "${BASH_SOURCE[0]}")" && pwd)
-program=$("$here/../tests/program.sh")
-room=$(mktemp -d)
-trap 'rm -rf "$room"' EXIT
+. "$(dirname "${BASH_SOURCE[0]}")/common.sh" || exit 2
+take_program_or_proved
 runs=${RUNS:-9}
-"${CC:-cc}" -O2 -Wall -o "$room/measure" "$here/measure.c"
 settings='target=4 part=1000000 skip=24 window=36 renditions=hi first=0 start=0'
 start_date='START-DATE="1970-01-01T00:00:00Z"'
 
-# median WORDS..: runs the program on the file `script`; prints the median of the times in microseconds, and by how much they vary.
-median() {
-    local run
-    for ((run = 0; run < runs; run++)); do
-        "$room/measure" "$room/script" "$room/answers" "$program" "$@"
-    done | sort -n | awk '{ t[NR] = $1 } END { print t[int((NR + 1) / 2)], t[NR - int(NR / 4)] - t[1 + int(NR / 4)] }'
+# times WORD..: runs the program on the file `script`; prints the median of the times in microseconds, and their smaller and their larger quartile.
+times() {
+    measure "$room/script" "$room/answers" "$@" | spread
 }
 
 : >"$room/script"
-read -r start noise < <(median replay)
+read -r start smaller larger _ < <(times replay)
+noise=$((larger - smaller))
 echo "start: $start us, which varies by $noise us"
 
 # compare NAME UNIT SMALL LARGE MAKE WORDS..: makes both inputs by MAKE COUNT and measures them.
@@ -30,9 +23,9 @@ compare() {
     local name=$1 unit=$2 small=$3 large=$4 make=$5 first second
     shift 5
     "$make" "$small"
-    read -r first _ < <(median "$@")
+    read -r first _ < <(times "$@")
     "$make" "$large"
-    read -r second _ < <(median "$@")
+    read -r second _ < <(times "$@")
     awk -v name="$name" -v unit="$unit" -v small="$small" -v large="$large" -v first="$first" -v second="$second" -v start="$start" -v noise="$noise" '
         BEGIN {
             first -= start; second -= start

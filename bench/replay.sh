@@ -5,16 +5,12 @@
 # request. Times are the median of RUNS runs (9 where it isn't set), less that of a script without parts, which is the start
 # of the program; after them stand the slowest and the fastest run. Memory is a median too, and for a part less that of the
 # script without parts. With few parts the start outweighs the rest, and the numbers say little. It judges nothing.
-set -eu
-here=$(cd "$(dirname "${BASH_SOURCE[0]}")" && pwd)
-program=$("$here/../tests/program.sh")
-room=$(mktemp -d)
-trap 'rm -rf "$room"' EXIT
+. "$(dirname "${BASH_SOURCE[0]}")/common.sh" || exit 2
+take_program_or_proved
 runs=${RUNS:-9}
 if [ "$#" = 0 ]; then
     set -- 10000 100000
 fi
-"${CC:-cc}" -O2 -Wall -o "$room/measure" "$here/measure.c"
 
 # publish PARTS: a script without a request.
 publish() {
@@ -25,33 +21,32 @@ publish() {
     }'
 }
 
-# measure SCRIPT: prints the median, the largest and the least time in microseconds, and the median of the peak memory in KiB.
-measure() {
-    local run
-    for ((run = 0; run < runs; run++)); do
-        "$room/measure" "$1" "$room/answers" "$program" replay
-    done >"$room/measured"
-    sort -n "$room/measured" | awk '{ time[NR] = $1 } END { printf "%d %d %d ", time[int((NR + 1) / 2)], time[NR], time[1] }'
-    sort -n -k 2 "$room/measured" | awk '{ peak[NR] = $2 } END { print peak[int((NR + 1) / 2)] }'
+# replay SCRIPT: sets `time`, `fastest` and `slowest` to the median, the least and the largest time in microseconds, and `peak` to the median of the peak memory in KiB.
+replay() {
+    replayed "$1" >"$room/measured"
+    read -r time _ _ fastest slowest < <(spread <"$room/measured")
+    peak=$(median 2 <"$room/measured")
 }
 
 publish 0 >"$room/script"
-read -r start _ _ least < <(measure "$room/script")
+replay "$room/script"
+start=$time
+least=$peak
 echo "start: $start us, $least KiB"
 first=
 for parts in "$@"; do
     publish "$parts" >"$room/script"
-    read -r _ _ _ kept < <(measure "$room/script")
+    replay "$room/script"
+    kept=$peak
     echo 'get 1 /cam/hi/live.m3u8' >>"$room/script"
-    read -r median slowest fastest peak < <(measure "$room/script")
-    accepted=$(grep -c '^ok ' "$room/answers" || true)
-    shown=$(grep -c '^#EXTINF:' "$room/answers" || true)
+    replay "$room/script"
+    accepted=$(answers '^ok ')
+    shown=$(answers '^#EXTINF:')
     if [ "$accepted" != "$parts" ] || [ "$shown" != $((parts / 4 < 9 ? parts / 4 : 9)) ]; then
-        echo "of $parts parts $accepted were accepted, and $shown segments were shown" >&2
-        exit 1
+        wrong "of $parts parts $accepted were accepted, and $shown segments were shown"
     fi
-    first=${first:-$parts $median}
-    awk -v parts="$parts" -v median="$median" -v slowest="$slowest" -v fastest="$fastest" -v peak="$peak" \
+    first=${first:-$parts $time}
+    awk -v parts="$parts" -v median="$time" -v slowest="$slowest" -v fastest="$fastest" -v peak="$peak" \
         -v kept="$kept" -v least="$least" -v start="$start" -v first="$first" '
         # (a run that was faster than the start counts as one of a microsecond)
         function speed(events, time) { return events * 1e6 / (time > start ? time - start : 1) }

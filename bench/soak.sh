@@ -3,34 +3,11 @@
 # present playlist, while 64 others wait for one part after another, and are connected anew in each tenth of the time. After each tenth it prints the
 # server's resident memory. The last line says whether it still grows: whether it is larger after the last tenth than at half time by more than a
 # hundredth, and 256 KB. The variables of the environment that an allocator looks at reach the server. It judges nothing.
-set -euo pipefail
-export LC_ALL=C
-here=$(cd "$(dirname "${BASH_SOURCE[0]}")" && pwd)
+. "$(dirname "${BASH_SOURCE[0]}")/common.sh" || exit 2
 length=${1:-60}
-program=$(realpath -- "${2:-$("$here/../tests/program.sh")}")
-room=$(mktemp -d)
-server=
-trap '[ -z "$server" ] || kill "$server" 2>/dev/null || true; rm -rf "$room"' EXIT
-"${CC:-cc}" -O2 -Wall -Wextra -Werror -o "$room/load" "$here/load.c"
-
-printf '%s\n' 'listen 127.0.0.1:0' 'publish 127.0.0.1:0' 'workers 256' \
-    'channel cam target=4 part=1000000 skip=24 window=36 renditions=hi first=0 start=0' >"$room/settings"
-: >"$room/log"
-"$program" serve "$room/settings" 2>>"$room/log" &
-server=$!
-port= publish_port=
-for ((tries = 0; tries < 200; tries++)); do
-    port=$(sed -n 's/^.*: players on .*:\([0-9]*\)$/\1/p' "$room/log")
-    publish_port=$(sed -n 's/^.*: publishers on .*:\([0-9]*\)$/\1/p' "$room/log")
-    if [ -n "$port" ] && [ -n "$publish_port" ]; then
-        break
-    fi
-    sleep 0.05
-done
-if [ -z "$publish_port" ]; then
-    echo "$program isn't up: $(<"$room/log")" >&2
-    exit 1
-fi
+take_program_or_proved "${2-}"
+compile "$here/load.c"
+serve "$program" 'workers 256' 'channel cam target=4 part=1000000 skip=24 window=36 renditions=hi first=0 start=0' >&2
 
 # resident: the server's resident memory in KB.
 resident() {

@@ -11,16 +11,12 @@
 # Times are the median of RUNS runs (3 where it isn't set; of 15 times as many for the cost of one request of up to 10,000, which a run's
 # own start exceeds else), less that of the script that is compared, which is one without requests where nothing else is said.
 # It judges nothing.
-set -eu
-here=$(cd "$(dirname "${BASH_SOURCE[0]}")" && pwd)
-program=$("$here/../tests/program.sh")
-room=$(mktemp -d)
-trap 'rm -rf "$room"' EXIT
+. "$(dirname "${BASH_SOURCE[0]}")/common.sh" || exit 2
+take_program_or_proved
 runs=${RUNS:-3}
 if [ "$#" = 0 ]; then
     set -- 0 1000 60000
 fi
-"${CC:-cc}" -O2 -Wall -o "$room/measure" "$here/measure.c"
 
 # script WAITING PARTS: requests that wait for segment 2, and then parts of segment 0.
 script() {
@@ -47,26 +43,21 @@ released() {
     echo "$2"
 }
 
-# median SCRIPT [TIMES]: the median time in microseconds, of so many times as many runs.
-median() {
-    local run
-    for ((run = 0; run < runs * ${2:-1}; run++)); do
-        "$room/measure" "$1" "$room/answers" "$program" replay
-    done | sort -n | awk '{ time[NR] = $1 } END { print time[int((NR + 1) / 2)] }'
+# time_of SCRIPT [TIMES]: the median time in microseconds, of so many times as many runs.
+time_of() {
+    local runs=$((runs * ${2:-1}))
+    replayed "$1" | median
 }
 
 parts=400000
 first=
 for waiting in "$@"; do
     script "$waiting" 0 >"$room/script"
-    without=$(median "$room/script")
+    without=$(time_of "$room/script")
     script "$waiting" "$parts" >"$room/script"
-    with=$(median "$room/script")
-    accepted=$(grep -c '^ok ' "$room/answers" || true)
-    if [ "$accepted" != $((parts + 1)) ]; then
-        echo "of $((parts + 1)) parts $accepted were accepted" >&2
-        exit 1
-    fi
+    with=$(time_of "$room/script")
+    accepted=$(answers '^ok ')
+    [ "$accepted" = $((parts + 1)) ] || wrong "of $((parts + 1)) parts $accepted were accepted"
     taken=$((with > without ? with - without : 1))
     first=${first:-$taken}
     awk -v waiting="$waiting" -v parts="$parts" -v taken="$taken" -v first="$first" 'BEGIN {
@@ -88,12 +79,9 @@ spent() {
     local wanted=$1 time replies
     shift
     "$@" >"$room/script"
-    time=$(median "$room/script" $(($2 > 10000 ? 1 : 15)))
-    replies=$(grep -c '^reply .* 200 ' "$room/answers" || true)
-    if [ "$replies" != "$wanted" ]; then
-        echo "$*: of $wanted requests $replies got a playlist" >&2
-        exit 1
-    fi
+    time=$(time_of "$room/script" $(($2 > 10000 ? 1 : 15)))
+    replies=$(answers '^reply .* 200 ')
+    [ "$replies" = "$wanted" ] || wrong "$*: of $wanted requests $replies got a playlist"
     echo $((time > none ? time - none : 1))
 }
 
@@ -111,7 +99,7 @@ each() {
 }
 
 asked 0 >"$room/script"
-none=$(median "$room/script" 15)
+none=$(time_of "$room/script" 15)
 part='pub cam part hi 10000 -'
 few=$(spent 0 asked 1000)
 many=$(spent 0 asked 60000)
@@ -130,14 +118,11 @@ full=$(spent 65536 released 65536 "$part")
 awk -v taken="$full" 'BEGIN { printf "filled with 65536 and emptied by one part: %.3f s\n", taken / 1e6 }'
 
 released 10000 'clock 180000' >"$room/script"
-without=$(median "$room/script" 15)
+without=$(time_of "$room/script" 15)
 released 10000 'pub cam part hi 10000 -' >"$room/script"
-with=$(median "$room/script" 15)
-replies=$(grep -c '^reply .* 200 ' "$room/answers" || true)
-if [ "$replies" != 10000 ]; then
-    echo "of 10000 requests $replies got a playlist" >&2
-    exit 1
-fi
+with=$(time_of "$room/script" 15)
+replies=$(answers '^reply .* 200 ')
+[ "$replies" = 10000 ] || wrong "of 10000 requests $replies got a playlist"
 awk -v taken=$((with > without ? with - without : 1)) 'BEGIN {
     printf "10000 released by one part: %d us more than as many time-outs, %.2f us a reply\n", taken, taken / 10000
 }'

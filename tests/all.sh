@@ -3,37 +3,17 @@
 # from the sources alone. Then each row runs on the proved program, as each compiler of the toolchain builds it; beside these, on the proved program, devices
 # that give and take a few bytes at a time, large inputs, mutated playlists, mutated records, the bytes of connections cut in every way, connections that end too early, and mutated heads; calls whose memory is refused;
 # and then, by themselves, the server with real sockets, and its records. The last line is the sum.
-set -u
-cd "$(dirname "${BASH_SOURCE[0]}")/.." || exit 2
-room=$(mktemp -d) || exit 2
-trap 'rm -rf "$room"' EXIT
-passed=0
-failed=0
+. "$(dirname "${BASH_SOURCE[0]}")/common.sh" || exit 2
+cd "$root" || exit 2
 program=crates/llhls/out/llhls
 # The build of the second compiler, where it makes one.
 by_rattle=$program.by-rattle
 
-# add STATUS LOG WORDS..: adds the numbers of the last line of a command's output, `N passed, M failed`.
-add() {
-    local status=$1 line
-    line=$(tail -n 1 "$2")
-    if [[ $line =~ ^([0-9]+)\ passed,\ ([0-9]+)\ failed$ ]]; then
-        passed=$((passed + BASH_REMATCH[1]))
-        failed=$((failed + BASH_REMATCH[2]))
-        if [ "$status" != 0 ] && [ "${BASH_REMATCH[2]}" = 0 ]; then
-            failed=$((failed + 1))
-        fi
-    else
-        echo "${*:3} ended without its count"
-        failed=$((failed + 1))
-    fi
-}
-
 # show WORDS..: runs a command, and shows what it says as it comes.
 show() {
     echo "== $*"
-    "$@" 2>&1 | tee "$room/log"
-    add "${PIPESTATUS[0]}" "$room/log" "$@"
+    "$@" 2>&1 | tee "$log"
+    add "${PIPESTATUS[0]}" "$log" "$@"
 }
 
 # start WORDS..: runs a command beside others, once a processor is free; `finish` shows what each has said, and adds its numbers.
@@ -71,5 +51,4 @@ finish
 for name in serve record; do
     show "tests/$name.sh" "$program"
 done
-echo "$passed passed, $failed failed"
-[ "$failed" = 0 ]
+told_all

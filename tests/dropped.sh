@@ -3,19 +3,8 @@
 # connection ends before the others come: they are taken by nobody, and what it had asked until then is given up. Then the connection ends after each of
 # the script's lines. Each time the program writes what the row has on other connections, to `get` lines and to publishers, and nothing on connection 1 after
 # its end. The last line, `N passed, M failed`, counts runs.
-set -u
-here=$(cd "$(dirname "${BASH_SOURCE[0]}")" && pwd) || exit 2
-program=$(realpath -- "$1")
-room=$(mktemp -d) || exit 2
-trap 'rm -rf "$room"' EXIT
-passed=0
-failed=0
-
-if [ ! -x "$program" ]; then
-    echo "$1 is no program"
-    echo "0 passed, 1 failed"
-    exit 1
-fi
+. "$(dirname "${BASH_SOURCE[0]}")/common.sh" || exit 2
+take_program "$1"
 
 # others: what a script writes but for the lines of connection 1.
 others() {
@@ -32,12 +21,7 @@ drops() {
     { cat "$room/front"; echo 'drop 1'; tail -n "+$(($2 + 1))" "$1"; } >"$room/script"
     "$program" replay <"$room/front" >"$room/written" 2>/dev/null
     "$program" replay <"$1" | tail -c "+$(($(wc -c <"$room/written") + 1))" | others >>"$room/written"
-    if timeout 60 "$program" replay <"$room/script" >"$room/stdout" 2>"$room/stderr" && cmp -s "$room/stdout" "$room/written" && [ ! -s "$room/stderr" ]; then
-        passed=$((passed + 1))
-    else
-        failed=$((failed + 1))
-        echo "FAILED $row, dropped after line $2 $3: $(head -c 200 "$room/stderr")"
-    fi
+    expect "$row, dropped after line $2 $3" "$room/written" 0 '' replay <"$room/script"
 }
 
 for row in pipelined_request_is_answered_after_the_one_that_waited pipelined_request_to_another_channel next_request_waits_again; do
@@ -52,5 +36,4 @@ for row in pipelined_request_is_answered_after_the_one_that_waited pipelined_req
         drops "$room/cut" "$first" "cut $at"
     done
 done
-echo "$passed passed, $failed failed"
-[ "$failed" = 0 ]
+told_all

@@ -1,11 +1,13 @@
 #!/usr/bin/env bash
-# Puts all rows into a folder: those of tests/rows, those of tests/connections with their bytes in one piece, the examples of `docs/FORMATS.md` and of `make run`,
+# gather_rows.sh FOLDER: makes this folder and puts all rows into it: those of tests/rows, those of tests/connections with their bytes in one piece, the examples of `docs/FORMATS.md` and of `make run`,
 # and those of long lines, which are made here.
 # A row is its script NAME, its output NAME.stdout, and NAME.args where it has words beside `replay`.
 # tests/endings says how a row ends that doesn't end with status 0.
-set -eu
-cd "$(dirname "${BASH_SOURCE[0]}")"
-to=$1
+. "$(dirname "${BASH_SOURCE[0]}")/common.sh" || exit 2
+set -e
+to=$(realpath -- "$1")
+cd "$here"
+mkdir "$to"
 cp rows/* "$to"
 for output in connections/*.stdout; do
     name=${output##*/}
@@ -19,11 +21,6 @@ cp ../examples/held.expected "$to/held_example.stdout"
 
 settings='channel cam target=4 part=1000000 skip=24 window=36 renditions=hi first=0 start=0'
 part='pub cam part hi 1000000 if'
-
-# As many bytes x.
-many() {
-    head -c "$1" /dev/zero | tr '\0' x
-}
 
 # A comment of as many bytes, without its end.
 comment() {

@@ -1,28 +1,12 @@
 #!/usr/bin/env bash
 # large.sh PROGRAM: scripts and playlists at the limits of size, since a program that gives up at some size could pass all small
 # rows. What is wanted is made here by awk from the rules. The last line is `N passed, M failed`.
-set -u
-export LC_ALL=C
-program=$(realpath -- "$1")
-room=$(mktemp -d) || exit 2
-trap 'rm -rf "$room"' EXIT
-passed=0
-failed=0
+. "$(dirname "${BASH_SOURCE[0]}")/common.sh" || exit 2
+take_program "$1"
 
-# expect NAME STATUS FAULT WORDS..: runs the program on the file `script` and compares what it writes with the file `wanted`.
-expect() {
-    local name=$1 wanted=$2 fault=$3 status
-    shift 3
-    timeout 120 "$program" "$@" <"$room/script" >"$room/stdout" 2>"$room/stderr"
-    status=$?
-    if [ "$status" = "$wanted" ] && [ "$(<"$room/stderr")" = "$fault" ] && cmp -s "$room/stdout" "$room/wanted"; then
-        passed=$((passed + 1))
-        return
-    fi
-    failed=$((failed + 1))
-    echo "FAILED $name: status $status, and $wanted is wanted; standard error (wanted is '$fault'):"
-    head -c 2000 "$room/stderr"
-    cmp "$room/stdout" "$room/wanted"
+# run NAME STATUS FAULT WORD..: runs the program on the file `script` and compares what it writes with the file `wanted`.
+run() {
+    expect "$1" "$room/wanted" "${@:2}" <"$room/script"
 }
 
 settings='channel cam target=4 part=1000000 skip=24 window=36 renditions=hi first=0 start=0'
@@ -42,11 +26,6 @@ reply() {
     cat "$2"
 }
 
-# many COUNT: as many bytes x.
-many() {
-    head -c "$1" /dev/zero | tr '\0' x
-}
-
 # A line of 65,536 bytes that adds a date range, and one byte more.
 range='ID="a",START-DATE="1970-01-01T00:00:00Z",X-A="'
 space=$((65536 - 17 - ${#range} - 1))
@@ -54,10 +33,10 @@ line="pub cam range hi $range$(many "$space")\""
 printf '%s\n%s\nget 1 /cam/hi/live.m3u8\n' "$settings" "$line" >"$room/script"
 playlist "#EXT-X-DATERANGE:$range$(many "$space")\""$'\n' >"$room/text"
 { echo 'ok 1'; reply 1 "$room/text"; } >"$room/wanted"
-expect date_range_line_of_65536_bytes 0 '' replay
+run date_range_line_of_65536_bytes 0 '' replay
 printf '%s\n%sx"\n' "$settings" "${line%\"}" >"$room/script"
 : >"$room/wanted"
-expect date_range_line_of_65537_bytes 3 'llhls: LineTooLong 2' replay
+run date_range_line_of_65537_bytes 3 'llhls: LineTooLong 2' replay
 
 # Lists of 200 and of 8,000 attributes, and of as many of which the last has the name of another.
 for count in 200 8000; do
@@ -66,11 +45,11 @@ for count in 200 8000; do
     if [ "$count" = 200 ]; then
         playlist "#EXT-X-DATERANGE:$list"$'\n' >"$room/text"
         { printf 'no 9 BadAttribute\nok 1\n'; reply 1 "$room/text"; } >"$room/wanted"
-        expect "list_of_${count}_attributes" 0 '' replay
+        run "list_of_${count}_attributes" 0 '' replay
     else
         # (the line is longer than a script's may be)
         : >"$room/wanted"
-        expect "list_of_${count}_attributes" 3 'llhls: LineTooLong 2' replay
+        run "list_of_${count}_attributes" 3 'llhls: LineTooLong 2' replay
     fi
 done
 
@@ -87,7 +66,7 @@ awk 'BEGIN {
         reply "$c" "$room/text"
     done
 } >"$room/wanted"
-expect a_hundred_channels 0 '' replay
+run a_hundred_channels 0 '' replay
 
 # As many requests wait as a channel holds: the next one is Busy. Where one is given up, one more waits. At the end a reading of the clock
 # answers them all, in order of asking.
@@ -102,7 +81,7 @@ awk -v settings="$settings" 'BEGIN {
     seq -f 'reply %.0f 503 Timeout' 2 65536
     echo 'reply 65538 503 Timeout'
 } >"$room/wanted"
-expect as_many_wait_as_may 0 '' replay
+run as_many_wait_as_may 0 '' replay
 
 # day COUNT SKIPPED: the playlist of a window of a day after so many segments of a second, of which a delta update skips so many.
 day() {
@@ -142,10 +121,10 @@ awk 'BEGIN {
     reply 2 "$room/delta"
     reply 3 "$room/full"
 } >"$room/wanted"
-expect a_day_of_segments 0 '' replay
+run a_day_of_segments 0 '' replay
 : >"$room/script"
 cp "$room/full" "$room/wanted"
-expect a_delta_update_of_a_day 0 '' apply "$room/base" "$room/delta"
+run a_delta_update_of_a_day 0 '' apply "$room/base" "$room/delta"
 
 # Ten thousand segments of four parts: the window shows the last nine, and the last three of them list their parts.
 awk -v settings="$settings" 'BEGIN {
@@ -171,13 +150,12 @@ awk 'BEGIN {
     seq -f 'ok %.0f' 1 40000
     reply 1 "$room/text"
 } >"$room/wanted"
-expect ten_thousand_segments 0 '' replay
+run ten_thousand_segments 0 '' replay
 
 # URIs of 60,000 bytes.
 uri=$(many 60000)
 day 3 0 | sed -e "s|s1.m4s|$uri|" -e "s|init0.mp4|$uri|" -e "s|s2.0.m4s|$uri|" -e "s|s3.0.m4s|$uri|" >"$room/base"
 cp "$room/base" "$room/wanted"
-expect uris_of_60000_bytes 0 '' apply "$room/base" "$room/base"
+run uris_of_60000_bytes 0 '' apply "$room/base" "$room/base"
 
-echo "$passed passed, $failed failed"
-[ "$failed" = 0 ]
+told_all

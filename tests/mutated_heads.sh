@@ -3,26 +3,13 @@
 # piece and cut in two, and lets the clock pass all time-outs. Both runs write the same; each writes whole responses alone, as many bytes as
 # it tells, none after `shut`; and another connection, fed before and after, gets its playlist. At least a tenth are answered with a
 # playlist, and a tenth are refused. The last line, `N passed, M failed`, counts heads, and a tenth that was missed.
-set -u
-export LC_ALL=C
-here=$(cd "$(dirname "${BASH_SOURCE[0]}")" && pwd) || exit 2
-program=$(realpath -- "$1")
-room=$(mktemp -d) || exit 2
-trap 'rm -rf "$room"' EXIT
-passed=0
-failed=0
+. "$(dirname "${BASH_SOURCE[0]}")/common.sh" || exit 2
+take_program "$1"
 most=1000
 served=0
 refused=0
 RANDOM=1
 
-if [ ! -x "$program" ]; then
-    echo "$1 is no program"
-    echo "0 passed, 1 failed"
-    exit 1
-fi
-
-settings='channel cam target=4 part=1000000 skip=24 window=36 renditions=hi,lo first=0 start=0'
 heads=()
 while read -r _ _ hex; do
     if [ "${#hex}" -le 400 ]; then
@@ -53,7 +40,7 @@ change() {
 
 # script HEX..: connection 2 is served before and after the bytes of connection 1.
 script() {
-    printf '%s\nbytes 2 %s\n' "$settings" "$plain"
+    printf '%s\nbytes 2 %s\n' "$cam" "$plain"
     printf 'bytes 1 %s\n' "$@"
     printf 'pub cam part hi 1000000 if\nclock 100000\nbytes 2 %s\n' "$plain"
 }
@@ -86,20 +73,17 @@ for ((number = 0; number < most; number++)); do
     fi
     if timeout 10 "$program" replay <"$room/whole" >"$room/stdout" && timeout 10 "$program" replay <"$room/cut" >"$room/again" &&
         cmp -s "$room/stdout" "$room/again" && states=$(is_right "$room/stdout"); then
-        passed=$((passed + 1))
+        pass
         case "$states " in
         *' 200 '*) served=$((served + 1)) ;;
         *' 4'*) refused=$((refused + 1)) ;;
         esac
     else
-        failed=$((failed + 1))
-        echo "FAILED head $number: $hex, cut at $((cut / 2))"
+        fail "head $number: $hex, cut at $((cut / 2))"
     fi
 done
 echo "$served served, $refused refused"
 if [ $((10 * served)) -lt "$most" ] || [ $((10 * refused)) -lt "$most" ]; then
-    echo "FAILED: less than a tenth ended one way"
-    failed=$((failed + 1))
+    fail 'less than a tenth ended one way'
 fi
-echo "$passed passed, $failed failed"
-[ "$failed" = 0 ]
+told_all

@@ -3,31 +3,21 @@
 # the delta, and puts each in its row's place. `apply` then ends with status 3, nothing written and one fault, which is of
 # the mutated playlist or NotRecent; or with status 0, no fault, and a text that, applied to itself, is itself. At least a
 # third end each way. The last line, `N passed, M failed`, counts playlists, and a third that was missed.
-set -u
-export LC_ALL=C
-here=$(cd "$(dirname "${BASH_SOURCE[0]}")" && pwd) || exit 2
-program=$(realpath -- "$1")
-room=$(mktemp -d) || exit 2
-trap 'rm -rf "$room"' EXIT
-passed=0
-failed=0
+. "$(dirname "${BASH_SOURCE[0]}")/common.sh" || exit 2
+take_program "$1"
 most=1000
 # How many ended with a text, and with a fault.
 applied=0
 refused=0
 RANDOM=1
 
-if [ ! -x "$program" ]; then
-    echo "$1 is no program"
-    echo "0 passed, 1 failed"
-    exit 1
-fi
-
 # The rows whose playlists both can be read.
 rows=()
 for row in "$here"/apply/*/; do
-    if [ ! -e "$row/ending" ] || [[ $(<"$row/ending") == *NotRecent* ]]; then
-        rows+=("${row%/}")
+    row=${row%/}
+    ending_of "apply/${row##*/}"
+    if [[ $fault != *Bad* ]]; then
+        rows+=("$row")
     fi
 done
 
@@ -59,11 +49,6 @@ change() {
         printf -v text %s "${lines[@]}"
         ;;
     esac
-}
-
-# all_of FILE: leaves in said all that it holds. No text here holds a byte 0; where one does, this fails.
-all_of() {
-    ! IFS= read -r -d '' said <"$1"
 }
 
 # Whether the run ended as it may, with the mutated playlist in place of the row's SIDE.
@@ -110,10 +95,9 @@ for ((number = 0; number < most; number++)); do
     done
     printf %s "$text" >"$room/$side"
     if is_right "$side"; then
-        passed=$((passed + 1))
+        pass
     else
-        failed=$((failed + 1))
-        echo "FAILED ${row##*/}, its $side mutated ($kind, number $number): $(head -c 2000 "$room/stderr")"
+        fail "${row##*/}, its $side mutated ($kind, number $number): $(head -c 2000 "$room/stderr")"
         # (a program that is wrong at each would fill the screen)
         if [ "$failed" -le 3 ]; then
             diff -a "$row/$side" "$room/$side"
@@ -122,8 +106,6 @@ for ((number = 0; number < most; number++)); do
 done
 echo "$applied ended with a text, $refused with a fault"
 if [ $((3 * applied)) -lt "$most" ] || [ $((3 * refused)) -lt "$most" ]; then
-    echo "FAILED: less than a third ended one way"
-    failed=$((failed + 1))
+    fail 'less than a third ended one way'
 fi
-echo "$passed passed, $failed failed"
-[ "$failed" = 0 ]
+told_all

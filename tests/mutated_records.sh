@@ -1,27 +1,15 @@
 #!/usr/bin/env bash
-# mutated_records.sh PROGRAM: changes one byte of a long record at a thousand random places. `check` then tells an entry and a name, with
+# mutated_records.sh PROGRAM: changes one byte of a long record of two chains, with chunks of either format, at a thousand random places. `check` then tells an entry and a name, with
 # status 3, and no entry before the one that the changed byte stands in; or that the record is right, where the byte tells nothing. Nothing else
 # is written. The last line, `N passed, M failed`, counts records, and one for records of which fewer than nine tenths were found wrong.
-set -u
-export LC_ALL=C
-here=$(cd "$(dirname "${BASH_SOURCE[0]}")" && pwd) || exit 2
-program=$(realpath -- "$1")
-room=$(mktemp -d) || exit 2
-trap 'rm -rf "$room"' EXIT
-passed=0
-failed=0
+. "$(dirname "${BASH_SOURCE[0]}")/common.sh" || exit 2
+take_program "$1"
 most=1000
 # How many were found wrong.
 bad=0
 RANDOM=1
 
-if [ ! -x "$program" ]; then
-    echo "$1 is no program"
-    echo "0 passed, 1 failed"
-    exit 1
-fi
-
-record=$here/check/a_long_record
+record=$here/check/two_long_chains
 entries=$(sed 's/^ok //' "$record.stdout")
 text=$(<"$record")$'\n'
 bytes=(0 1 7 9 ' ' '-' '"' ',' $'\r' $'\n' $'\xff' x P A)
@@ -50,18 +38,15 @@ for ((number = 0; number < most; number++)); do
         fi
     fi
     if [ "$right" = yes ]; then
-        passed=$((passed + 1))
+        pass
     else
-        failed=$((failed + 1))
-        echo "FAILED byte $at changed to $(printf %q "$byte"): status $status, '$said'"
+        fail "byte $at changed to $(printf %q "$byte"): status $status, '$said'"
         head -c 500 "$room/stderr"
     fi
 done
 if [ "$bad" -ge $((most * 9 / 10)) ]; then
-    passed=$((passed + 1))
+    pass
 else
-    failed=$((failed + 1))
-    echo "FAILED only $bad of $most were found wrong"
+    fail "only $bad of $most were found wrong"
 fi
-echo "$passed passed, $failed failed"
-[ "$failed" = 0 ]
+told_all

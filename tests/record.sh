@@ -1,9 +1,9 @@
 #!/usr/bin/env bash
 # record.sh PROGRAM: `llhls serve` with a line `record` in its settings, on real sockets. Two channels are published, asked and waited for at once; then
 # `llhls check` is to find their records right, and each with the items that were published. A byte of one is changed at a thousand places: `check` is to
-# find it, where the byte tells anything. Then come files that can't be opened or written. The last line is `N passed, M failed`.
-set -u
-. "$(dirname "${BASH_SOURCE[0]}")/server.sh" "$1" || exit 2
+# find it, where the byte tells anything; before that the server is started again with the same files. Then come files that can't be opened or written. The last line is `N passed, M failed`.
+. "$(dirname "${BASH_SOURCE[0]}")/server.sh" || exit 2
+take_program "$1"
 # Within so many seconds, and some to spare, the server hands out each record.
 handed_out=20
 
@@ -16,12 +16,12 @@ start() {
     for name in "$@"; do
         lines+=("${cam/ cam / $name }")
     done
-    serve 'workers 256' "record $path" "${lines[@]}"
+    serve "$program" 'workers 256' "record $path" "${lines[@]}"
 }
 
-# items FILE: the item lines of a record.
+# items FILE: the item lines of a record, in which the length of its media stands after a part.
 items() {
-    sed -n 's/^P //p' "$1"
+    sed -n -e 's/^P \(part .*\) 0$/\1/p;t' -e 's/^P //p' "$1"
 }
 
 # wait_for FILE COUNT: waits until a record has so many items.
@@ -71,6 +71,19 @@ has_all() {
     [ "$(grep -c '^G .* text ' "$record")" -ge 100 ] || { echo "too few that have waited"; return 1; }
 }
 
+# The server is started again with the same files: each has a chain more then, that begins with nothing.
+goes_on_after_a_restart() {
+    local name
+    start "$room/kept" cam two || return 1
+    for name in cam two; do
+        publish "$name $part" 'ok 1' || return 1
+    done
+    for name in cam two; do
+        wait_for "$room/kept.$name" $(($(wc -l <"$room/published.$name") + 1)) && is_right "$room/kept.$name" || return 1
+        [ "$(grep -c '^at 0$' "$room/kept.$name")" = 2 ] || { echo "$name has no second chain"; return 1; }
+    done
+}
+
 # The record of `open` isn't there and can't be made, that of `full` can't be written; that of `kept` is right. All three are served. Each fault is told
 # once, also where a later chunk would find it again.
 files_that_fail() {
@@ -99,17 +112,10 @@ no_folder() {
 try publishes_and_asks
 try has_all cam
 try has_all two
-if python3 "$here/record.py" places "$program" "$room/kept.cam" 1 1000 >"$room/said" 2>&1; then
-    head -n 1 "$room/said"
-else
-    head -c 5000 "$room/said"
-fi
-if [[ $(tail -n 1 "$room/said") =~ ^([0-9]+)\ passed,\ ([0-9]+)\ failed$ ]]; then
-    passed=$((passed + BASH_REMATCH[1]))
-    failed=$((failed + BASH_REMATCH[2]))
-else
-    failed=$((failed + 1))
-fi
+try goes_on_after_a_restart
+python3 "$here/record.py" places "$program" "$room/kept.cam" 1 1000 >"$room/said" 2>&1
+add $? "$room/said" places
+head -c 5000 "$room/said" | grep -v ' passed, '
 try files_that_fail
 try no_folder
 told_all

@@ -188,24 +188,21 @@ class Row:
     def __init__(self, runner, tests, rows, endings, name):
         self.runner, self.name, self.faults = runner, name, []
         self.cut = self.whole = self.refused = self.muted = self.tried = 0
-        ending, self.is_strict, self.text, self.is_script = "0", False, b"", False
+        self.is_strict, self.text, self.is_script = False, b"", False
         if name.startswith("apply/"):
             at = f"{tests}/{name}"
             self.words, output = ["apply", f"{at}/base", f"{at}/delta"], f"{at}/stdout"
-            if os.path.exists(f"{at}/ending"):
-                ending, self.is_strict = open(f"{at}/ending").read(), True
+            self.is_strict = name in endings
         elif name.startswith("check/"):
             self.words, output = ["check", f"{tests}/{name}"], f"{tests}/{name}.stdout"
-            if open(output).read().startswith("bad"):
-                ending = "3"
         else:
             at = f"{rows}/{name}"
             self.words, output = ["replay"], f"{at}.stdout"
             if os.path.exists(f"{at}.args"):
                 self.words += open(f"{at}.args").read().split("\n")[:-1]
             self.is_script = self.words == ["replay"]
-            self.text, ending = open(at, "rb").read(), endings.get(name, "0")
-        status, _, fault = ending.strip().partition(" ")
+            self.text = open(at, "rb").read()
+        status, _, fault = endings.get(name, "0").strip().partition(" ")
         self.status, self.stderr = int(status), fault.encode()
         self.output = open(output, "rb").read()
 

@@ -1,77 +1,45 @@
 #!/usr/bin/env bash
-# rows.sh PROGRAM: runs each row on a built program, and compares what it writes and how it ends.
-# Then come other uses of the program, and devices that fail. The last line is `N passed, M failed`.
-set -u
-here=$(cd "$(dirname "${BASH_SOURCE[0]}")" && pwd) || exit 2
-program=$(realpath -- "$1")
-room=$(mktemp -d) || exit 2
-trap 'rm -rf "$room"' EXIT
-passed=0
-failed=0
+# rows.sh PROGRAM [NAME..]: runs each row on a built program, and compares what it writes and how it ends. Then come other uses of the program, and devices that fail.
+# Where rows are named, only these run: one of tests/rows, of tests/connections or of long lines by its name, one of tests/apply by apply/NAME, one of tests/check by
+# check/NAME; a name that no row has is a failure. The last line is `N passed, M failed`.
+. "$(dirname "${BASH_SOURCE[0]}")/common.sh" || exit 2
+take_program "$1"
+"$here/gather_rows.sh" "$room/rows" || exit 2
 
-if [ ! -x "$program" ]; then
-    echo "$1 is no program"
-    echo "0 passed, 1 failed"
-    exit 1
-fi
-
-# expect NAME OUTPUT STATUS FAULT WORDS..: runs the program on standard input.
-expect() {
-    local name=$1 output=$2 wanted=$3 fault=$4 status
-    shift 4
-    timeout 60 "$program" "$@" >"$room/stdout" 2>"$room/stderr"
-    status=$?
-    printf '%s' "${fault:+$fault$'\n'}" >"$room/fault"
-    if [ "$status" = "$wanted" ] && cmp -s "$room/stdout" "$output" && cmp -s "$room/stderr" "$room/fault"; then
-        passed=$((passed + 1))
+# row NAME: a row of tests/apply is a folder: two playlists, and what comes of them; one of tests/check a record, and beside it the line that tells what the check comes to.
+row() {
+    local at=$here/$1 input=/dev/null output=$here/$1.stdout words
+    case $1 in
+    apply/*) words=(apply "$at/base" "$at/delta") output=$at/stdout ;;
+    check/*) words=(check "$at") ;;
+    *)
+        words=(replay) input=$room/rows/$1 output=$room/rows/$1.stdout
+        if [ -e "$input.args" ]; then
+            mapfile -t -O 1 words <"$input.args"
+        fi
+        ;;
+    esac
+    if [ ! -e "$output" ]; then
+        fail "$1: there is no such row"
         return
     fi
-    failed=$((failed + 1))
-    echo "FAILED $name: status $status, and $wanted is wanted; standard error (wanted is '$fault'):"
-    head -c 2000 "$room/stderr"
-    cmp "$room/stdout" "$output"
+    ending_of "$1"
+    expect "$1" "$output" "$wanted" "$fault" "${words[@]}" <"$input"
 }
 
-mkdir "$room/rows"
-"$here/gather_rows.sh" "$room/rows" || exit 2
-declare -A endings
-while read -r name ending; do
-    endings[$name]=$ending
-done < <(grep -v '^#' "$here/endings")
-
-for output in "$room"/rows/*.stdout; do
-    script=${output%.stdout}
-    name=${script##*/}
-    read -r status fault <<<"${endings[$name]-0}"
-    words=(replay)
-    if [ -e "$script.args" ]; then
-        mapfile -t -O 1 words <"$script.args"
-    fi
-    expect "$name" "$output" "$status" "$fault" "${words[@]}" <"$script"
+if [ $# -gt 1 ]; then
+    for name in "${@:2}"; do
+        row "$name"
+    done
+    told_all
+    exit
+fi
+mapfile -t names < <(cd "$room/rows" && printf '%s\n' *.stdout; cd "$here" && printf '%s\n' apply/* check/*.stdout)
+for name in "${names[@]%.stdout}"; do
+    row "$name"
 done
 
-# A row of tests/apply is a folder: two playlists, what comes of them, and how that ends where it isn't with status 0.
-for row in "$here"/apply/*/; do
-    row=${row%/}
-    ending=0
-    if [ -e "$row/ending" ]; then
-        ending=$(<"$row/ending")
-    fi
-    read -r status fault <<<"$ending"
-    expect "apply ${row##*/}" "$row/stdout" "$status" "$fault" apply "$row/base" "$row/delta" </dev/null
-done
-
-# A row of tests/check is a record, and beside it the line that tells what the check comes to.
-for output in "$here"/check/*.stdout; do
-    record=${output%.stdout}
-    status=0
-    if [[ $(<"$output") == bad* ]]; then
-        status=3
-    fi
-    expect "check ${record##*/}" "$output" "$status" '' check "$record" </dev/null
-done
-
-examples=$here/../examples
+examples=$root/examples
 expect apply_example "$examples/full.m3u8" 0 '' apply "$examples/base.m3u8" "$examples/delta.m3u8" </dev/null
 
 first=$examples/first.script
@@ -94,35 +62,27 @@ expect read_of_a_folder_as_the_base /dev/null 4 'llhls: Read' apply "$here" "$re
 expect read_of_no_delta /dev/null 4 'llhls: Read' apply "$recent/base" "$room/none" </dev/null
 expect read_of_no_delta_after_a_bad_base /dev/null 4 'llhls: Read' apply /dev/null "$room/none" </dev/null
 
+# expect_full NAME STATUS FAULT WORD..: the same, where standard output is a full device.
+expect_full() {
+    local status
+    timeout 60 "$program" "${@:4}" >/dev/full 2>"$room/stderr"
+    status=$?
+    if [ "$status" = "$2" ] && [ "$(<"$room/stderr")" = "$3" ]; then
+        pass
+    else
+        fail "$1: status $status: $(<"$room/stderr")"
+    fi
+}
+
 # What is written into a full device is lost, and a script without answers is run to its end.
-timeout 60 "$program" replay <"$first" >/dev/full 2>"$room/stderr"
-if [ "$?" = 4 ] && [ "$(cat "$room/stderr")" = 'llhls: Write' ]; then
-    passed=$((passed + 1))
-else
-    failed=$((failed + 1))
-    echo "FAILED write_to_a_full_device: $(cat "$room/stderr")"
-fi
-timeout 60 "$program" apply "$recent/base" "$recent/delta" >/dev/full 2>"$room/stderr"
-if [ "$?" = 4 ] && [ "$(cat "$room/stderr")" = 'llhls: Write' ]; then
-    passed=$((passed + 1))
-else
-    failed=$((failed + 1))
-    echo "FAILED apply_to_a_full_device: $(cat "$room/stderr")"
-fi
-if timeout 60 "$program" replay <"$here/rows/only_ends_of_lines" >/dev/full 2>"$room/stderr" && [ ! -s "$room/stderr" ]; then
-    passed=$((passed + 1))
-else
-    failed=$((failed + 1))
-    echo "FAILED nothing_to_write_to_a_full_device: $(cat "$room/stderr")"
-fi
+expect_full write_to_a_full_device 4 'llhls: Write' replay <"$first"
+expect_full apply_to_a_full_device 4 'llhls: Write' apply "$recent/base" "$recent/delta" </dev/null
+expect_full nothing_to_write_to_a_full_device 0 '' replay <"$here/rows/only_ends_of_lines"
 
 # Each answer is written as soon as it is known: the publisher reads it before it sends the next line.
 if timeout 60 "$here/answers_at_once.sh" "$program"; then
-    passed=$((passed + 1))
+    pass
 else
-    failed=$((failed + 1))
-    echo "FAILED answers_at_once"
+    fail answers_at_once
 fi
-
-echo "$passed passed, $failed failed"
-[ "$failed" = 0 ]
+told_all

@@ -1,26 +1,24 @@
 #!/usr/bin/env bash
 # The main job on real input, in a minute or two and before anything is proved: `rt try` builds the program from the sources, with checks that stop it at a fault, and
 # runs it on the first example and, beside that, as a server (tests/run_serve.sh). The last line is the sum.
-set -u
-root=$(cd "$(dirname "${BASH_SOURCE[0]}")/.." && pwd) || exit 2
-room=$(mktemp -d) || exit 2
-trap 'rm -rf "$room"' EXIT
-passed=0
+. "$(dirname "${BASH_SOURCE[0]}")/common.sh" || exit 2
 
 echo 'This run checks the program and proves nothing: `make build` proves it, and `make test` proves and tests everything.'
 # The server is built beside the program that runs the script. Its last line is its own count.
-"$root/tests/run_serve.sh" >"$room/served" 2>&1 &
-"$root/tests/try.sh" replay <"$root/examples/first.script" >"$room/written" 2>"$room/said"
+"$here/run_serve.sh" >"$room/served" 2>&1 &
+"$here/try.sh" replay <"$root/examples/first.script" >"$room/written" 2>"$room/said"
 status=$?
 cat "$room/written"
 if [ "$status" = 0 ] && cmp "$room/written" "$root/examples/first.expected"; then
-    passed=$((passed + 1))
+    pass
 else
+    failed=1
     tail -n 5 "$room/said"
 fi
 if wait $!; then
-    passed=$((passed + 1))
+    pass
+else
+    failed=$((failed + 1))
 fi
 sed '$d' "$room/served"
-echo "$passed passed, $((2 - passed)) failed"
-[ "$passed" = 2 ]
+told_all

@@ -1,19 +1,7 @@
 #!/usr/bin/env bash
 # Starts `llhls serve` on loopback as `rt try` builds it, with examples/serve.settings but on two ports that are free and with its record in a folder that is removed; publishes the part of examples/first.script, holds a request for the next part, publishes that, shows what the player got, which is to be
 # examples/held.expected, and stops the server.
-set -u
-export LC_ALL=C
-root=$(cd "$(dirname "${BASH_SOURCE[0]}")/.." && pwd) || exit 2
-room=$(mktemp -d) || exit 2
-server=
-# (rt and the program that it starts are one group)
-trap '[ -z "$server" ] || kill -- "-$server" 2>/dev/null; rm -rf "$room"' EXIT
-
-fail() {
-    echo "$*"
-    echo "0 passed, 1 failed"
-    exit 1
-}
+. "$(dirname "${BASH_SOURCE[0]}")/common.sh" || exit 2
 
 # is_open PORT: whether someone listens there.
 is_open() {
@@ -27,8 +15,10 @@ while is_open "$port" || is_open $((port + 1)); do
 done
 publish_port=$((port + 1))
 sed -e "s/^listen .*/listen 127.0.0.1:$port/" -e "s/^publish .*/publish 127.0.0.1:$publish_port/" -e "s|^record |&$room/|" "$root/examples/serve.settings" >"$room/settings"
-setsid "$root/tests/try.sh" serve "$room/settings" >"$room/log" 2>&1 &
+setsid "$root/tests/try.sh" serve "$room/settings" >"$log" 2>&1 &
 server=$!
+# (rt and the program that it starts are one group)
+servers=("-$server")
 for ((tries = 0; tries < 3000; tries++)); do
     if is_open "$port" && is_open "$publish_port"; then
         break
@@ -37,8 +27,8 @@ for ((tries = 0; tries < 3000; tries++)); do
     sleep 0.1
 done
 if ! exec {publisher}<>"/dev/tcp/127.0.0.1/$publish_port" || ! exec {player}<>"/dev/tcp/127.0.0.1/$port"; then
-    tail -n 20 "$room/log"
-    fail "it isn't up"
+    tail -n 20 "$log"
+    give_up "it isn't up"
 fi
 echo "players on 127.0.0.1:$port, publishers on 127.0.0.1:$publish_port"
 
@@ -47,7 +37,7 @@ publish() {
     local answer
     echo "publisher: $1"
     echo "$1" >&"$publisher"
-    read -r -t 10 answer <&"$publisher" || fail "the publisher has no answer"
+    read -r -t 10 answer <&"$publisher" || give_up "the publisher has no answer"
     echo "$answer"
 }
 
@@ -56,7 +46,7 @@ target=$(sed -n 's/^get 1 //p' "$root/examples/held.script")
 echo "player: GET $target"
 printf 'GET %s HTTP/1.1\r\nHost: localhost\r\nConnection: close\r\n\r\n' "$target" >&"$player"
 if read -r -t 0.5 line <&"$player"; then
-    fail "it is answered before its part: $line"
+    give_up "it is answered before its part: $line"
 fi
 echo "(it waits)"
 publish "$(sed -n 's/^pub //p' "$root/examples/held.script" | tail -n 1)"
@@ -64,7 +54,8 @@ timeout 10 cat <&"$player" | tr -d '\r' | tee "$room/answer"
 
 # (what follows the answers to the script's lines is the playlist)
 if ! sed '1,/^$/d' "$room/answer" | cmp - <(sed '1,/^reply /d' "$root/examples/held.expected"); then
-    fail "it isn't the playlist of examples/held.expected"
+    give_up "it isn't the playlist of examples/held.expected"
 fi
-kill -0 "$server" || fail "the server has ended"
-echo "1 passed, 0 failed"
+kill -0 "$server" || give_up "the server has ended"
+pass
+told_all

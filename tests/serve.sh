@@ -2,10 +2,10 @@
 # serve.sh PROGRAM: `llhls serve` with real sockets on loopback. The same events go to it and, as a script, to `llhls replay`: tests/follow.c demands
 # the same bytes on each connection. Then come crowds, peers that are slow, silent, cut off or gone, ports and files that can't be had, and each fault
 # of a settings file. With SLOW=1 also what takes the 30 seconds of a silent peer. The last line is `N passed, M failed`.
-set -u
-. "$(dirname "${BASH_SOURCE[0]}")/server.sh" "$1" || exit 2
+. "$(dirname "${BASH_SOURCE[0]}")/server.sh" || exit 2
+take_program "$1"
 peers=()
-"${CC:-cc}" -O2 -Wall -Wextra -Werror -o "$room/follow" "$here/follow.c" || exit 2
+compile "$here/follow.c"
 
 present='/cam/hi/live.m3u8'
 next='/cam/hi/live.m3u8?_HLS_msn=0&_HLS_part=0'
@@ -14,7 +14,7 @@ part='cam part hi 1000000 -'
 # start WORKERS CHANNEL..: starts the server with these channel lines.
 start() {
     hang_up
-    serve "workers $1" "${@:2}"
+    serve "$program" "workers $1" "${@:2}"
 }
 
 # connect PORT: opens a connection, `peer`, that `hang_up` closes.
@@ -238,7 +238,7 @@ stops_while_requests_are_held() {
         if ! kill -0 "$server" 2>/dev/null; then
             wait "$server"
             number=$?
-            server=
+            servers=()
             [ "$number" = 143 ] && return 0
             echo "status $number"
             return 1

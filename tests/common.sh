@@ -1,0 +1,161 @@
+# What the scripts of tests/ and bench/ share; each sources it first of all. It sets `here` to the folder of that script, and `root` to the repository's. `room` is a folder that goes
+# away when the script ends, and the servers that it started go with it. Texts and numbers are those of the C locale.
+set -u
+export LC_ALL=C
+here=$(cd "$(dirname "${BASH_SOURCE[-1]}")" && pwd) || exit 2
+root=$(cd "$(dirname "${BASH_SOURCE[0]}")/.." && pwd) || exit 2
+room=$(mktemp -d) || exit 2
+trap 'stop; rm -rf "$room"' EXIT
+
+# ---- counts
+
+passed=0
+failed=0
+
+pass() {
+    passed=$((passed + 1))
+}
+
+# fail MESSAGE..: a test has failed.
+fail() {
+    failed=$((failed + 1))
+    echo "FAILED $*"
+}
+
+# add STATUS FILE WORD..: adds the numbers of the last line of what a command of these words wrote, `N passed, M failed`. It ended with this status.
+add() {
+    if [[ $(tail -n 1 "$2") =~ ^([0-9]+)\ passed,\ ([0-9]+)\ failed$ ]]; then
+        passed=$((passed + BASH_REMATCH[1]))
+        failed=$((failed + BASH_REMATCH[2]))
+        if [ "$1" != 0 ] && [ "${BASH_REMATCH[2]}" = 0 ]; then
+            fail "${*:3}: it ended with status $1"
+        fi
+    else
+        fail "${*:3}: it ended without its count"
+    fi
+}
+
+# told_all: the last line of a script, and its status.
+told_all() {
+    echo "$passed passed, $failed failed"
+    [ "$failed" = 0 ]
+}
+
+# give_up MESSAGE..: ends the script, with one failure.
+give_up() {
+    echo "$*"
+    passed=0 failed=1
+    told_all
+    exit 1
+}
+
+# ---- the program
+
+# take_program PATH: sets `program`.
+take_program() {
+    program=$(realpath -- "$1")
+    [ -f "$program" ] && [ -x "$program" ] || give_up "$1 is no program"
+}
+
+# all_of FILE: leaves in `said` all that it holds. No text here holds a byte 0; where one does, this fails.
+all_of() {
+    ! IFS= read -r -d '' said <"$1"
+}
+
+# expect NAME OUTPUT STATUS FAULT WORD..: runs the program on standard input. It is to write what the file OUTPUT holds, and the line FAULT to standard error where that
+# isn't empty, and to end with this status.
+expect() {
+    local name=$1 output=$2 wanted=$3 fault=$4 status
+    shift 4
+    timeout 120 "$program" "$@" >"$room/stdout" 2>"$room/stderr"
+    status=$?
+    if [ "$status" = "$wanted" ] && cmp -s "$room/stdout" "$output" && all_of "$room/stderr" && [ "$said" = "${fault:+$fault$'\n'}" ]; then
+        pass
+    else
+        fail "$name: status $status, and $wanted is wanted; standard error (wanted is '$fault'):"
+        head -c 2000 "$room/stderr"
+        cmp "$room/stdout" "$output"
+    fi
+}
+
+# ending_of NAME: sets `wanted` to the status that a row ends with, and `fault` to what it writes to standard error.
+declare -A endings=()
+ending_of() {
+    local name ending
+    if [ "${#endings[@]}" = 0 ]; then
+        while read -r name ending; do
+            endings[$name]=$ending
+        done < <(grep -v '^#' "$root/tests/endings")
+    fi
+    read -r wanted fault <<<"${endings[$1]-0}"
+}
+
+# compile FILE [FLAG..]: compiles NAME.c to room/NAME.
+compile() {
+    local name=${1##*/}
+    "${CC:-cc}" -O2 -Wall -Wextra -Werror "${@:2}" -o "$room/${name%.c}" "$1" || exit 2
+}
+
+# ---- servers
+
+# Those that run.
+servers=()
+log=$room/log
+
+# serve PROGRAM LINE..: starts a server on ports of the system's choice, with these lines of settings after them, and waits until it has told both, `port` for players and
+# `publish_port` for publishers. FILES limits its open files.
+serve() {
+    local tries
+    printf '%s\n' 'listen 127.0.0.1:0' 'publish 127.0.0.1:0' "${@:2}" >"$room/settings"
+    : >"$log"
+    (
+        if [ -n "${FILES-}" ]; then
+            ulimit -n "$FILES"
+        fi
+        exec "$1" serve "$room/settings"
+    ) >"$room/stdout" 2>>"$log" &
+    server=$!
+    servers+=("$server")
+    for ((tries = 0; tries < 200; tries++)); do
+        port=$(sed -n 's/^.*: players on 127\.0\.0\.1:\([0-9]*\)$/\1/p' "$log")
+        publish_port=$(sed -n 's/^.*: publishers on 127\.0\.0\.1:\([0-9]*\)$/\1/p' "$log")
+        if [ -n "$port" ] && [ -n "$publish_port" ]; then
+            return 0
+        fi
+        kill -0 "$server" 2>/dev/null || break
+        sleep 0.05
+    done
+    echo "$1 isn't up: $(head -c 1000 "$log")"
+    return 1
+}
+
+# stop: stops all servers.
+stop() {
+    local each
+    for each in "${servers[@]}"; do
+        { kill -- "$each" && wait "$each"; } 2>/dev/null || true
+    done
+    servers=()
+}
+
+# ---- numbers and texts
+
+# spread [COLUMN]: of the numbers in a column of standard input, the first where none is named: the median, the smaller and the larger quartile, the least and the largest.
+spread() {
+    sort -g -k "${1-1},${1-1}" | awk -v column="${1-1}" '
+        { at[NR] = $column }
+        END { print at[int((NR + 1) / 2)], at[1 + int(NR / 4)], at[NR - int(NR / 4)], at[1], at[NR] }'
+}
+
+# median [COLUMN]
+median() {
+    spread "$@" | cut -d ' ' -f 1
+}
+
+# many COUNT: as many bytes x.
+many() {
+    head -c "$1" /dev/zero | tr '\0' x
+}
+
+# The channel of most tests.
+cam='channel cam target=4 part=1000000 skip=24 window=36 renditions=hi,lo first=0 start=0'
