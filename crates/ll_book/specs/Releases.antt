@@ -6,7 +6,7 @@ use Rattle.ll_item.specs.declared.item.Item.TheVariants as item
 use Rattle.ll_window.specs.Compact.{Compact}
 use Rattle.ll_verdict.specs.declared.entry.Slot.{Slot}
 use Rattle.ll_book.specs.Pages.{PagesOf}
-use Rattle.ll_book.specs.Release.{AreThose, Held, holders_of, released, takes}
+use Rattle.ll_book.specs.Release.{AreThose, HoldersValue, holders_of, released, takes}
 use Rattle.ll_book.specs.declared.release.Release.{Release}
 use Rattle.ll_book.specs.declared.release.Release.TheVariants.{Part, Segment, All}
 
@@ -36,19 +36,19 @@ takes_any None slots = false
 takes_any (Some which) slots = list_any (takes which) slots
 
 -- the holders of a release, where there is one
-abbrev pub HasHolders : PagesOf → Option Release → List Slot → Option Held → Type 0
+abbrev pub HasHolders : PagesOf → Option Release → List Slot → Option HoldersValue → Type 0
 HasHolders pages None slots found = found ≡ None
 HasHolders pages (Some which) slots None = ⊥
 HasHolders pages (Some which) slots (Some held) = held.holders ≡ holders_of pages which slots
 
 -- the holders are those of just the requests that a release takes
-abbrev pub HasThose : Option Release → Option Held → List Slot → Type 0
+abbrev pub HasThose : Option Release → Option HoldersValue → List Slot → Type 0
 HasThose None found slots = Unit
 HasThose (Some which) None slots = ⊥
 HasThose (Some which) (Some held) slots = AreThose which held.holders slots
 
 -- the open requests after a release with these holders
-abbrev pub released_with : Option Release → Option Held → List Slot → List Slot
+abbrev pub released_with : Option Release → Option HoldersValue → List Slot → List Slot
 released_with None found slots = slots
 released_with (Some which) None slots = slots
 released_with (Some which) (Some held) slots = released which held.holders slots

@@ -5,7 +5,7 @@ ghost use Rattle.ll_verdict.specs.Waiting.{AreBelow};
 use ll_book::{Book, Pages, ParkFault, Release, Released, release_law};
 use ll_directive::Awaited;
 use ll_item::{Item, Settings};
-use ll_page::{Form, Rendition, Shown};
+use ll_page::{Rendition, Shown};
 use ll_range::Ranges;
 use ll_verdict::{Entry, Settled, Wanted};
 use ll_window::Window;
@@ -62,7 +62,7 @@ impl Kept {
             wanted: Wanted {
                 rendition,
                 awaited,
-                form: Form::Full,
+                form: None,
             },
             seen: 0,
             deadline,

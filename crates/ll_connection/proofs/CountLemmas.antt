@@ -5,7 +5,7 @@ use Rattle.ll_rooms.specs.Waits.{is_of, is_under, under, wait_of, without}
 use Rattle.ll_rooms.specs.declared.owner.Owner.{Owner}
 use Rattle.ll_rooms.specs.declared.owner.Owner.TheVariants.{Connection}
 use Rattle.ll_rooms.specs.declared.wait.Wait.{Wait}
-use Rattle.ll_room.specs.Home.{AreDistinct, among}
+use Rattle.ll_room.specs.RoomValue.{AreDistinct, among}
 use Rattle.ll_rooms.specs.Kept.{is_in, ticket_of, tickets_at}
 use Rattle.ll_rooms.proofs.TieLemmas.{equal, none_some, same_test, some_is}
 use Rattle.ll_connection.specs.Met.{waiting_of}

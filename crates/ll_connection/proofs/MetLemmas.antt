@@ -1,8 +1,8 @@
 -- Of each connection as many requests wait as its session has wants out, whatever comes to it.
 use Rattle.std.proofs.Common.{◌≡◌, ◌≢◌, ℕ, zero, suc, ◌+◌, ◌≤◌, ◌==◌, List, [], ◌∷◌, Bool, true, false, Option, Some, None, is_some, length, map, if◌then◌else◌, refl, ap, ◌∙◌, sym, subst, true≢false, slice_get, arith}
 use Rattle.std.proofs.lemmas.Bool.Decides.{nat_tests}
-use Rattle.ll_channels.specs.Channels.{channel_of_name}
-use Rattle.ll_channels.proofs.NameLemmas.{named-within}
+use Rattle.ll_item.specs.Channels.{channel_of_name}
+use Rattle.ll_item.proofs.ChannelLemmas.{named-within}
 use Rattle.ll_directive.specs.Targets.{WantValue}
 use Rattle.ll_rooms.specs.Waits.{is_same, wait_of, without}
 use Rattle.ll_rooms.specs.declared.owner.Owner.{Owner}
@@ -28,7 +28,7 @@ use Rattle.ll_connection.proofs.RoomsLaws.{asked-keeps}
 use Rattle.ll_connection.proofs.TurnLemmas.{found, kept_other}
 use Rattle.ll_connection.specs.Met.{AreMatched, outs, waiting_of, wants_out}
 use Rattle.ll_connection.specs.Turn.{Connections, bytes, bytes_to, end, end_of, left, reply, reply_to, session_of, with_session}
-use Rattle.ll_connection.specs.Visit.{Luck, Visit, answered_by, arrived, ask_in, asked, came, close_if, enough, first_spoken, hand_all, hand_in, muted_if, put_out, released, step, step_by, step_if}
+use Rattle.ll_connection.specs.Visit.{Luck, Visit, answered_by, arrived, ask_in, asked, came, close_if, enough, first_spoken, hand_all, submit, muted_if, put_out, released, step, step_by, step_if}
 use Rattle.ll_connection.specs.Visit as visit
 
 same_by : (o : Owner) (n m : ℕ) → is_same o (Connection n) ≡ true → is_same o (Connection m) ≡ (n == m)
@@ -279,12 +279,12 @@ module _ (n : ℕ) (others : ℕ → ℕ) where
   unfolding hand_all
   hand_all-met v h = steps-met (length v.session.unread) v h
 
-  pub hand_in-met : (lucks : List Luck) (v : Visit) → IsMet n others v → IsMet n others (hand_in lucks n v)
-  hand_in-met [] v h = hand_all-met v h
-  hand_in-met (luck ∷ lucks) v h = hand_in-met lucks (step luck n v) (step-met luck v h)
+  pub submit-met : (lucks : List Luck) (v : Visit) → IsMet n others v → IsMet n others (submit lucks n v)
+  submit-met [] v h = hand_all-met v h
+  submit-met (luck ∷ lucks) v h = submit-met lucks (step luck n v) (step-met luck v h)
 
   pub arrived-met : (lucks : List Luck) (piece : List ℕ) (v : Visit) → IsMet n others v → IsMet n others (arrived lucks n piece v)
-  arrived-met lucks piece v h = hand_in-met lucks (came n piece v) (came-met piece v h)
+  arrived-met lucks piece v h = submit-met lucks (came n piece v) (came-met piece v h)
 
 -- ---- all connections
 
@@ -391,8 +391,8 @@ has_out n all k h = by (session_of n all) refl h
 -- the reply is put out, or no memory is found for it; then its next requests are made
 released-met : (lucks : List Luck) (n : ℕ) (others : ℕ → ℕ) (a : Reply) (s : SessionValue) (v : World) → ((found : Bool) → IsMet n others (record { session = put_out found s (player.Reply a); rooms = v }))
     → IsMet n others (released lucks n a (record { session = s; rooms = v }))
-released-met [] n others a s v h = hand_in-met n others [] (record { session = put_out true s (player.Reply a); rooms = v }) (h true)
-released-met (luck ∷ lucks) n others a s v h = hand_in-met n others lucks (record { session = put_out luck.answers s (player.Reply a); rooms = v }) (h luck.answers)
+released-met [] n others a s v h = submit-met n others [] (record { session = put_out true s (player.Reply a); rooms = v }) (h true)
+released-met (luck ∷ lucks) n others a s v h = submit-met n others lucks (record { session = put_out luck.answers s (player.Reply a); rooms = v }) (h luck.answers)
 
 -- A request's reply goes to its connection, of which then no request waits in these rooms.
 pub reply-met : (lucks : List Luck) (n : ℕ) (a : Reply) (all : Connections) (w v : World) → AreMet w all → IsOpen v → waiting_of n v.waits ≡ 0

@@ -8,25 +8,25 @@ use Rattle.ll_rooms.specs.declared.owner.Owner.{Owner}
 use Rattle.ll_rooms.specs.declared.owner.Owner.TheVariants.{Connection}
 use Rattle.ll_item.specs.Settings.{Configuration}
 use Rattle.ll_script.specs.Answers.{sent_line}
-use Rattle.ll_channels.specs.Channels.{channel_of_name}
+use Rattle.ll_item.specs.Channels.{channel_of_name}
 use Rattle.ll_session.specs.Past.{next_entries}
 use Rattle.ll_session.specs.Requests.{Entry}
 use Rattle.ll_session.specs.Talk.{SessionValue, fed, muted, next_want, pulled}
 use Rattle.ll_wire.specs.declared.answer.Answer.{Answer}
 use Rattle.ll_wire.specs.declared.answer.Answer.TheVariants as player
-use Rattle.ll_wire.specs.declared.answer.Unavailable.TheVariants.{Memory}
+use Rattle.ll_verdict.specs.declared.fault.AskFault.TheVariants.{Memory}
 use Rattle.ll_rooms.proofs.SettingsLaws.{ask-keeps, close-keeps}
 use Rattle.ll_rooms.specs.Kept.{Kept, Leads, answers_of, kept_world}
 use Rattle.ll_rooms.specs.World.{World, all_settings, ask, close, count_end, silent}
-use Rattle.ll_rooms.specs.declared.answer.Answer as rooms
+use Rattle.ll_rooms.specs.declared.answer.ActAnswer as rooms
 use Rattle.ll_connection.proofs.RoomsLaws.{came-keeps, step-keeps}
-use Rattle.ll_connection.proofs.StepLemmas.{hand_all-still, hand_in-prefixed, prefixed, still_any, still_shut}
+use Rattle.ll_connection.proofs.StepLemmas.{hand_all-still, submit-prefixed, prefixed, still_any, still_shut}
 use Rattle.ll_connection.specs.Stands.{AreTold, IsToldVisit, IsVisit, IsStill}
-use Rattle.ll_connection.specs.Visit.{Luck, Visit, asked, came, enough, first_spoken, hand_all, hand_in, muted_if, put_out, step}
+use Rattle.ll_connection.specs.Visit.{Luck, Visit, asked, came, enough, first_spoken, hand_all, submit, muted_if, put_out, step}
 use Rattle.ll_connection.specs.declared.sent.Sent.{Sent}
 
 -- what the rooms answered to a request, and kept
-pub is_asked : (n : ℕ) (want : WantValue) (w : World) (settings : List Configuration) (place : ℕ) (c : Configuration) (k : Kept) (said : Option rooms.Answer)
+pub is_asked : (n : ℕ) (want : WantValue) (w : World) (settings : List Configuration) (place : ℕ) (c : Configuration) (k : Kept) (said : Option rooms.ActAnswer)
     → settings ≡ all_settings w → channel_of_name settings 0 want.channel ≡ Some (place, c) → Leads k said (silent w) (ask (Connection n) place want (silent w))
     → (k ≡ kept_world (asked true n want w).rooms) × (first_spoken (answers_of said) ≡ (asked true n want w).answer)
 is_asked n want w settings place c k said e found l = rw (← e, found) (l.stands, ap first_spoken (sym l.answers))
@@ -143,8 +143,8 @@ pub record GoesOn (n : ℕ) (channels : List Configuration) (before now : Sent) 
   pub settings : channels ≡ all_settings world
   -- the luck so far
   pub lucks : List Luck
-  pub rest : (after : Sent) (s : SessionValue) (k : Kept) (more : List Luck) → IsToldVisit n now after s k (hand_in more n (record { session = session; rooms = world }))
-      → IsToldVisit n before after s k (hand_in (lucks ++ more) n v)
+  pub rest : (after : Sent) (s : SessionValue) (k : Kept) (more : List Luck) → IsToldVisit n now after s k (submit more n (record { session = session; rooms = world }))
+      → IsToldVisit n before after s k (submit (lucks ++ more) n v)
 
 module _ (n : ℕ) where
   told_first : (answers : List (List ℕ)) (before now after : Sent) (s : SessionValue) (k : Kept) (u : Visit) → AreTold n answers before now
@@ -154,10 +154,10 @@ module _ (n : ℕ) where
 
   -- the answers so far are in front of those that follow
   in_front : (luck : Luck) (more : List Luck) (s : SessionValue) (w : World) (v : Visit) → step luck n v ≡ record { session = s; rooms = w }
-      → hand_in (luck ∷ more) n v ≡ prefixed s.answers (hand_in more n (record { session = record s { answers = [] }; rooms = w }))
+      → submit (luck ∷ more) n v ≡ prefixed s.answers (submit more n (record { session = record s { answers = [] }; rooms = w }))
   in_front luck more s w v e =
-      ap (hand_in more n) (e ∙ ap (λ (x : List (List ℕ)). record { session = record s { answers = x }; rooms = w }) (sym (append-nil s.answers)))
-      ∙ hand_in-prefixed n more s.answers (record { session = record s { answers = [] }; rooms = w })
+      ap (submit more n) (e ∙ ap (λ (x : List (List ℕ)). record { session = record s { answers = x }; rooms = w }) (sym (append-nil s.answers)))
+      ∙ submit-prefixed n more s.answers (record { session = record s { answers = [] }; rooms = w })
 
   module _ (settings : List Configuration) (before now next : Sent) (s s1 s2 : SessionValue) (k k1 : Kept) (v : Visit) (luck : Luck) (g : GoesOn n settings before now s k v) where
     abbrev here : Visit
@@ -171,16 +171,16 @@ module _ (n : ℕ) where
       settings = step_has settings luck n here g.settings;
       lucks = g.lucks ++ luck ∷ [];
       rest = λ after x y more h.
-          subst (λ (l : List Luck). IsToldVisit n before after x y (hand_in l n v)) (sym (append_assoc g.lucks (luck ∷ []) more))
+          subst (λ (l : List Luck). IsToldVisit n before after x y (submit l n v)) (sym (append_assoc g.lucks (luck ∷ []) more))
           (g.rest after x y (luck ∷ more)
           (rw (in_front luck more s1 (step luck n here).rooms here (rw i.session), ← e)
-          (told_first s1.answers now next after x y (hand_in more n (record { session = s2; rooms = (step luck n here).rooms })) t h)));
+          (told_first s1.answers now next after x y (submit more n (record { session = s2; rooms = (step luck n here).rooms })) t h)));
     }
 
     -- it was the last one
     pub goes_last : IsVisit s1 k1 (step luck n here) → IsStill n s1 → AreTold n s1.answers now next → s2 ≡ record s1 { answers = [] }
-        → (lucks : List Luck) × IsToldVisit n before next s2 k1 (hand_in lucks n v)
+        → (lucks : List Luck) × IsToldVisit n before next s2 k1 (submit lucks n v)
     goes_last i still t e =
         let last : Visit = record { session = s1; rooms = (step luck n here).rooms } in
-        let all : hand_in (luck ∷ []) n here ≡ last = ap (hand_all n) (rw i.session) ∙ hand_all-still n last (still last.rooms enough) in
+        let all : submit (luck ∷ []) n here ≡ last = ap (hand_all n) (rw i.session) ∙ hand_all-still n last (still last.rooms enough) in
         (g.lucks ++ luck ∷ [], g.rest next s2 k1 (luck ∷ []) (rw all (record { session = e; rooms = i.rooms; told = t })))

@@ -4,7 +4,7 @@ use Rattle.ll_directive.specs.Targets.{WantValue}
 use Rattle.ll_rooms.specs.declared.owner.Owner.{Owner}
 use Rattle.ll_rooms.specs.declared.owner.Owner.TheVariants as owner
 use Rattle.ll_item.specs.Settings.{Configuration}
-use Rattle.ll_channels.specs.Channels.{channel_of_name}
+use Rattle.ll_item.specs.Channels.{channel_of_name}
 use Rattle.ll_session.specs.Past.{overflows}
 use Rattle.ll_session.specs.Talk.{SessionValue, fresh, next_want, pulled}
 use Rattle.ll_verdict.specs.declared.reply.Reply.{Reply}
@@ -12,7 +12,7 @@ use Rattle.ll_wire.specs.declared.answer.Answer.{Answer}
 use Rattle.ll_wire.specs.declared.answer.Answer.TheVariants as player
 use Rattle.ll_rooms.specs.World.{World, all_settings, ask, close, repeat, silent}
 use Rattle.ll_connection.specs.Turn.{Connections, bytes, bytes_to, end, end_of, reply, reply_to, session_of}
-use Rattle.ll_connection.specs.Visit.{Luck, Visit, ask_at, ask_in, asked, answered_by, arrived, came, close_if, enough, hand_all, hand_in, released, put_out, step, step_by, step_if}
+use Rattle.ll_connection.specs.Visit.{Luck, Visit, ask_at, ask_in, asked, answered_by, arrived, came, close_if, enough, hand_all, submit, released, put_out, step, step_by, step_if}
 
 module _ (P : World → Type 0) (asks : (w : World) (o : Owner) (place : ℕ) (want : WantValue) → P w → P (silent (ask o place want (silent w))))
     (closes : (w : World) (o : Owner) → P w → P (close o w)) where
@@ -62,15 +62,15 @@ module _ (P : World → Type 0) (asks : (w : World) (o : Owner) (place : ℕ) (w
   all-keep [] n v p = p
   all-keep (luck ∷ lucks) n v p = all-keep lucks n (step luck n v) (step-keeps luck n v p)
 
-  hand_in-keeps : (lucks : List Luck) (n : ℕ) (v : Visit) → P v.rooms → P (hand_in lucks n v).rooms
-  hand_in-keeps lucks n v p = hand_all-keeps n (fold (λ u luck. step luck n u) v lucks) (all-keep lucks n v p)
+  submit-keeps : (lucks : List Luck) (n : ℕ) (v : Visit) → P v.rooms → P (submit lucks n v).rooms
+  submit-keeps lucks n v p = hand_all-keeps n (fold (λ u luck. step luck n u) v lucks) (all-keep lucks n v p)
 
   arrived-keeps : (lucks : List Luck) (n : ℕ) (piece : List ℕ) (v : Visit) → P v.rooms → P (arrived lucks n piece v).rooms
-  arrived-keeps lucks n piece v p = hand_in-keeps lucks n (came n piece v) (came-keeps n piece v p)
+  arrived-keeps lucks n piece v p = submit-keeps lucks n (came n piece v) (came-keeps n piece v p)
 
   released-keeps : (lucks : List Luck) (n : ℕ) (a : Reply) (v : Visit) → P v.rooms → P (released lucks n a v).rooms
-  released-keeps [] n a v p = hand_in-keeps [] n (record v { session = put_out true v.session (player.Reply a) }) p
-  released-keeps (luck ∷ lucks) n a v p = hand_in-keeps lucks n (record v { session = put_out luck.answers v.session (player.Reply a) }) p
+  released-keeps [] n a v p = submit-keeps [] n (record v { session = put_out true v.session (player.Reply a) }) p
+  released-keeps (luck ∷ lucks) n a v p = submit-keeps lucks n (record v { session = put_out luck.answers v.session (player.Reply a) }) p
 
   bytes_to-keeps : (lucks : List Luck) (n : ℕ) (piece : List ℕ) (all : Connections) (w : World) (s : Option (Option SessionValue)) → P w → P (bytes_to lucks n piece all w s).rooms
   bytes_to-keeps lucks n piece all w None p = arrived-keeps lucks n piece (record { session = fresh; rooms = w }) p

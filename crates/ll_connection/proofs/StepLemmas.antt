@@ -15,7 +15,7 @@ use Rattle.ll_wire.specs.Heads.{HeadValue, Unfinished, Whole, Fault, head_of}
 use Rattle.ll_wire.specs.declared.answer.Answer.{Answer}
 use Rattle.ll_wire.proofs.HeadLemmas.{nothing_there, whole-within}
 use Rattle.ll_rooms.specs.World.{World, repeat}
-use Rattle.ll_connection.specs.Visit.{Luck, Visit, answered_by, asked, came, enough, hand_all, hand_in, put_out, step}
+use Rattle.ll_connection.specs.Visit.{Luck, Visit, answered_by, asked, came, enough, hand_all, submit, put_out, step}
 
 -- ---- what is taken
 
@@ -181,5 +181,5 @@ pub hand_all-still : (n : ℕ) (v : Visit) → step enough n v ≡ v → hand_al
 unfolding hand_all
 hand_all-still n v e = steps_still n (length v.session.unread) v e
 
-pub hand_in-prefixed : (n : ℕ) (lucks : List Luck) (before : List (List ℕ)) (v : Visit) → hand_in lucks n (prefixed before v) ≡ prefixed before (hand_in lucks n v)
-hand_in-prefixed n lucks before v = ap (hand_all n) (all-prefixed n lucks before v) ∙ hand_all-prefixed n before (fold (λ u luck. step luck n u) v lucks)
+pub submit-prefixed : (n : ℕ) (lucks : List Luck) (before : List (List ℕ)) (v : Visit) → submit lucks n (prefixed before v) ≡ prefixed before (submit lucks n v)
+submit-prefixed n lucks before v = ap (hand_all n) (all-prefixed n lucks before v) ∙ hand_all-prefixed n before (fold (λ u luck. step luck n u) v lucks)

@@ -20,7 +20,7 @@ use Rattle.ll_connection.specs.Met.{outs}
 use Rattle.ll_connection.specs.Stands.{opened}
 use Rattle.ll_connection.specs.Talks.{IsTalked, TalkLaw}
 use Rattle.ll_connection.specs.Turn.{Connections, bytes_to, reply_to, session_of, shut_text, turn, with_session}
-use Rattle.ll_connection.specs.Visit.{Luck, Visit, answered_by, arrived, asked, came, enough, hand_all, hand_in, muted_if, put_out, put_out_by, released, step, step_by, step_if}
+use Rattle.ll_connection.specs.Visit.{Luck, Visit, answered_by, arrived, asked, came, enough, hand_all, submit, muted_if, put_out, put_out_by, released, step, step_by, step_if}
 use Rattle.ll_connection.proofs.MetLemmas.{given_out, taken_none}
 
 none_taken : (b : Bool) (xs : List ℕ) → taken_by b xs [] ≡ xs
@@ -132,7 +132,7 @@ module _ (n : ℕ) (K : Visit → Past → Type 0)
     unfolding hand_all
     hands_all v c = steps (length v.session.unread) v c
 
-    hands_in : (lucks : List Luck) (v : Visit) → Calls p more v → Calls p more (hand_in lucks n v)
+    hands_in : (lucks : List Luck) (v : Visit) → Calls p more v → Calls p more (submit lucks n v)
     hands_in [] v c = hands_all v c
     hands_in (luck ∷ lucks) v c = hands_in lucks (step luck n v) (one_step luck.takes luck v c)
 

@@ -4,17 +4,17 @@ use Rattle.ll_directive.specs.Targets.{WantValue}
 use Rattle.ll_directive.specs.declared.fault.TargetFault.TheVariants.{NotFound}
 use Rattle.ll_rooms.specs.declared.owner.Owner.TheVariants.{Connection}
 use Rattle.ll_item.specs.Settings.{Configuration}
-use Rattle.ll_channels.specs.Channels.{channel_of_name}
+use Rattle.ll_item.specs.Channels.{channel_of_name}
 use Rattle.ll_session.specs.Past.{next_entries, overflows}
 use Rattle.ll_session.specs.Requests.{Entry}
 use Rattle.ll_session.specs.Talk.{SessionValue, fed, muted, next_want, pulled, replied}
 use Rattle.ll_verdict.specs.declared.reply.Reply.{Reply}
 use Rattle.ll_wire.specs.declared.answer.Answer.{Answer}
 use Rattle.ll_wire.specs.declared.answer.Answer.TheVariants as player
-use Rattle.ll_wire.specs.declared.answer.Unavailable.TheVariants.{Memory, RecordFull}
+use Rattle.ll_verdict.specs.declared.fault.AskFault.TheVariants.{Memory, RecordFull}
 use Rattle.ll_rooms.specs.World.{World, all_settings, ask, close, repeat, silent}
-use Rattle.ll_rooms.specs.declared.answer.Answer as rooms
-use Rattle.ll_rooms.specs.declared.answer.Answer.TheVariants.{Accepted, Refused, ClockRefused, Replied, Unavailable}
+use Rattle.ll_rooms.specs.declared.answer.ActAnswer as rooms
+use Rattle.ll_rooms.specs.declared.answer.ActAnswer.TheVariants.{Accepted, Refused, ClockRefused, Replied, Unavailable}
 
 -- the session of a connection; the channels of a script with the requests that wait in them
 pub record Visit : Type 0 where
@@ -39,14 +39,14 @@ enough = record { takes = true; asks = true; answers = true }
 -- ---- a request is made
 
 -- what the rooms' answer to a request is to a player
-abbrev pub spoken : rooms.Answer → Option Answer
+abbrev pub spoken : rooms.ActAnswer → Option Answer
 spoken (Accepted count) = None
 spoken (Refused fault) = None
 spoken (ClockRefused fault) = None
 spoken (Replied owner reply) = Some (player.Reply reply)
 spoken (Unavailable owner) = Some (player.Unavailable RecordFull)
 
-abbrev pub first_spoken : List rooms.Answer → Option Answer
+abbrev pub first_spoken : List rooms.ActAnswer → Option Answer
 first_spoken [] = None
 first_spoken (a ∷ more) = spoken a
 
@@ -122,16 +122,16 @@ unfoldable pub hand_all : ℕ → Visit → Visit
 hand_all n v = repeat (step enough n) (length v.session.unread) v
 
 -- All requests are handed in, up to one that waits, the first of them with this luck.
-abbrev pub hand_in : List Luck → ℕ → Visit → Visit
-hand_in lucks n v = hand_all n (fold (λ u luck. step luck n u) v lucks)
+abbrev pub submit : List Luck → ℕ → Visit → Visit
+submit lucks n v = hand_all n (fold (λ u luck. step luck n u) v lucks)
 
 -- ---- what comes to a connection
 
 -- these bytes came, with all that they make happen
 abbrev pub arrived : List Luck → ℕ → List ℕ → Visit → Visit
-arrived lucks n piece v = hand_in lucks n (came n piece v)
+arrived lucks n piece v = submit lucks n (came n piece v)
 
 -- its request that waited gets this reply, with all that this makes happen; the first luck is the reply's
 abbrev pub released : List Luck → ℕ → Reply → Visit → Visit
-released [] n reply v = hand_in [] n (record v { session = put_out true v.session (player.Reply reply) })
-released (luck ∷ lucks) n reply v = hand_in lucks n (record v { session = put_out luck.answers v.session (player.Reply reply) })
+released [] n reply v = submit [] n (record v { session = put_out true v.session (player.Reply reply) })
+released (luck ∷ lucks) n reply v = submit lucks n (record v { session = put_out luck.answers v.session (player.Reply reply) })

@@ -10,7 +10,7 @@ ghost use Rattle.ll_connection.specs.Stands.{IsTurn, open_in, opened};
 use crate::open::Open;
 use crate::sent::Sent;
 use indexmap::IndexMap;
-use ll_channels::Channels;
+use ll_item::Channels;
 use ll_rooms::{Owner, Rooms};
 use ll_script::push_shut;
 use ll_session::Session;

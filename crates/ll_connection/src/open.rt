@@ -7,13 +7,13 @@ ghost use Rattle.ll_connection.specs.Visit as visit;
 ghost use Rattle.ll_connection.specs.Stands.{AreTold, IsStill, IsToldVisit, IsVisit};
 
 use crate::sent::Sent;
-use ll_channels::Channels;
 use ll_directive::{TargetFault, Want};
-use ll_rooms::{Answer as Said, AskStop, Owner, Rooms};
+use ll_item::Channels;
+use ll_rooms::{ActAnswer, AskStop, Owner, Rooms};
 use ll_script::push_sent;
 use ll_session::Session;
-use ll_verdict::Reply;
-use ll_wire::{Answer, Unavailable};
+use ll_verdict::{AskFault, Reply};
+use ll_wire::Answer;
 use std::alloc::AllocError;
 
 /// A connection with its session. It must be spent.
@@ -37,7 +37,7 @@ impl Open {
         ensures number { self.new.number ≡ self.old.number }
     {
         self.come(rooms, piece)?;
-        self.hand_in(rooms, declared, sent)?;
+        self.submit(rooms, declared, sent)?;
         Ok(())
     }
 
@@ -55,7 +55,7 @@ impl Open {
         ensures number { self.new.number ≡ self.old.number }
     {
         self.put_out(&Answer::Reply(reply));
-        self.hand_in(rooms, declared, sent)?;
+        self.submit(rooms, declared, sent)?;
         Ok(())
     }
 
@@ -78,7 +78,7 @@ impl Open {
     }
 
     /// Hands in all requests up to one that waits, and writes the answers.
-    fn hand_in(
+    fn submit(
         &mut self,
         rooms: &mut Rooms,
         declared: &Channels,
@@ -86,7 +86,7 @@ impl Open {
     ) -> Result<(), AllocError>
         ensures handed_in { (w : World) → rooms.old ≡ kept_world w → declared.now ≡ all_settings w
             → OnOk result ((lucks : List visit.Luck) × IsToldVisit self.old.number sent.old sent.new self.new.session rooms.new
-            (visit.hand_in lucks self.old.number (record { session = self.old.session; rooms = w }))) }
+            (visit.submit lucks self.old.number (record { session = self.old.session; rooms = w }))) }
         ensures number { self.new.number ≡ self.old.number }
     {
         loop {
@@ -153,7 +153,7 @@ impl Open {
         };
         match rooms.ask(Owner::Connection(self.number), place, want) {
             Ok(said) => Ok(spoken(said)),
-            Err(AskStop::Request) => Ok(Some(Answer::Unavailable(Unavailable::Memory))),
+            Err(AskStop::Request) => Ok(Some(Answer::Unavailable(AskFault::Memory))),
             Err(AskStop::Place) => Err(AllocError),
         }
     }
@@ -181,12 +181,12 @@ impl Open {
 }
 
 /// What the rooms' answer to a request is to a player, where there is one.
-fn spoken(said: Option<Said>) -> Option<Answer>
+fn spoken(said: Option<ActAnswer>) -> Option<Answer>
     ensures { result ≡ visit.first_spoken (answers_of said) }
 {
     match said? {
-        Said::Replied(_, reply) => Some(Answer::Reply(reply)),
-        Said::Unavailable(_) => Some(Answer::Unavailable(Unavailable::RecordFull)),
+        ActAnswer::Replied(_, reply) => Some(Answer::Reply(reply)),
+        ActAnswer::Unavailable(_) => Some(Answer::Unavailable(AskFault::RecordFull)),
         _ => None,
     }
 }

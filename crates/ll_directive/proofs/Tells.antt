@@ -6,7 +6,7 @@ use Rattle.ll_directive.specs.Targets.{values_of, each, skip_in, at_most_one, di
 use Rattle.ll_directive.specs.Told.{with_one, told_by, told_after, at_most_one_of, settled}
 use Rattle.ll_directive.specs.declared.query.Few.{Few}
 use Rattle.ll_directive.specs.declared.query.Few.TheVariants.{Zero, More}
-use Rattle.ll_directive.specs.declared.want.Skip.{Skip}
+use Rattle.ll_item.specs.declared.skip_kind.SkipKind.{SkipKind}
 
 bad-stays : {A : Type 0} (read : List ℕ → Option A) (values : List (List ℕ)) → told_by read None values ≡ None
 bad-stays read [] = refl
@@ -37,7 +37,7 @@ few-one (x ∷ y ∷ more) = ap at_most_one_of (more-stays more)
 abbrev few-of : {A : Type 0} → Option (List A) → Option (Few A)
 few-of xs = option_map (λ xs. fold with_one Zero xs) xs
 
-settled-of : (msns parts : Option (List ℕ)) (skips : Option (List Skip))
+settled-of : (msns parts : Option (List ℕ)) (skips : Option (List SkipKind))
     → settled (record { msn = few-of msns; part = few-of parts; skip = few-of skips }) ≡ directives_of msns parts skips
 settled-of None parts skips = refl
 settled-of (Some msns) None skips = refl

@@ -8,10 +8,10 @@ use Rattle.form_urlencoded.specs.Form.{parse}
 use Rattle.ll_attr.specs.Numbers.{number_in}
 use Rattle.ll_attr.specs.Words.{pieces_at, after}
 use Rattle.ll_item.specs.Names.{is_name}
+use Rattle.ll_item.specs.declared.skip_kind.SkipKind.{SkipKind}
+use Rattle.ll_item.specs.declared.skip_kind.SkipKind.TheVariants.{Yes, V2}
 use Rattle.ll_directive.specs.declared.want.Awaited.{Awaited}
 use Rattle.ll_directive.specs.declared.want.Awaited.TheVariants.{Nothing, Segment, Part}
-use Rattle.ll_directive.specs.declared.want.Skip.{Skip}
-use Rattle.ll_directive.specs.declared.want.Skip.TheVariants.{No, Yes, V2}
 use Rattle.ll_directive.specs.declared.fault.TargetFault.{TargetFault}
 use Rattle.ll_directive.specs.declared.fault.TargetFault.TheVariants.{BadTarget, NotFound, BadMsn, BadPart, BadSkip, Double, PartAlone, Memory}
 
@@ -20,7 +20,8 @@ pub record WantValue : Type 0 where
   pub channel : List ℕ
   pub rendition : List ℕ
   pub awaited : Awaited
-  pub skip : Skip
+  -- which delta update it is for; none for the full playlist
+  pub skip : Option SkipKind
 
 infixl 10 ◌>>=◌
 abbrev pub ◌>>=◌ : {A B : Type 0} → Result A TargetFault → (A → Result B TargetFault) → Result B TargetFault
@@ -79,7 +80,7 @@ abbrev pub each : {A : Type 0} → (List ℕ → Option A) → List (List ℕ) �
 each read [] = Some []
 each read (value ∷ more) = option_and_then (λ x. option_map (λ xs. x ∷ xs) (each read more)) (read value)
 
-abbrev pub skip_in : List ℕ → Option Skip
+abbrev pub skip_in : List ℕ → Option SkipKind
 skip_in value = if bytes_eq value (codes "YES") then Some Yes else if bytes_eq value (codes "v2") then Some V2 else None
 
 abbrev pub at_most_one : {A : Type 0} → List A → Result (Option A) TargetFault
@@ -93,12 +94,8 @@ awaited_of None (Some part) = Err PartAlone
 awaited_of (Some msn) None = Ok (Segment msn)
 awaited_of (Some msn) (Some part) = Ok (Part msn part)
 
-abbrev pub skip_asked : Option Skip → Skip
-skip_asked None = No
-skip_asked (Some skip) = skip
-
 -- what the meanings of the three directives' values ask for; None stands for values of which one means nothing
-abbrev pub directives_of : Option (List ℕ) → Option (List ℕ) → Option (List Skip) → Result (Awaited × Skip) TargetFault
+abbrev pub directives_of : Option (List ℕ) → Option (List ℕ) → Option (List SkipKind) → Result (Awaited × Option SkipKind) TargetFault
 directives_of msns parts skips = do
   msns ← ok_or msns BadMsn
   parts ← ok_or parts BadPart
@@ -107,10 +104,10 @@ directives_of msns parts skips = do
   part ← at_most_one parts
   skip ← at_most_one skips
   awaited ← awaited_of msn part
-  Ok (awaited, skip_asked skip)
+  Ok (awaited, skip)
 
 -- what a query of these pairs asks for
-abbrev pub directives_in : List (List ℕ × List ℕ) → Result (Awaited × Skip) TargetFault
+abbrev pub directives_in : List (List ℕ × List ℕ) → Result (Awaited × Option SkipKind) TargetFault
 directives_in pairs =
     directives_of (each (number_in 20) (values_of (codes "_HLS_msn") pairs))
     (each (number_in 20) (values_of (codes "_HLS_part") pairs))

@@ -3,11 +3,11 @@ use Rattle.std.specs.Prelude.{ℕ, List, Bool, ◌&&◌, ◌==◌, not, Option, 
 use Rattle.std.specs.Char.{is_ascii_graphic}
 use Rattle.std.specs.List.{list_all}
 use Rattle.ll_attr.specs.Numbers.{number_in}
-use Rattle.ll_directive.specs.Targets.{values_of, skip_in, awaited_of, skip_asked, ◌>>=◌}
+use Rattle.ll_directive.specs.Targets.{values_of, skip_in, awaited_of, ◌>>=◌}
 use Rattle.ll_directive.specs.declared.fault.TargetFault.{TargetFault}
 use Rattle.ll_directive.specs.declared.fault.TargetFault.TheVariants.{Double, BadMsn, BadPart, BadSkip}
 use Rattle.ll_directive.specs.declared.want.Awaited.{Awaited}
-use Rattle.ll_directive.specs.declared.want.Skip.{Skip}
+use Rattle.ll_item.specs.declared.skip_kind.SkipKind.{SkipKind}
 use Rattle.ll_directive.specs.declared.query.Few.{Few}
 use Rattle.ll_directive.specs.declared.query.Few.TheVariants.{Zero, One, More}
 use Rattle.ll_directive.specs.declared.query.Directives.{Directives}
@@ -47,7 +47,7 @@ at_most_one_of (One x) = Ok (Some x)
 at_most_one_of More = Err Double
 
 -- what is asked for by what was told
-abbrev pub settled : Directives → Result (Awaited × Skip) TargetFault
+abbrev pub settled : Directives → Result (Awaited × Option SkipKind) TargetFault
 settled d = do
   msns ← ok_or d.msn BadMsn
   parts ← ok_or d.part BadPart
@@ -56,4 +56,4 @@ settled d = do
   part ← at_most_one_of parts
   skip ← at_most_one_of skips
   awaited ← awaited_of msn part
-  Ok (awaited, skip_asked skip)
+  Ok (awaited, skip)

@@ -10,4 +10,4 @@ mod want;
 
 pub use fault::TargetFault;
 pub use target::{named_channel, read_target};
-pub use want::{Awaited, Skip, Want};
+pub use want::{Awaited, Want};

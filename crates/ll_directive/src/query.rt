@@ -7,10 +7,11 @@ ghost use Rattle.ll_directive.specs.Told as spec;
 ghost use Rattle.ll_directive.specs.declared.query.Few.TheVariants.{Zero};
 
 use crate::fault::TargetFault;
-use crate::want::{Awaited, Skip};
+use crate::want::Awaited;
 use arrayvec::ArrayString;
 use form_urlencoded::raw_pairs;
 use ll_attr::parse_number;
+use ll_item::SkipKind;
 use percent_encoding::percent_decode;
 
 /// The values of a directive: none, one, or more, of which none is kept.
@@ -26,12 +27,12 @@ enum Few<T> {
 struct Directives {
     msn: Option<Few<u64>>,
     part: Option<Few<u64>>,
-    skip: Option<Few<Skip>>,
+    skip: Option<Few<SkipKind>>,
 }
 
 /// What a query asks for.
 #[tactic(auto, using(crate::proofs::Tells::settled_told))]
-pub(crate) fn read_query(query: &[u8]) -> Result<(Awaited, Skip), TargetFault>
+pub(crate) fn read_query(query: &[u8]) -> Result<(Awaited, Option<SkipKind>), TargetFault>
     ensures value { result ≡ directives_in (parse query.now) }
     ensures not_memory { IfErr result (λ fault. fault ≢ TargetFault.Memory) }
 {
@@ -79,7 +80,7 @@ impl Directives {
     }
 
     /// What is asked for, or the first fault.
-    fn settled(self) -> Result<(Awaited, Skip), TargetFault>
+    fn settled(self) -> Result<(Awaited, Option<SkipKind>), TargetFault>
         ensures value { result ≡ spec.settled self }
         ensures not_memory { IfErr result (λ fault. fault ≢ TargetFault.Memory) }
     {
@@ -89,7 +90,7 @@ impl Directives {
         let msn = msn.at_most_one()?;
         let part = part.at_most_one()?;
         let skip = skip.at_most_one()?;
-        Ok((awaited(msn, part)?, skip.unwrap_or(Skip::No)))
+        Ok((awaited(msn, part)?, skip))
     }
 }
 
@@ -146,12 +147,12 @@ fn number(value: &[u8]) -> Option<u64>
 
 /// What a value of `_HLS_skip` means.
 #[tactic(auto, using(crate::proofs::Short::no_skip))]
-fn skip(value: &[u8]) -> Option<Skip>
+fn skip(value: &[u8]) -> Option<SkipKind>
     ensures { result ≡ skip_in (decode value.now) }
 {
     match decoded(value)?.as_str() {
-        "YES" => Some(Skip::Yes),
-        "v2" => Some(Skip::V2),
+        "YES" => Some(SkipKind::Yes),
+        "v2" => Some(SkipKind::V2),
         _ => None,
     }
 }

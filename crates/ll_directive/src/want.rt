@@ -3,7 +3,7 @@ ghost use Rattle.std.specs.Prelude.{◌≡◌, ◌&&◌, IfOk, None, Some, if◌
 ghost use Rattle.ll_item.specs.Names.{is_name};
 
 use ll_attr::Text;
-use ll_item::is_name;
+use ll_item::{SkipKind, is_name};
 use std::alloc::AllocError;
 use std::marker::Model;
 
@@ -18,24 +18,13 @@ pub enum Awaited {
     Part(u64, u64),
 }
 
-/// Whether a request is for a delta update (`_HLS_skip`).
-#[derive(Clone, Copy, PartialEq, Eq)]
-pub enum Skip {
-    /// It is for a full playlist.
-    No,
-    /// A delta update (`YES`).
-    Yes,
-    /// A delta update that skips date ranges too (`v2`).
-    V2,
-}
-
 /// What a request wants: the playlist of a rendition of a channel.
 #[derive(Drop)]
 pub struct Want {
     channel: Text,
     rendition: Text,
     awaited: Awaited,
-    skip: Skip,
+    skip: Option<SkipKind>,
 }
 
 impl Model for Want {
@@ -52,7 +41,12 @@ impl Model for Want {
 
 impl Want {
     /// What is wanted of the rendition of this name of the channel of this name; none where one of them hasn't a name's form.
-    pub fn new(channel: Text, rendition: Text, awaited: Awaited, skip: Skip) -> Option<Want>
+    pub fn new(
+        channel: Text,
+        rendition: Text,
+        awaited: Awaited,
+        skip: Option<SkipKind>,
+    ) -> Option<Want>
         ensures { result ≡ (if is_name channel && is_name rendition
             then Some (record { channel = channel; rendition = rendition; awaited = awaited; skip = skip }) else None) }
     {
@@ -63,7 +57,12 @@ impl Want {
     }
 
     /// What is wanted of the rendition of this name of the channel of this name.
-    pub(crate) fn of(channel: Text, rendition: Text, awaited: Awaited, skip: Skip) -> Want
+    pub(crate) fn of(
+        channel: Text,
+        rendition: Text,
+        awaited: Awaited,
+        skip: Option<SkipKind>,
+    ) -> Want
         requires channel_named { is_name channel ≡ true }
         requires rendition_named { is_name rendition ≡ true }
         ensures { result ≡ record { channel = channel; rendition = rendition; awaited = awaited; skip = skip } }
@@ -100,7 +99,7 @@ impl Want {
     }
 
     /// Whether the request is for a delta update.
-    pub fn skip(&self) -> Skip
+    pub fn skip(&self) -> Option<SkipKind>
         ensures { result ≡ self.now.skip }
     {
         self.skip

@@ -1,6 +1,6 @@
 use crate::rows::{column, number};
 use ll_item::{Item, Settings, SettingsFault};
-use ll_page::{Form, Page, Rendition, Shown, SkipKind, View, delta, full};
+use ll_page::{Page, Rendition, Shown, SkipKind, View, delta, full};
 use ll_range::Ranges;
 use ll_window::Window;
 use std::alloc::{AllocError, Global};
@@ -243,10 +243,10 @@ fn add_view(
 /// A channel, the index of a rendition, the form of a page, and what comes after the page is made: what the page tells then, what its copy
 /// tells, and the rendition and the count of its view.
 pub(crate) const PAGES: &str = "page: page
-TWO | 0 | full | LATER => ENDED 9 0 Full, ENDED 9 0 Full, 0 9
-TWO | 1 | full | LATER => BROKEN 9 1 Full, BROKEN 9 1 Full, 1 9
-TWO | 1 | update | LATER => BROKEN 9 1 Delta(Yes), BROKEN 9 1 Delta(Yes), 1 9
-ONE | 0 | update |  => SKIPPED 9 0 Delta(Yes), SKIPPED 9 0 Delta(Yes), 0 9";
+TWO | 0 | full | LATER => ENDED 9 0 None, ENDED 9 0 None, 0 9
+TWO | 1 | full | LATER => BROKEN 9 1 None, BROKEN 9 1 None, 1 9
+TWO | 1 | update | LATER => BROKEN 9 1 Some(Yes), BROKEN 9 1 Some(Yes), 1 9
+ONE | 0 | update |  => SKIPPED 9 0 Some(Yes), SKIPPED 9 0 Some(Yes), 0 9";
 
 fn add_page_before(
     alloc: Global,
@@ -256,8 +256,8 @@ fn add_page_before(
     input: &str,
 ) -> Result<(), AllocError> {
     let form = match column(input, 2) {
-        "full" => Form::Full,
-        _ => Form::Delta(SkipKind::Yes),
+        "full" => None,
+        _ => Some(SkipKind::Yes),
     };
     let page = page(alloc, channel, rendition, form)?;
     if !channel.publish(alloc, text_of(column(input, 3))) {
@@ -273,7 +273,7 @@ fn page(
     alloc: Global,
     channel: &Channel,
     rendition: usize,
-    form: Form,
+    form: Option<SkipKind>,
 ) -> Result<Option<Page>, AllocError> {
     let shown = Shown::of(alloc, &channel.settings, &channel.renditions, 9)?;
     Page::make(alloc, &shown, rendition, form)
@@ -312,7 +312,7 @@ fn add_shared(
     rendition: usize,
 ) -> Result<(), AllocError> {
     let shown = Shown::of(alloc, &channel.settings, &channel.renditions, 9)?;
-    match Page::make(alloc, &shown.again()?, rendition, Form::Full)? {
+    match Page::make(alloc, &shown.again()?, rendition, None)? {
         Some(page) => told.push_str(name_of(page.text())),
         None => told.push_str("None"),
     }

@@ -2,7 +2,7 @@
 use crate::page_tests::Channel;
 use crate::rows::{column, number};
 use ll_attr::Text;
-use ll_page::{Form, Page, Pieces, Shown, SkipKind, delta, full};
+use ll_page::{Page, Pieces, Shown, SkipKind, delta, full};
 use std::alloc::{AllocError, Global};
 
 /// A channel, the index of a rendition, and how many pieces are kept before each next moment: how many pages are joined, and how many of
@@ -90,9 +90,9 @@ fn join_moment(
         return Ok(Pieces::new(alloc));
     };
     let pieces = before.after(alloc, &view)?;
-    let page = Page::make_from(alloc, shown, rendition, &pieces, Form::Full);
+    let page = Page::make_from(alloc, shown, rendition, &pieces, None);
     all.note(page, full(alloc, &view));
-    let page = Page::make_from(alloc, shown, rendition, &pieces, Form::Delta(SkipKind::Yes));
+    let page = Page::make_from(alloc, shown, rendition, &pieces, Some(SkipKind::Yes));
     all.note(page, delta(alloc, &view, SkipKind::Yes));
     Ok(pieces)
 }

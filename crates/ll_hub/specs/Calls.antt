@@ -3,7 +3,7 @@ use Rattle.std.specs.Prelude.{◌≡◌, ◌≢◌, ◌<◌, ◌≤◌, ℕ, ⊤
 use Rattle.ll_directive.specs.Targets.{WantValue}
 use Rattle.ll_item.specs.Settings.{Configuration}
 use Rattle.ll_item.specs.declared.item.Item.{Item}
-use Rattle.ll_room.specs.Mark.{Mark}
+use Rattle.ll_room.specs.StampedValue.{StampedValue}
 use Rattle.ll_room.specs.declared.stamped.Stamp.TheVariants as stamp
 use Rattle.ll_rendition.specs.declared.fault.PublishFault.{PublishFault}
 use Rattle.ll_rendition.specs.declared.fault.PublishFault.TheVariants as refused
@@ -42,7 +42,7 @@ IsSeatFault other = ⊥
 -- ---- publish
 
 -- an item was accepted by the channel at this place
-pub record IsPublished (hub : List Configuration) (place : ℕ) (item : Item) (before after : List ℕ) (mark : Mark ℕ) : Type 0 where
+pub record IsPublished (hub : List Configuration) (place : ℕ) (item : Item) (before after : List ℕ) (mark : StampedValue ℕ) : Type 0 where
   pub settings : Configuration
   pub seen : ℕ
   pub known : IsKnown hub before place settings seen
@@ -80,7 +80,7 @@ IsPublishFault hub place item before fault = IsUnmet hub before place fault
 -- ---- ask
 
 -- a request is answered at once
-pub record IsAnsweredNow (hub : List Configuration) (place : ℕ) (want : WantValue) (before after : List ℕ) (mark : Mark Reply) : Type 0 where
+pub record IsAnsweredNow (hub : List Configuration) (place : ℕ) (want : WantValue) (before after : List ℕ) (mark : StampedValue Reply) : Type 0 where
   pub settings : Configuration
   pub seen : ℕ
   pub number : ℕ
@@ -117,7 +117,7 @@ IsAskFault shows hub place before fault = IsUnmet hub before place fault
 -- ---- wait
 
 -- a held request got its reply
-pub record IsReplied (hub : List Configuration) (claim : ClaimValue) (before after : List ℕ) (mark : Mark Reply) : Type 0 where
+pub record IsReplied (hub : List Configuration) (claim : ClaimValue) (before after : List ℕ) (mark : StampedValue Reply) : Type 0 where
   pub settings : Configuration
   pub channel : slice_get hub claim.channel ≡ Some settings
   pub room : mark.room ≡ claim.channel

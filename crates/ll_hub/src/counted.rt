@@ -7,7 +7,7 @@ ghost use Rattle.ll_locked.specs.Section as spec;
 ghost use Rattle.ll_locked.specs.Told.{IsAccepted, IsHandedOut, IsReadingRefused, IsTotal, IsTotalOf};
 ghost use Rattle.ll_record.specs.Chunk.{IsChunk, IsFaithful, emptied};
 ghost use Rattle.ll_record.specs.Recording.{GoesOn, IsRecorded};
-ghost use Rattle.ll_room.specs.Home.{home};
+ghost use Rattle.ll_room.specs.RoomValue.{room_value};
 ghost use Rattle.ll_room.specs.declared.stamped.Stamp.TheVariants as stamp;
 ghost use Rattle.ll_verdict.specs.Events.{Event, Clock, Publish};
 ghost use Rattle.ll_verdict.specs.State.{state_of};
@@ -15,7 +15,7 @@ ghost use Rattle.ll_verdict.specs.State.{state_of};
 use ll_directive::Want;
 use ll_item::{Item, Settings};
 use ll_ledger::{Asks, ChannelCounts, Ledgers, PassCounts, Publishes};
-use ll_locked::{Answer, Channel, Clock, HubFault, Known, Total, Tried};
+use ll_locked::{AtOnce, Channel, Clock, HubFault, Known, Total, Tried};
 use ll_record::{Chunk, ReadingFault};
 use ll_room::Stamped;
 use ll_verdict::Entry;
@@ -49,7 +49,7 @@ impl<L: Ledgers> Counted<L> {
         counts: ChannelCounts<L>,
     ) -> Result<Counted<L>, AllocError>
         requires { counts ≡ blank 1 }
-        ensures new { IfOk result (λ c. c ≡ record { room = home place settings (state_of settings []); at = 0; lines = []; calls = 0 }) }
+        ensures new { IfOk result (λ c. c ≡ record { room = room_value place settings (state_of settings []); at = 0; lines = []; calls = 0 }) }
         ensures recorded { IfOk result (λ c. IsRecorded c []) }
     {
         Ok(Counted {
@@ -122,7 +122,7 @@ impl<L: Ledgers> Counted<L> {
         want: Want,
         tally: &Mutex<Asks<L>>,
         theirs: &mut PassCounts<L>,
-    ) -> Result<Answer, HubFault>
+    ) -> Result<AtOnce, HubFault>
         requires { theirs.old.parts ≡ 1 }
         ensures asked { IfOk result (λ a. spec.IsAskedBy known.entry.place known.entry.settings.now known.entry.seen want a) }
         ensures made { IfOk result (λ a. spec.IsMadeBy (C.shows clock.now) self.old self.new want a) }

@@ -1,18 +1,18 @@
 //! The hub: a lock for each channel, and the totals of what its callers count.
 ghost use Rattle.std.specs.Prelude.{◌≡◌, ◌+◌, ◌≤◌, None, Some, IfErr, IfOk, MatchOption, OnErr, OnOk, false, length, map, slice_get, sum};
-ghost use Rattle.ll_channels.specs.Channels.{channel_of_name};
+ghost use Rattle.ll_item.specs.Channels.{channel_of_name};
 ghost use Rattle.ll_hub.specs.Calls as calls;
 ghost use Rattle.ll_hub.specs.Passes.{new_pass};
 
 use crate::claim::Claim;
+use crate::locks::ChannelLocks;
 use crate::pass::Pass;
 use crate::sink::Sink;
-use crate::slots::Slots;
 use crate::totals::Totals;
 use ll_directive::Want;
 use ll_item::{Item, Settings};
 use ll_ledger::{Asks, Blanks, Ledgers, Opened, PassCounts, Publishes, Seats};
-use ll_locked::{Answer, Clock, HubFault, RoomFault};
+use ll_locked::{AtOnce, Clock, HubFault, RoomFault};
 use ll_record::Chunk;
 use ll_room::Stamped;
 use ll_verdict::Reply;
@@ -43,7 +43,7 @@ pub enum Waited {
 /// Each accepted item and each request is counted twice: by its channel, and by the pass that it was made with. So the totals of the
 /// channels are at the end those of the passes.
 pub struct Hub<L: Ledgers> {
-    slots: Slots<L>,
+    locks: ChannelLocks<L>,
     seats: Mutex<Seats<L>>,
     publishes: Mutex<Publishes<L>>,
     asks: Mutex<Asks<L>>,
@@ -55,9 +55,9 @@ impl<L: Ledgers> Model for Hub<L> {
 
     ghost Value = { List Configuration };
 
-    ghost view = { λ h. h.slots };
+    ghost view = { λ h. h.locks };
 
-    ghost invariant = { λ h. length h.slots ≡ L.channels };
+    ghost invariant = { λ h. length h.locks ≡ L.channels };
 }
 
 /// Only one without channels may be let go: a leak is a failed proof.
@@ -68,7 +68,7 @@ impl<L: Ledgers> Drop for Hub<L> {
         requires { self ≡ [] }
     {
         let Hub {
-            slots: _slots,
+            locks: _locks,
             seats: _seats,
             publishes: _publishes,
             asks: _asks,
@@ -92,15 +92,15 @@ impl<L: Ledgers> Hub<L> {
             publishes,
             asks,
         } = blanks.open::<L>();
-        let mut slots = Slots::new(alloc);
+        let mut locks = ChannelLocks::new(alloc);
         for settings in channels {
-            if slots.add(settings, rest.give()).is_err() {
-                slots.end();
+            if locks.add(settings, rest.give()).is_err() {
+                locks.end();
                 return Err(AllocError);
             }
         }
         Ok(Hub {
-            slots,
+            locks,
             seats: Mutex::new(Seats::new(rest, passes)),
             publishes: Mutex::new(publishes),
             asks: Mutex::new(asks),
@@ -112,7 +112,7 @@ impl<L: Ledgers> Hub<L> {
         ensures { MatchOption result (channel_of_name self.now 0 name.now ≡ None)
             (λ f. channel_of_name self.now 0 name.now ≡ Some (f.0, f.1.now)) }
     {
-        self.slots.find(name)
+        self.locks.find(name)
     }
 
     /// A pass for one caller, who has seen nothing yet. It may be dropped; but [`Hub::finish`] tells totals only where it gets back
@@ -124,7 +124,7 @@ impl<L: Ledgers> Hub<L> {
         ensures seated { IfOk result (λ p. p ≡ new_pass (length self.now)) }
         ensures refused { IfErr result (λ f. calls.IsSeatFault f) }
     {
-        let Ok(seen) = vec![in self.slots.alloc(); 0; self.slots.len()] else {
+        let Ok(seen) = vec![in self.locks.alloc(); 0; self.locks.len()] else {
             return Err(HubFault::Memory);
         };
         match self.seats.lock(rt).take() {
@@ -152,11 +152,11 @@ impl<L: Ledgers> Hub<L> {
         ensures refused { IfErr result (λ f. calls.IsPublishFault self.now channel item pass.old.seen f) }
         ensures unchanged { OnErr result (pass.new ≡ pass.old) }
     {
-        let (slot, known) = self.slots.reach(channel, pass.seen(channel))?;
-        let mut state = slot.lock(rt);
+        let (channel_lock, known) = self.locks.reach(channel, pass.seen(channel))?;
+        let mut state = channel_lock.lock(rt);
         let ready = state.ready();
         let count = state.publish(rt, known, item, &self.publishes, &mut pass.counts)?;
-        slot.leave(state, ready);
+        channel_lock.leave(state, ready);
         pass.note(channel, *count.get());
         Ok(count)
     }
@@ -182,17 +182,17 @@ impl<L: Ledgers> Hub<L> {
         ensures refused { IfErr result (λ f. calls.IsAskFault (C.shows clock.now) self.now channel pass.old.seen f) }
         ensures unchanged { OnErr result (pass.new ≡ pass.old) }
     {
-        let (slot, known) = self.slots.reach(channel, pass.seen(channel))?;
-        let mut state = slot.lock(rt);
+        let (channel_lock, known) = self.locks.reach(channel, pass.seen(channel))?;
+        let mut state = channel_lock.lock(rt);
         let ready = state.ready();
         let answer = state.ask(rt, known, clock, want, &self.asks, &mut pass.counts);
-        slot.leave(state, ready);
+        channel_lock.leave(state, ready);
         match answer? {
-            Answer::Now(reply) => {
+            AtOnce::Now(reply) => {
                 pass.note_reply(channel, reply.get());
                 Ok(HubAsked::Now(reply))
             }
-            Answer::Held(entry) => Ok(HubAsked::Held(Claim::new(channel, entry))),
+            AtOnce::Held(entry) => Ok(HubAsked::Held(Claim::new(channel, entry))),
         }
     }
 
@@ -210,8 +210,8 @@ impl<L: Ledgers> Hub<L> {
     {
         let channel = claim.channel();
         let entry = claim.spend();
-        let (slot, known) = self.slots.reach(channel, Some(0))?;
-        let reply = slot.wait(rt, known, entry)?;
+        let (channel_lock, known) = self.locks.reach(channel, Some(0))?;
+        let reply = channel_lock.wait(rt, known, entry)?;
         pass.note_reply(channel, reply.get());
         Ok(reply)
     }
@@ -233,8 +233,8 @@ impl<L: Ledgers> Hub<L> {
     {
         let channel = claim.channel();
         let entry = claim.spend();
-        let (slot, known) = self.slots.reach(channel, Some(0))?;
-        match slot.wait_within(rt, known, entry, limit)? {
+        let (channel_lock, known) = self.locks.reach(channel, Some(0))?;
+        match channel_lock.wait_within(rt, known, entry, limit)? {
             Some(reply) => {
                 pass.note_reply(channel, reply.get());
                 Ok(Waited::Reply(reply))
@@ -249,8 +249,8 @@ impl<L: Ledgers> Hub<L> {
     {
         let channel = claim.channel();
         let entry = claim.spend();
-        match self.slots.reach(channel, Some(0)) {
-            Ok((slot, known)) => slot.lock(rt).close(known, entry),
+        match self.locks.reach(channel, Some(0)) {
+            Ok((channel_lock, known)) => channel_lock.lock(rt).close(known, entry),
             Err(_) => false,
         }
     }
@@ -268,8 +268,8 @@ impl<L: Ledgers> Hub<L> {
         ensures refused { IfErr result (λ f. calls.IsTickFault self.now ms f) }
         ensures from { IfErr result (λ f. calls.IsFrom first f) }
     {
-        for channel in first..self.slots.len() {
-            if let Err(fault) = self.slots.tick(rt, channel, ms) {
+        for channel in first..self.locks.len() {
+            if let Err(fault) = self.locks.tick(rt, channel, ms) {
                 return Err(HubFault::Room {
                     channel,
                     fault: RoomFault::Clock(fault),
@@ -288,8 +288,8 @@ impl<L: Ledgers> Hub<L> {
         ensures handed_out { IfOk result (λ k. calls.IsRotated self.now channel k) }
         ensures refused { IfErr result (λ f. calls.IsRotateFault self.now channel f) }
     {
-        let (slot, known) = self.slots.reach(channel, Some(0))?;
-        slot.lock(rt).rotate(known)
+        let (channel_lock, known) = self.locks.reach(channel, Some(0))?;
+        channel_lock.lock(rt).rotate(known)
     }
 
     /// Hands the record of the channel at this place to a sink, as [`Hub::rotate`] hands it out. The channel stays locked until the sink
@@ -302,8 +302,8 @@ impl<L: Ledgers> Hub<L> {
     ) -> Result<(), HubFault>
         ensures { IfErr result (λ f. calls.IsRotateFault self.now channel f) }
     {
-        let (slot, known) = self.slots.reach(channel, Some(0))?;
-        let mut state = slot.lock(rt);
+        let (channel_lock, known) = self.locks.reach(channel, Some(0))?;
+        let mut state = channel_lock.lock(rt);
         let chunk = state.rotate(known)?;
         sink.take(channel, chunk);
         drop(state);
@@ -322,12 +322,12 @@ impl<L: Ledgers> Hub<L> {
         ensures asks { IfOk result (λ t. sum (map (λ c. c.asks) t.channels.items) ≡ sum (map (λ p. p.asks) passes.items)) }
         ensures refused { IfErr result (λ f. calls.IsFinishFault (length passes.items) f) }
     {
-        let Ok(mut channels) = Vec::with_capacity(self.slots.alloc(), self.slots.len()) else {
+        let Ok(mut channels) = Vec::with_capacity(self.locks.alloc(), self.locks.len()) else {
             self.end();
             return Err(HubFault::Memory);
         };
         let Hub {
-            slots,
+            locks,
             seats,
             publishes,
             asks,
@@ -337,7 +337,7 @@ impl<L: Ledgers> Hub<L> {
             passes: rest,
             given,
         } = seats.into_inner();
-        let at_home = slots.finish(&mut channels, &mut all);
+        let at_home = locks.finish(&mut channels, &mut all);
         let returned = passes.len() as u64;
         let mut both = gather(rest, passes);
         if returned != given {
@@ -357,12 +357,12 @@ impl<L: Ledgers> Hub<L> {
     /// Closes what is held, and spends the hub.
     fn end(self) {
         let Hub {
-            slots,
+            locks,
             seats: _seats,
             publishes: _publishes,
             asks: _asks,
         } = self;
-        slots.end();
+        locks.end();
     }
 }
 

@@ -4,9 +4,9 @@
 mod claim;
 mod counted;
 mod hub;
+mod locks;
 mod pass;
 mod sink;
-mod slots;
 mod totals;
 
 pub use claim::Claim;

@@ -1,3 +1,4 @@
-pub mod WithinLimits
+pub mod ChannelLemmas
 pub mod RangeLines
 pub mod SameLemmas
+pub mod WithinLimits

@@ -1,3 +1,5 @@
+pub mod ChannelPlaces
+pub mod Channels
 pub mod Configured
 pub mod Items
 pub mod Names

@@ -1,7 +1,8 @@
-//! What a channel is configured to and what its publisher announces, with the lines that spell them. Sections are those of
+//! What a channel is configured to, what its publisher announces, with the lines that spell them, and which kinds of delta updates it has. Sections are those of
 //! draft-pantos-hls-rfc8216bis.
 #![tactic(auto)]
 
+mod channels;
 mod item;
 mod item_line;
 mod limits;
@@ -9,10 +10,13 @@ mod name;
 mod part;
 mod settings;
 mod settings_line;
+mod skip_kind;
 mod words;
 
+pub use channels::Channels;
 pub use item::{Item, ItemFault};
 pub use limits::limits_law;
 pub use name::is_name;
 pub use part::Part;
 pub use settings::{Settings, SettingsFault};
+pub use skip_kind::SkipKind;

@@ -7,7 +7,7 @@ use Rattle.ll_item.specs.Settings.{Configuration, IsWithin, number_end}
 use Rattle.ll_item.specs.declared.item.Item.{Item}
 use Rattle.ll_item.specs.declared.item.Item.TheVariants as item
 use Rattle.ll_item.specs.declared.part.Part.{Part}
-use Rattle.ll_window.specs.declared.place.Place.{Place}
+use Rattle.ll_window.specs.declared.part_position.PartPosition.{PartPosition}
 use Rattle.ll_window.specs.Compact.{Compact, compact}
 use Rattle.ll_window.specs.Refusal.{part_refusal, refusal_before_end}
 use Rattle.ll_window.specs.Segments.{duration, ended}
@@ -19,7 +19,7 @@ use Rattle.ll_laws.proofs.ItemLemmas.{AreInOrder}
 use Rattle.ll_laws.proofs.OwnSegmentProof.{unended}
 
 -- the place of a part is within bounds
-abbrev pub IsPlaced : Place → Type 0
+abbrev pub IsPlaced : PartPosition → Type 0
 IsPlaced place = (place.number ≤ number_end) × (place.index ≤ last_micro)
 
 -- an open segment has a number, and no more parts than microseconds have passed

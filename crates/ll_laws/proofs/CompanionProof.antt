@@ -13,8 +13,8 @@ use Rattle.ll_page.specs.Playlist.{Playlist}
 use Rattle.ll_page.specs.Full.{printed, full_playlist, range_line, range_lines, sequence_of}
 use Rattle.ll_page.specs.Delta.{ids_removed, ranges_left, update_of, delta_by}
 use Rattle.ll_page.specs.View.{Seen, seen, asked}
-use Rattle.ll_page.specs.declared.skip_kind.SkipKind.{SkipKind}
-use Rattle.ll_page.specs.declared.skip_kind.SkipKind.TheVariants.{Yes, V2}
+use Rattle.ll_item.specs.declared.skip_kind.SkipKind.{SkipKind}
+use Rattle.ll_item.specs.declared.skip_kind.SkipKind.TheVariants.{Yes, V2}
 use Rattle.ll_rendition.specs.Kept.{kept}
 use Rattle.ll_apply.specs.Applied as spec
 use Rattle.ll_apply.specs.Applied.{applied, missing, mapped, in_force, without_parts, ranges_by, unless_missing, updated}

@@ -19,7 +19,7 @@ use Rattle.ll_window.proofs.StepLemmas.{compact-snoc, duration-snoc}
 use Rattle.ll_page.specs.Playlist.{Skip}
 use Rattle.ll_page.specs.Delta.{delta_by}
 use Rattle.ll_page.specs.View.{Seen, seen, asked}
-use Rattle.ll_page.specs.declared.skip_kind.SkipKind.{SkipKind}
+use Rattle.ll_item.specs.declared.skip_kind.SkipKind.{SkipKind}
 use Rattle.ll_laws.specs.Laws.{OwnSegmentLaw}
 use Rattle.ll_laws.specs.Published.{AreAccepted}
 use Rattle.ll_laws.proofs.ItemLemmas.{AreInOrder, in-order}

@@ -9,7 +9,7 @@ use Rattle.ll_item.specs.Names.{is_name, is_among, are_names}
 use Rattle.ll_item.specs.Settings.{Configuration}
 use Rattle.ll_item.specs.declared.item.Item.{Item}
 use Rattle.ll_item.specs.declared.part.Part.{Part}
-use Rattle.ll_window.specs.declared.place.Place.{Place}
+use Rattle.ll_window.specs.declared.part_position.PartPosition.{PartPosition}
 use Rattle.ll_window.specs.Compact.{Compact, compact, open_row}
 use Rattle.ll_window.specs.Rows.{Row, row}
 use Rattle.ll_window.specs.Segments.{own, duration}
@@ -89,7 +89,7 @@ empty-printed leads (r ∷ rs) = none_left (length rs)
 
 -- reports of other renditions, and the last line
 
-one_report : (own_one : Bool) (name : List ℕ) (last : Option Place) → is_name name ≡ true → Where IsPlaced last
+one_report : (own_one : Bool) (name : List ℕ) (last : Option PartPosition) → is_name name ≡ true → Where IsPlaced last
     → Each (λ (r : Report). IsSound (line.RenditionReport r)) (report_by own_one name last)
 one_report true name last named placed = tt
 one_report false name None named placed = tt

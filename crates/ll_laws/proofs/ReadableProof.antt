@@ -17,8 +17,8 @@ use Rattle.ll_page.specs.Full.{printed, reports_of, playlist_of}
 use Rattle.ll_page.specs.Playlist.{Playlist}
 use Rattle.ll_page.specs.Spelling.{skip_lines}
 use Rattle.ll_page.specs.View.{Seen, seen, asked}
-use Rattle.ll_page.specs.declared.skip_kind.SkipKind.{SkipKind}
-use Rattle.ll_page.specs.declared.skip_kind.SkipKind.TheVariants.{Yes, V2}
+use Rattle.ll_item.specs.declared.skip_kind.SkipKind.{SkipKind}
+use Rattle.ll_item.specs.declared.skip_kind.SkipKind.TheVariants.{Yes, V2}
 use Rattle.ll_rendition.specs.Kept.{kept}
 use Rattle.ll_read.specs.Readable.{Each, IsReadable}
 use Rattle.ll_read.specs.Reading.{is_empty}

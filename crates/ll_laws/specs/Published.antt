@@ -11,8 +11,8 @@ use Rattle.ll_item.specs.declared.item.Item.TheVariants as item
 use Rattle.ll_window.specs.Refusal as window
 use Rattle.ll_window.specs.Segments.{own}
 use Rattle.ll_range.specs.Announced as range
-use Rattle.ll_page.specs.declared.skip_kind.SkipKind.{SkipKind}
-use Rattle.ll_page.specs.declared.skip_kind.SkipKind.TheVariants.{Yes, V2}
+use Rattle.ll_item.specs.declared.skip_kind.SkipKind.{SkipKind}
+use Rattle.ll_item.specs.declared.skip_kind.SkipKind.TheVariants.{Yes, V2}
 
 -- each of these items may follow the items of its rendition before it
 abbrev pub AreAccepted : Configuration → List Item → List Item → Type 0

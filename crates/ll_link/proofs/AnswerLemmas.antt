@@ -4,7 +4,7 @@ use Rattle.ll_item.specs.declared.item.Item.{Item}
 use Rattle.ll_item.specs.declared.item.ItemFault.{ItemFault}
 use Rattle.ll_publish.specs.Refusals.{item_refusal}
 use Rattle.ll_publish.specs.declared.refusal.Refusal.{Refusal}
-use Rattle.ll_channels.specs.Channels.{channel_of_name}
+use Rattle.ll_item.specs.Channels.{channel_of_name}
 use Rattle.ll_item.specs.Items.{item_in}
 use Rattle.ll_item.specs.Settings.{Configuration}
 use Rattle.ll_link.specs.Answers.{refused_in, refused_item}

@@ -4,7 +4,7 @@ use Rattle.ll_item.specs.Items.{item_in}
 use Rattle.ll_item.specs.Settings.{Configuration}
 use Rattle.ll_item.specs.declared.item.Item.{Item}
 use Rattle.ll_item.specs.declared.item.ItemFault.{ItemFault}
-use Rattle.ll_channels.specs.Channels.{channel_of_name}
+use Rattle.ll_item.specs.Channels.{channel_of_name}
 use Rattle.ll_publish.specs.Line as says
 use Rattle.ll_publish.specs.Refusals.{item_refusal, refusal_of}
 use Rattle.ll_publish.specs.declared.refusal.Refusal.{Refusal}
@@ -12,11 +12,10 @@ use Rattle.ll_publish.specs.declared.refusal.Refusal.TheVariants.{BadLine, Unkno
 use Rattle.ll_locked.specs.declared.fault.HubFault.{HubFault}
 use Rattle.ll_locked.specs.declared.fault.HubFault.TheVariants as hub
 use Rattle.ll_locked.specs.declared.fault.RoomFault.TheVariants as room
-use Rattle.ll_room.specs.declared.fault.AskFault.TheVariants as unasked
 use Rattle.ll_record.specs.declared.fault.ReadingFault.TheVariants as reading
 use Rattle.ll_wire.specs.declared.answer.Answer.{Answer}
 use Rattle.ll_wire.specs.declared.answer.Answer.TheVariants.{Unavailable}
-use Rattle.ll_wire.specs.declared.answer.Unavailable.TheVariants.{RecordFull, Memory}
+use Rattle.ll_verdict.specs.declared.fault.AskFault.TheVariants.{RecordFull, Memory}
 use Rattle.ll_link.specs.declared.fault.LinkFault.{LinkFault}
 use Rattle.ll_link.specs.declared.fault.LinkFault.TheVariants.{Hub}
 
@@ -45,8 +44,7 @@ refused_by other = Err Hub
 
 -- what is answered to a request that the hub refuses; one that isn't refused for a full record or for memory ends the connection with Hub
 abbrev pub unavailable_by : HubFault → Result Answer LinkFault
-unavailable_by (hub.Room place (room.Ask unasked.RecordFull)) = Ok (Unavailable RecordFull)
-unavailable_by (hub.Room place (room.Ask unasked.Memory)) = Ok (Unavailable Memory)
+unavailable_by (hub.Room place (room.Ask fault)) = Ok (Unavailable fault)
 unavailable_by (hub.Room place (room.Clock reading.RecordFull)) = Ok (Unavailable RecordFull)
 unavailable_by (hub.Room place (room.Clock reading.Memory)) = Ok (Unavailable Memory)
 unavailable_by hub.Memory = Ok (Unavailable Memory)

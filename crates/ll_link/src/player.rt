@@ -3,7 +3,7 @@ ghost use Rattle.std.specs.Bool.{Decides};
 ghost use Rattle.std.specs.Prelude.{◌≡◌, ◌≢◌, [], IfErr, IfOk, IsErrOf, None, Ok, OnErr, OnOk, Some, false, is_some};
 ghost use Rattle.std.specs.Io.KnownBytes.{Appends};
 ghost use Rattle.std.specs.List.{concat};
-ghost use Rattle.ll_channels.specs.Channels.{channel_of_name};
+ghost use Rattle.ll_item.specs.Channels.{channel_of_name};
 ghost use Rattle.ll_device.specs.Inward.{looked_at};
 ghost use Rattle.ll_link.specs.Answers.{unavailable_by};
 ghost use Rattle.ll_link.specs.Faults.{IsOwn, IsTrue};
@@ -19,7 +19,7 @@ use ll_hub::{Claim, Clock, HubAsked, HubFault, Ledgers, Pass, RoomFault, Sink, W
 use ll_record::ReadingFault;
 use ll_room::AskFault;
 use ll_session::Session;
-use ll_wire::{Answer, Unavailable};
+use ll_wire::Answer;
 use std::sync::Wait;
 use std::time::{self, Duration};
 
@@ -145,7 +145,7 @@ fn ask<L: Ledgers, P: Link, C: Clock, G, K: Sink, R: Wait + time::Clock>(
         return Ok(Some(Answer::Target(TargetFault::NotFound)));
     };
     let Ok(again) = want.copy() else {
-        return Ok(Some(Answer::Unavailable(Unavailable::Memory)));
+        return Ok(Some(Answer::Unavailable(AskFault::Memory)));
     };
     match ask_in(service, link, pass, session, channel, want, again) {
         Ok((answer, _)) => Ok(answer),
@@ -168,7 +168,7 @@ fn ask_in<L: Ledgers, P: Link, C: Clock, G, K: Sink, R: Wait + time::Clock>(
     ensures looked { IfOk result (λ told. P.inward link.new ≡ stays_or_ends (is_some told.0) (P.inward link.old)) }
     ensures unread { OnErr result (P.inward link.new ≡ P.inward link.old) }
     ensures other { IfErr result (λ fault. fault ≢ LinkFault.Endless) }
-    ensures full { IfOk result (λ told. told.0 ≡ Some (Answer.Unavailable Unavailable.RecordFull) → told.1 ≡ Some channel) }
+    ensures full { IfOk result (λ told. told.0 ≡ Some (Answer.Unavailable AskFault.RecordFull) → told.1 ≡ Some channel) }
 {
     let Some(first) = ask_once(service, link, pass, session, channel, want)? else {
         return Ok((None, None));
@@ -190,8 +190,8 @@ fn ask_again<L: Ledgers, P: Link, C: Clock, G, K: Sink, R: Wait + time::Clock>(
     ensures looked { IfOk result (λ told. P.inward link.new ≡ stays_or_ends (is_some told.0) (P.inward link.old)) }
     ensures unread { OnErr result (P.inward link.new ≡ P.inward link.old) }
     ensures other { IfErr result (λ fault. fault ≢ LinkFault.Endless) }
-    ensures kept { first ≢ Answer.Unavailable Unavailable.RecordFull → result ≡ Ok (Some first, None) }
-    ensures full { IfOk result (λ told. told.0 ≡ Some (Answer.Unavailable Unavailable.RecordFull) → told.1 ≡ Some channel) }
+    ensures kept { first ≢ Answer.Unavailable AskFault.RecordFull → result ≡ Ok (Some first, None) }
+    ensures full { IfOk result (λ told. told.0 ≡ Some (Answer.Unavailable AskFault.RecordFull) → told.1 ≡ Some channel) }
 {
     if !is_full(&first) {
         return Ok((Some(first), None));
@@ -203,9 +203,9 @@ fn ask_again<L: Ledgers, P: Link, C: Clock, G, K: Sink, R: Wait + time::Clock>(
 
 /// Whether a request is answered that the record of its channel is full.
 fn is_full(answer: &Answer) -> bool
-    ensures { Decides result (answer.now ≡ Answer.Unavailable Unavailable.RecordFull) }
+    ensures { Decides result (answer.now ≡ Answer.Unavailable AskFault.RecordFull) }
 {
-    matches!(answer, Answer::Unavailable(Unavailable::RecordFull))
+    matches!(answer, Answer::Unavailable(AskFault::RecordFull))
 }
 
 /// What a request of the channel at this place is answered. Where it has to wait, its reply is waited for.
@@ -249,7 +249,7 @@ fn hold<L: Ledgers, P: Link, C, G, K: Sink, R: Wait + time::Clock>(
     if fed.is_err() || session.shut() {
         service.hub.close(service.rt, claim);
         fed?;
-        return Ok(Some(Answer::Unavailable(Unavailable::Memory)));
+        return Ok(Some(Answer::Unavailable(AskFault::Memory)));
     }
     wait(service, link, pass, claim)
 }
@@ -290,15 +290,18 @@ fn unavailable(fault: HubFault) -> Result<Answer, LinkFault>
 {
     match fault {
         HubFault::Room {
-            fault: RoomFault::Ask(AskFault::RecordFull)
-            | RoomFault::Clock(ReadingFault::RecordFull),
+            fault: RoomFault::Ask(fault),
             ..
-        } => Ok(Answer::Unavailable(Unavailable::RecordFull)),
+        } => Ok(Answer::Unavailable(fault)),
+        HubFault::Room {
+            fault: RoomFault::Clock(ReadingFault::RecordFull),
+            ..
+        } => Ok(Answer::Unavailable(AskFault::RecordFull)),
         HubFault::Memory
         | HubFault::Room {
-            fault: RoomFault::Ask(AskFault::Memory) | RoomFault::Clock(ReadingFault::Memory),
+            fault: RoomFault::Clock(ReadingFault::Memory),
             ..
-        } => Ok(Answer::Unavailable(Unavailable::Memory)),
+        } => Ok(Answer::Unavailable(AskFault::Memory)),
         _ => Err(LinkFault::Hub),
     }
 }

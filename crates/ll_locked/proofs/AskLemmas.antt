@@ -2,10 +2,10 @@
 use Rattle.std.proofs.Common.{ℕ, List, [], ◌∷◌, ◌++◌, append_assoc, subst}
 use Rattle.ll_directive.specs.Targets.{WantValue}
 use Rattle.ll_record.specs.Recording.{IsRecorded, Recording, of_channel}
-use Rattle.ll_room.specs.Home.{IsSame}
+use Rattle.ll_room.specs.RoomValue.{IsSame}
 use Rattle.ll_verdict.specs.Events.{Event, Ask, Clock}
 use Rattle.ll_locked.specs.Section.{IsMadeBy, IsToldAfter}
-use Rattle.ll_locked.specs.declared.channel.Answer.{Answer}
+use Rattle.ll_locked.specs.declared.channel.AtOnce.{AtOnce}
 
 -- a reading that the clock shows is recorded
 pub record IsClocked (shows : ℕ → Type 0) (ms : ℕ) (r r1 : Recording) : Type 0 where
@@ -14,7 +14,7 @@ pub record IsClocked (shows : ℕ → Type 0) (ms : ℕ) (r r1 : Recording) : Ty
   pub same : IsSame r.room r1.room
 
 -- and then a request
-pub made-by : (shows : ℕ → Type 0) (ms : ℕ) (r r1 r2 : Recording) (want : WantValue) (a : Answer) → IsClocked shows ms r r1
+pub made-by : (shows : ℕ → Type 0) (ms : ℕ) (r r1 r2 : Recording) (want : WantValue) (a : AtOnce) → IsClocked shows ms r r1
     → ((es : List Event) → IsRecorded r1 es → IsRecorded r2 (es ++ Ask (of_channel r1.room.settings want) ∷ []))
     → ((es : List Event) → IsRecorded r1 es → IsToldAfter r1.room.settings es want a) → IsMadeBy shows r r2 want a
 made-by shows ms r r1 r2 want a k asked told = record {

@@ -6,7 +6,7 @@ use Rattle.ll_item.specs.Settings.{Configuration}
 use Rattle.ll_item.specs.declared.item.Item.{Item}
 use Rattle.ll_record.specs.Recording.{IsRecorded, Recording, is_record_full, record_refusal}
 use Rattle.ll_verdict.specs.Full.{full_by, is_full, refusal_after}
-use Rattle.ll_room.specs.Home.{Home, IsSame, Stands}
+use Rattle.ll_room.specs.RoomValue.{RoomValue, IsSame, Stands}
 use Rattle.ll_verdict.specs.Accepted.{refusal}
 use Rattle.ll_rendition.specs.Refusal.{first_refusal}
 use Rattle.ll_rendition.specs.declared.fault.PublishFault.{PublishFault}
@@ -14,17 +14,17 @@ use Rattle.ll_verdict.proofs.StepLemmas.{asks-snoc, items-snoc}
 use Rattle.ll_verdict.specs.Events.{Event, Ask, Publish, asks, counted, items, taken}
 use Rattle.ll_locked.specs.Section.{HasAsked, HasPublished, IsAsCounted}
 
-pub count-is : (h : Home) (es : List Event) → Stands h es → h.count ≡ length (items h.settings es)
-count-is h es st = ap (λ (h : Home). h.count) st
+pub count-is : (h : RoomValue) (es : List Event) → Stands h es → h.count ≡ length (items h.settings es)
+count-is h es st = ap (λ (h : RoomValue). h.count) st
 
-pub asks-is : (h : Home) (es : List Event) → Stands h es → h.asks ≡ asks es
-asks-is h es st = ap (λ (h : Home). h.asks) st
+pub asks-is : (h : RoomValue) (es : List Event) → Stands h es → h.asks ≡ asks es
+asks-is h es st = ap (λ (h : RoomValue). h.asks) st
 
-items-after : (h h2 : Home) (es : List Event) (e : Event) → Stands h2 (es ++ e ∷ []) → IsSame h h2 → h2.count ≡ length (taken h.settings (items h.settings es) e)
+items-after : (h h2 : RoomValue) (es : List Event) (e : Event) → Stands h2 (es ++ e ∷ []) → IsSame h h2 → h2.count ≡ length (taken h.settings (items h.settings es) e)
 items-after h h2 es e st2 same =
     count-is h2 (es ++ e ∷ []) st2 ∙ ap (λ c. length (items c (es ++ e ∷ []))) same.settings ∙ ap length (items-snoc h.settings es e)
 
-asks-after : (h h2 : Home) (es : List Event) (e : Event) → Stands h es → Stands h2 (es ++ e ∷ []) → h2.asks ≡ counted h.asks e
+asks-after : (h h2 : RoomValue) (es : List Event) (e : Event) → Stands h es → Stands h2 (es ++ e ∷ []) → h2.asks ≡ counted h.asks e
 asks-after h h2 es e st st2 = asks-is h2 (es ++ e ∷ []) st2 ∙ asks-snoc es e ∙ ap (λ n. counted n e) (sym (asks-is h es st))
 
 -- an event that is no item and no request

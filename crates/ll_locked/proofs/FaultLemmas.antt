@@ -5,8 +5,8 @@ use Rattle.ll_item.specs.Settings.{Configuration}
 use Rattle.ll_record.specs.Recording.{Recording}
 use Rattle.ll_record.specs.declared.fault.ReadingFault.{ReadingFault}
 use Rattle.ll_record.specs.declared.fault.ReadingFault.TheVariants as reading
-use Rattle.ll_room.specs.declared.fault.AskFault.{AskFault}
-use Rattle.ll_room.specs.declared.fault.AskFault.TheVariants as unasked
+use Rattle.ll_verdict.specs.declared.fault.AskFault.{AskFault}
+use Rattle.ll_verdict.specs.declared.fault.AskFault.TheVariants as unasked
 use Rattle.ll_locked.specs.Channel.{IsChannel}
 use Rattle.ll_locked.specs.Section.{IsRequestFault}
 use Rattle.ll_locked.specs.Told.{IsAskRefused, IsFilled, IsReadingRefused, is_filled}

@@ -2,7 +2,7 @@
 use Rattle.std.proofs.Common.{◌≡◌, ℕ, List, [], ◌∷◌, ◌++◌, true, refl, ap, ◌∙◌, sym, subst, arith}
 use Rattle.ll_room.proofs.TicketLemmas.{distinct_less}
 use Rattle.ll_room.specs.Answers as room
-use Rattle.ll_room.specs.Home.{AreDistinct, Home, IsSame, among, less, tickets}
+use Rattle.ll_room.specs.RoomValue.{AreDistinct, RoomValue, IsSame, among, less, tickets}
 use Rattle.ll_room.specs.Ticket.{Ticket}
 use Rattle.ll_room.specs.declared.asked.Closed.{Closed}
 use Rattle.ll_room.specs.declared.asked.Closed.TheVariants as given_up
@@ -27,13 +27,13 @@ last-of channel (n ∷ ns) (q ∷ ps) p e =
     let l = last-of channel ns ps p (cc) in
     record { before = n ∷ l.before; ticket = l.ticket; tickets_are = ap (λ ns. n ∷ ns) l.tickets_are; rest = grind (arith, l.rest); value = l.value }
 
-pub closes-last : (h : Home) (one p : Ticket) (ps qs : List Ticket) → ps ≡ parked_for h.channel (tickets h) → ps ≡ qs ++ one ∷ [] → p ≡ one
+pub closes-last : (h : RoomValue) (one p : Ticket) (ps qs : List Ticket) → ps ≡ parked_for h.channel (tickets h) → ps ≡ qs ++ one ∷ [] → p ≡ one
     → room.closed h p ≡ given_up.Done
 closes-last h one p ps qs each items same =
     let l = last-of h.channel (tickets h) qs one (sym items ∙ each) in
     closes h p l.ticket (same ∙ l.value) (ap (among l.ticket) l.tickets_are ∙ among_last l.ticket l.before)
 
-pub after-last : (h h2 : Home) (one p : Ticket) (ps qs : List Ticket) (r : Closed) → ps ≡ parked_for h.channel (tickets h) → AreDistinct (tickets h) → ps ≡ qs ++ one ∷ []
+pub after-last : (h h2 : RoomValue) (one p : Ticket) (ps qs : List Ticket) (r : Closed) → ps ≡ parked_for h.channel (tickets h) → AreDistinct (tickets h) → ps ≡ qs ++ one ∷ []
     → p ≡ one → r ≡ room.closed h p → (room.is_done r ≡ true → tickets h2 ≡ less p.ticket (tickets h)) → IsSame h h2
     → (qs ≡ parked_for h2.channel (tickets h2)) × AreDistinct (tickets h2)
 after-last h h2 one p ps qs r each once items same answer fewer kept =

@@ -3,7 +3,7 @@ use Rattle.std.proofs.Common.{◌≡◌, ℕ, ◌+◌, List, [], ◌∷◌, ◌+
 use Rattle.std.proofs.lemmas.Bool.Decides.{nat_tests}
 use Rattle.std.specs.List.{position_or_len, remove}
 use Rattle.ll_room.proofs.TicketLemmas.{absent}
-use Rattle.ll_room.specs.Home.{AreDistinct, among, less}
+use Rattle.ll_room.specs.RoomValue.{AreDistinct, among, less}
 use Rattle.ll_room.specs.Ticket.{Ticket}
 use Rattle.ll_locked.specs.Channel.{is_of, parked_for, ticket_at}
 

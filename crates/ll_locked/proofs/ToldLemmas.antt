@@ -11,8 +11,8 @@ use Rattle.ll_record.specs.Recording.{IsRecorded, Recording, is_record_full, of_
 use Rattle.ll_room.proofs.TicketLemmas.{distinct_less, distinct_more, newest_is_new}
 use Rattle.ll_room.specs.Answers as room
 use Rattle.ll_verdict.specs.Full.{full_by, refusal_after}
-use Rattle.ll_room.specs.Home.{AreDistinct, Home, IsSame, Stands, among, less, tickets}
-use Rattle.ll_room.specs.Mark.{Mark}
+use Rattle.ll_room.specs.RoomValue.{AreDistinct, RoomValue, IsSame, Stands, among, less, tickets}
+use Rattle.ll_room.specs.StampedValue.{StampedValue}
 use Rattle.ll_room.specs.Ticket.{Ticket}
 use Rattle.ll_room.specs.declared.asked.Asked.{Asked}
 use Rattle.ll_room.specs.declared.asked.Asked.TheVariants.{Now, Held}
@@ -34,7 +34,7 @@ use Rattle.ll_locked.proofs.CountLemmas.{asks-is, count-is, none_before}
 use Rattle.ll_locked.specs.Channel.{IsChannel, parked_for, ticket_at}
 use Rattle.ll_locked.specs.Section.{IsAsCounted, IsMet, IsToldAfter}
 use Rattle.ll_locked.specs.Told.{HasToWait, IsAccepted, IsAnswered, IsDecidedIn, IsHeld}
-use Rattle.ll_locked.specs.declared.channel.Answer.TheVariants as told
+use Rattle.ll_locked.specs.declared.channel.AtOnce.TheVariants as told
 
 -- ---- items
 
@@ -55,26 +55,26 @@ still-met r r1 place c seen counts same met =
     record { number = same.channel ∙ met.number; settings = same.settings ∙ met.settings; later = omega (arith, met.later, counts.publishes) }
 
 -- an answer at once
-record IsNow (h : Home) (want : WantValue) (o : Option Reply) (m : Mark Reply) : Type 0 where
+record IsNow (h : RoomValue) (want : WantValue) (o : Option Reply) (m : StampedValue Reply) : Type 0 where
   reply : o ≡ Some m.value
   room : m.room ≡ h.channel
   stamp : m.stamp ≡ stamp.Ask (h.asks + 1) want
 
-now_by : (h : Home) (want : WantValue) (o : Option Reply) (m : Mark Reply) → Now m ≡ room.asked h want o → IsNow h want o m
+now_by : (h : RoomValue) (want : WantValue) (o : Option Reply) (m : StampedValue Reply) → Now m ≡ room.asked h want o → IsNow h want o m
 now_by h want o m e = record { reply = grind arith; room = grind arith; stamp = grind arith }
 
-record IsWaiting (h : Home) (o : Option Reply) (p : Ticket) : Type 0 where
+record IsWaiting (h : RoomValue) (o : Option Reply) (p : Ticket) : Type 0 where
   reply : o ≡ None
   channel : p.channel ≡ h.channel
   ticket : p.ticket ≡ h.asks + 1
 
-waiting_by : (h : Home) (want : WantValue) (o : Option Reply) (p : Ticket) → Held p ≡ room.asked h want o → IsWaiting h o p
+waiting_by : (h : RoomValue) (want : WantValue) (o : Option Reply) (p : Ticket) → Held p ≡ room.asked h want o → IsWaiting h o p
 waiting_by h want o p e = record { reply = grind arith; channel = grind arith; ticket = grind arith }
 
-abbrev Answers : Home → WantValue → List Event → Asked → Type 0
+abbrev Answers : RoomValue → WantValue → List Event → Asked → Type 0
 Answers h want events a = a ≡ room.asked h want (at_once h.settings (held h.settings events) events want)
 
-pub asks-now : (r : Recording) (es : List Event) (place : ℕ) (c : Configuration) (seen : ℕ) (want : WantValue) (m : Mark Reply) → Stands r.room es → IsMet r place c seen
+pub asks-now : (r : Recording) (es : List Event) (place : ℕ) (c : Configuration) (seen : ℕ) (want : WantValue) (m : StampedValue Reply) → Stands r.room es → IsMet r place c seen
     → Answers r.room want es (Now m) → (m.room ≡ place) × (number : ℕ) × (m.stamp ≡ stamp.Ask number want) × IsAnswered c want seen number m.value
 asks-now r es place c seen want m st met a =
     let h = r.room in
@@ -87,7 +87,7 @@ asks-now r es place c seen want m st met a =
     )
 
 -- the same of every list of events that the room stands for
-pub tells-now : (h : Home) (es : List Event) (want : WantValue) (m : Mark Reply) → Stands h es → Answers h want es (Now m) → IsToldAfter h.settings es want (told.Now m)
+pub tells-now : (h : RoomValue) (es : List Event) (want : WantValue) (m : StampedValue Reply) → Stands h es → Answers h want es (Now m) → IsToldAfter h.settings es want (told.Now m)
 tells-now h es want m st a =
     let n = now_by h want (at_once h.settings (held h.settings es) es want) m a in
     (n.stamp ∙ ap (λ k. stamp.Ask (k + 1) want) (asks-is h es st), n.reply)
@@ -119,7 +119,7 @@ newest_found t before ss s e opened newest =
     ap (option_map entry_in) (found_last t ss s e (ap (among t) same ∙ newest_is_new t before newest))
 
 -- what a room's request comes to
-pub record IsMade (h : Home) (r2 : Recording) (es : List Event) (want : WantValue) (a : Asked) : Type 0 where
+pub record IsMade (h : RoomValue) (r2 : Recording) (es : List Event) (want : WantValue) (a : Asked) : Type 0 where
   pub answer : Answers h want es a
   pub recorded : IsRecorded r2 (es ++ Ask (of_channel h.settings want) ∷ [])
   pub same : IsSame h r2.room
@@ -127,12 +127,12 @@ pub record IsMade (h : Home) (r2 : Recording) (es : List Event) (want : WantValu
   pub newest : room.others a (tickets r2.room) ≡ tickets h
 
 -- what is kept and told of a request that is held
-pub record IsKept (h2 : Home) (p : Ticket) (c : Configuration) (es : List Event) (want : WantValue) : Type 0 where
+pub record IsKept (h2 : RoomValue) (p : Ticket) (c : Configuration) (es : List Event) (want : WantValue) : Type 0 where
   pub entry : Entry
   pub found_it : found p.ticket h2.slots ≡ Some entry
   pub waits : HasToWait c es want entry
 
-pub asks-held : (h : Home) (r2 : Recording) (es : List Event) (want : WantValue) (p : Ticket) → Stands h es → IsMade h r2 es want (Held p) → IsKept r2.room p h.settings es want
+pub asks-held : (h : RoomValue) (r2 : Recording) (es : List Event) (want : WantValue) (p : Ticket) → Stands h es → IsMade h r2 es want (Held p) → IsKept r2.room p h.settings es want
 asks-held h r2 es want p st made =
     let c = h.settings in
     let h2 = r2.room in
@@ -144,7 +144,7 @@ asks-held h r2 es want p st made =
     let others = map (settle c s.items s.time) (filter (stays (Ask want)) s.slots) in
     let ticket : s.asks + 1 ≡ p.ticket = ap (λ n. n + 1) (sym (asks-is h es st)) ∙ sym w.ticket in
     let slots : h2.slots ≡ others ++ slot ∷ [] =
-    ap (λ (h : Home). h.slots) made.recorded.stands ∙ ap (λ k. (state_of k (es ++ Ask (of_channel c want) ∷ [])).slots) made.same.settings
+    ap (λ (h : RoomValue). h.slots) made.recorded.stands ∙ ap (λ k. (state_of k (es ++ Ask (of_channel c want) ∷ [])).slots) made.same.settings
     ∙ ap (λ (s : State). s.slots) (state-snoc c es (Ask (of_channel c want))) ∙ ap (λ ss. others ++ ss) k.2 in
     record {
       entry = slot.entry;
@@ -154,7 +154,7 @@ asks-held h r2 es want p st made =
     }
 
 -- the request that is found under the ticket is that one
-pub held-entry : (h2 : Home) (p : Ticket) (c : Configuration) (es : List Event) (want : WantValue) (t : ℕ) (entry : Entry) → IsKept h2 p c es want → t ≡ p.ticket
+pub held-entry : (h2 : RoomValue) (p : Ticket) (c : Configuration) (es : List Event) (want : WantValue) (t : ℕ) (entry : Entry) → IsKept h2 p c es want → t ≡ p.ticket
     → Some entry ≡ found t h2.slots → HasToWait c es want entry
 held-entry h2 p c es want t entry k e is = let same : k.entry ≡ entry = cc in rw same at k.waits
 
@@ -222,7 +222,7 @@ pub the-value : (b : Bool) (p q : Ticket) → b ≡ true → Some q ≡ cond b (
 the-value b p q e h = cc
 
 -- a request that is given up
-pub closes : (h : Home) (p : Ticket) (t : ℕ) → p ≡ ticket_at h.channel t → among t (tickets h) ≡ true → room.closed h p ≡ given_up.Done
+pub closes : (h : RoomValue) (p : Ticket) (t : ℕ) → p ≡ ticket_at h.channel t → among t (tickets h) ≡ true → room.closed h p ≡ given_up.Done
 closes h p t is open_is = grind (arith, nat_tests, open-among t h.slots)
 
 -- ---- a reply that is handed out
@@ -249,17 +249,17 @@ its_reply b None h = grind arith
 its_reply b (Some v) h = (v, refl)
 
 -- what is handed out for a ready request
-pub record IsHanded (h : Home) (es : List Event) (entry : Entry) : Type 0 where
+pub record IsHanded (h : RoomValue) (es : List Event) (entry : Entry) : Type 0 where
   pub answer : Settled
   pub got : room.collected h (ticket_at h.channel entry.ticket) ≡ Got (room.collected_at h entry.ticket answer)
   pub decided : IsDecidedIn h.settings es entry (reply_of answer)
 
-pub handed : (h : Home) (es : List Event) (entry : Entry) → Stands h es → option_map entry_in (find (is_ready_at entry.ticket) h.slots) ≡ Some entry → IsHanded h es entry
+pub handed : (h : RoomValue) (es : List Event) (entry : Entry) → Stands h es → option_map entry_in (find (is_ready_at entry.ticket) h.slots) ≡ Some entry → IsHanded h es entry
 handed h es entry st ready =
     let c = h.settings in
     let t = entry.ticket in
     let s = ready_slot t (find (is_ready_at t) h.slots) entry ready in
-    let slots : h.slots ≡ map (slot_of c es) (open_requests c es) = ap (λ (h : Home). h.slots) st in
+    let slots : h.slots ≡ map (slot_of c es) (open_requests c es) = ap (λ (h : RoomValue). h.slots) st in
     let r = find_in (slot_of c es) (λ r. not (gone c es r)) (is_ready_at t) s.0 (held c es) (ap (find (is_ready_at t)) (sym slots) ∙ s.1) in
     let v = its_reply (s.0.entry.ticket == t) s.0.settled r.4 in
     let told : reply_at t h.slots ≡ Some v.0 = ap (option_and_then settled_in) s.1 ∙ v.1 in
@@ -279,7 +279,7 @@ handed h es entry st ready =
     }
 
 -- what is handed out is its reply
-pub tried : (h : Home) (es : List Event) (place : ℕ) (c : Configuration) (e : Entry) (m : Mark Reply) (k : IsHanded h es e) → Got m ≡ Got (room.collected_at h e.ticket k.answer)
+pub tried : (h : RoomValue) (es : List Event) (place : ℕ) (c : Configuration) (e : Entry) (m : StampedValue Reply) (k : IsHanded h es e) → Got m ≡ Got (room.collected_at h e.ticket k.answer)
     → h.channel ≡ place → h.settings ≡ c → (m.room ≡ place) × (m.stamp ≡ stamp.Collect e.ticket) × IsDecidedIn c es e m.value
 tried h es place c e m k is here same =
     let value : m ≡ room.collected_at h e.ticket k.answer = cc in

@@ -1,7 +1,7 @@
 -- For private contracts: what a channel's lock keeps.
 use Rattle.std.specs.Prelude.{◌≡◌, ℕ, ◌==◌, List, Bool, map}
 use Rattle.ll_record.specs.Recording.{IsRecorded, Recording}
-use Rattle.ll_room.specs.Home.{AreDistinct, tickets}
+use Rattle.ll_room.specs.RoomValue.{AreDistinct, tickets}
 use Rattle.ll_room.specs.Ticket.{Ticket}
 use Rattle.ll_verdict.specs.Events.{Event}
 

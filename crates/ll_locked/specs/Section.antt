@@ -7,8 +7,8 @@ use Rattle.ll_item.specs.declared.item.Item.{Item}
 use Rattle.ll_record.specs.Recording.{IsRecorded, Recording, of_channel, record_refusal}
 use Rattle.ll_record.specs.declared.fault.ReadingFault.{ReadingFault}
 use Rattle.ll_record.specs.declared.fault.ReadingFault.TheVariants as reading
-use Rattle.ll_room.specs.declared.fault.AskFault.{AskFault}
-use Rattle.ll_room.specs.declared.fault.AskFault.TheVariants as unasked
+use Rattle.ll_verdict.specs.declared.fault.AskFault.{AskFault}
+use Rattle.ll_verdict.specs.declared.fault.AskFault.TheVariants as unasked
 use Rattle.ll_room.specs.declared.stamped.Stamp.TheVariants as stamp
 use Rattle.ll_verdict.specs.Events.{Event, Ask, Clock, Close, Collect, asks}
 use Rattle.ll_verdict.specs.Verdict.{at_once, held}
@@ -16,8 +16,8 @@ use Rattle.ll_verdict.specs.declared.entry.Entry.{Entry}
 use Rattle.ll_rendition.specs.declared.fault.PublishFault.{PublishFault}
 use Rattle.ll_rendition.specs.declared.fault.PublishFault.TheVariants as refused
 use Rattle.ll_locked.specs.Told.{HasToWait, IsAnswered, IsDecided, IsDecidedIn, IsHeld, IsRefused, is_filled}
-use Rattle.ll_locked.specs.declared.channel.Answer.{Answer}
-use Rattle.ll_locked.specs.declared.channel.Answer.TheVariants.{Now, Held}
+use Rattle.ll_locked.specs.declared.channel.AtOnce.{AtOnce}
+use Rattle.ll_locked.specs.declared.channel.AtOnce.TheVariants.{Now, Held}
 use Rattle.ll_locked.specs.declared.channel.Tried.{Tried}
 use Rattle.ll_locked.specs.declared.channel.Tried.TheVariants as tried
 use Rattle.ll_locked.specs.declared.fault.HubFault.{HubFault}
@@ -90,18 +90,18 @@ IsRuleBy r events item fault = ⊤
 
 -- ---- a request
 
-abbrev pub IsAskedBy : ℕ → Configuration → ℕ → WantValue → Answer → Type 0
+abbrev pub IsAskedBy : ℕ → Configuration → ℕ → WantValue → AtOnce → Type 0
 IsAskedBy place c seen want (Now mark) =
     (mark.room ≡ place) × (number : ℕ) × (mark.stamp ≡ stamp.Ask number want) × IsAnswered c want seen number mark.value
 IsAskedBy place c seen want (Held entry) = IsHeld c want seen entry
 
 -- what a request is told that is made after these events of its channel
-abbrev pub IsToldAfter : Configuration → List Event → WantValue → Answer → Type 0
+abbrev pub IsToldAfter : Configuration → List Event → WantValue → AtOnce → Type 0
 IsToldAfter c events want (Now mark) = (mark.stamp ≡ stamp.Ask (asks events + 1) want) × (at_once c (held c events) events want ≡ Some mark.value)
 IsToldAfter c events want (Held entry) = HasToWait c events want entry
 
 -- a request is made after a reading, which is one that the clock shows
-pub record IsMadeBy (shows : ℕ → Type 0) (old new : Recording) (want : WantValue) (answer : Answer) : Type 0 where
+pub record IsMadeBy (shows : ℕ → Type 0) (old new : Recording) (want : WantValue) (answer : AtOnce) : Type 0 where
   pub ms : ℕ
   pub shown : shows ms
   pub recorded : (events : List Event) → IsRecorded old events → IsRecorded new (events ++ Clock ms ∷ Ask (of_channel old.room.settings want) ∷ [])

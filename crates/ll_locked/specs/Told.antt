@@ -7,7 +7,7 @@ use Rattle.ll_record.specs.Chunk.{ChunkValue, IsChunk, IsFaithful}
 use Rattle.ll_record.specs.Recording.{IsRecorded, Recording, is_record_full, record_refusal}
 use Rattle.ll_record.specs.declared.fault.ReadingFault.{ReadingFault}
 use Rattle.ll_record.specs.declared.fault.ReadingFault.TheVariants as reading
-use Rattle.ll_room.specs.declared.fault.AskFault.TheVariants as unasked
+use Rattle.ll_verdict.specs.declared.fault.AskFault.TheVariants as unasked
 use Rattle.ll_verdict.specs.Full.{is_full, refusal_after}
 use Rattle.ll_verdict.specs.Events.{Event, asks, items, time}
 use Rattle.ll_verdict.specs.State.{open_requests, slot_of}

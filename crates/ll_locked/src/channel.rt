@@ -8,7 +8,7 @@ ghost use Rattle.ll_locked.specs.Section as spec;
 ghost use Rattle.ll_locked.specs.Told.{IsAccepted, IsAskRefused, IsHandedOut, IsReadingRefused, IsTotal, IsTotalOf};
 ghost use Rattle.ll_record.specs.Chunk.{IsChunk, IsFaithful, emptied};
 ghost use Rattle.ll_record.specs.Recording.{GoesOn, IsRecorded};
-ghost use Rattle.ll_room.specs.Home.{among, home, less, tickets};
+ghost use Rattle.ll_room.specs.RoomValue.{among, room_value, less, tickets};
 ghost use Rattle.ll_room.specs.declared.stamped.Stamp.TheVariants as stamp;
 ghost use Rattle.ll_verdict.specs.Events.{Event, Clock, Publish};
 ghost use Rattle.ll_verdict.specs.State.{state_of};
@@ -37,7 +37,7 @@ pub struct Known<'a> {
 }
 
 /// What a request of a channel gets when it is made.
-pub enum Answer {
+pub enum AtOnce {
     /// Its reply.
     Now(Stamped<Reply>),
     /// It is held, as this one.
@@ -74,7 +74,7 @@ impl Model for Channel {
 impl Channel {
     /// The channel at this place, to which nothing has happened.
     pub fn new(alloc: Global, place: usize, settings: Settings) -> Result<Channel, AllocError>
-        ensures new { IfOk result (λ c. c ≡ record { room = home place settings (state_of settings []); at = 0; lines = []; calls = 0 }) }
+        ensures new { IfOk result (λ c. c ≡ record { room = room_value place settings (state_of settings []); at = 0; lines = []; calls = 0 }) }
         ensures recorded { IfOk result (λ c. IsRecorded c []) }
     {
         Ok(Channel {
@@ -134,7 +134,7 @@ impl Channel {
         known: Known<'_>,
         clock: &C,
         want: Want,
-    ) -> Result<Answer, HubFault>
+    ) -> Result<AtOnce, HubFault>
         requires { spec.IsMet self.old known.place known.settings.now known.seen }
         ensures asked { IfOk result (λ a. spec.IsAskedBy known.entry.place known.entry.settings.now known.entry.seen want a) }
         ensures made { IfOk result (λ a. spec.IsMadeBy (C.shows clock.now) self.old self.new want a) }
@@ -152,12 +152,12 @@ impl Channel {
             Err(fault) => return Err(known.refuses(RoomFault::Clock(fault))),
         }
         match self.recorder.ask(want) {
-            Ok(Asked::Now(reply)) => Ok(Answer::Now(reply)),
+            Ok(Asked::Now(reply)) => Ok(AtOnce::Now(reply)),
             Ok(Asked::Held(parked)) => {
                 let ticket = parked.ticket();
                 self.parked.push_back_reserved(parked.store());
                 match opened(&self.recorder, ticket) {
-                    Some(entry) => Ok(Answer::Held(entry)),
+                    Some(entry) => Ok(AtOnce::Held(entry)),
                     None => unreachable!(),
                 }
             }

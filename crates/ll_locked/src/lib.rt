@@ -6,7 +6,7 @@ mod clock;
 mod fault;
 mod total;
 
-pub use channel::{Answer, Channel, Known, Tried};
+pub use channel::{AtOnce, Channel, Known, Tried};
 pub use clock::Clock;
 pub use fault::{HubFault, RoomFault};
 pub use total::Total;

@@ -1,4 +1,5 @@
-use ll_directive::{Awaited, Skip, Want, read_target};
+use ll_directive::{Awaited, Want, read_target};
+use ll_item::SkipKind;
 use std::alloc::{AllocError, Global};
 
 pub(crate) fn add_answer(
@@ -25,9 +26,9 @@ fn add_want(told: &mut String, want: &Want) -> Result<(), AllocError> {
     add_names(told, want)?;
     add_awaited(told, want.awaited())?;
     told.push_str(match want.skip() {
-        Skip::No => "",
-        Skip::Yes => ", skip YES",
-        Skip::V2 => ", skip v2",
+        None => "",
+        Some(SkipKind::Yes) => ", skip YES",
+        Some(SkipKind::V2) => ", skip v2",
     })
 }
 

@@ -102,18 +102,18 @@ begin channel cam target=1 part=1000000 skip=6 window=9 renditions=hi first=1152
 /// A refused item changes nothing.
 pub(crate) const REFUSALS: &str = "window: step
 begin channel cam target=1 part=1000000 skip=6 window=9 renditions=hi first=7 start=0 => begun
-1000000f => (Ok(()), Ok(())) (1, 0, 8, 1000000, 0, Some(Place { number: 7, index: 0 }), false)
-1000000 => (Ok(()), Ok(())) (1, 1, 8, 2000000, 0, Some(Place { number: 8, index: 0 }), false)
-0 => (Err(BadDuration), Err(BadDuration)) (1, 1, 8, 2000000, 0, Some(Place { number: 8, index: 0 }), false)
-500000f => (Err(TooLong), Err(TooLong)) (1, 1, 8, 2000000, 0, Some(Place { number: 8, index: 0 }), false)
-b => (Err(OpenSegment), Err(OpenSegment)) (1, 1, 8, 2000000, 0, Some(Place { number: 8, index: 0 }), false)
-1f => (Ok(()), Ok(())) (2, 0, 9, 2000001, 0, Some(Place { number: 8, index: 1 }), false)
-b => (Ok(()), Ok(())) (2, 0, 9, 2000001, 0, Some(Place { number: 8, index: 1 }), false)
-1 => (Ok(()), Ok(())) (2, 1, 9, 2000002, 0, Some(Place { number: 9, index: 0 }), false)
-e => (Ok(()), Ok(())) (3, 0, 10, 2000002, 0, Some(Place { number: 9, index: 0 }), true)
-1000000f => (Err(Ended), Err(Ended)) (3, 0, 10, 2000002, 0, Some(Place { number: 9, index: 0 }), true)
-b => (Err(Ended), Err(Ended)) (3, 0, 10, 2000002, 0, Some(Place { number: 9, index: 0 }), true)
-e => (Err(Ended), Err(Ended)) (3, 0, 10, 2000002, 0, Some(Place { number: 9, index: 0 }), true)";
+1000000f => (Ok(()), Ok(())) (1, 0, 8, 1000000, 0, Some(PartPosition { number: 7, index: 0 }), false)
+1000000 => (Ok(()), Ok(())) (1, 1, 8, 2000000, 0, Some(PartPosition { number: 8, index: 0 }), false)
+0 => (Err(BadDuration), Err(BadDuration)) (1, 1, 8, 2000000, 0, Some(PartPosition { number: 8, index: 0 }), false)
+500000f => (Err(TooLong), Err(TooLong)) (1, 1, 8, 2000000, 0, Some(PartPosition { number: 8, index: 0 }), false)
+b => (Err(OpenSegment), Err(OpenSegment)) (1, 1, 8, 2000000, 0, Some(PartPosition { number: 8, index: 0 }), false)
+1f => (Ok(()), Ok(())) (2, 0, 9, 2000001, 0, Some(PartPosition { number: 8, index: 1 }), false)
+b => (Ok(()), Ok(())) (2, 0, 9, 2000001, 0, Some(PartPosition { number: 8, index: 1 }), false)
+1 => (Ok(()), Ok(())) (2, 1, 9, 2000002, 0, Some(PartPosition { number: 9, index: 0 }), false)
+e => (Ok(()), Ok(())) (3, 0, 10, 2000002, 0, Some(PartPosition { number: 9, index: 0 }), true)
+1000000f => (Err(Ended), Err(Ended)) (3, 0, 10, 2000002, 0, Some(PartPosition { number: 9, index: 0 }), true)
+b => (Err(Ended), Err(Ended)) (3, 0, 10, 2000002, 0, Some(PartPosition { number: 9, index: 0 }), true)
+e => (Err(Ended), Err(Ended)) (3, 0, 10, 2000002, 0, Some(PartPosition { number: 9, index: 0 }), true)";
 
 /// Adds what a test of an item and its publication answer.
 fn add_step(told: &mut String, window: &mut Window, word: &str) -> Result<(), AllocError> {

@@ -5,7 +5,7 @@ use Rattle.std.specs.Prelude.{flat_map}
 use Rattle.ll_line.specs.Line.{DateRange, Skipped, RenditionReport}
 use Rattle.ll_line.specs.Text.{line_text, text_of}
 use Rattle.ll_page.specs.Delta.{delta_by, ids_removed, ranges_left}
-use Rattle.ll_page.specs.declared.skip_kind.SkipKind.{SkipKind}
+use Rattle.ll_item.specs.declared.skip_kind.SkipKind.{SkipKind}
 use Rattle.ll_page.specs.Full.{full_playlist, printed, range_line, open_of, reports_of, hint_of}
 use Rattle.ll_page.specs.Pieces.{PiecesOf, pieces_of}
 use Rattle.ll_page.specs.Spelling.{spelling, head_lines, segment_lines, open_lines, last_line}

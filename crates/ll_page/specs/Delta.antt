@@ -9,8 +9,8 @@ use Rattle.ll_page.specs.Playlist.{Playlist}
 use Rattle.ll_page.specs.Spelling.{spelling}
 use Rattle.ll_page.specs.Full.{printed, range_line, full_playlist}
 use Rattle.ll_page.specs.View.{Seen, asked}
-use Rattle.ll_page.specs.declared.skip_kind.SkipKind.{SkipKind}
-use Rattle.ll_page.specs.declared.skip_kind.SkipKind.TheVariants.{Yes, V2}
+use Rattle.ll_item.specs.declared.skip_kind.SkipKind.{SkipKind}
+use Rattle.ll_item.specs.declared.skip_kind.SkipKind.TheVariants.{Yes, V2}
 
 -- the date ranges that a delta update lists: all of them, or those that it doesn't skip
 abbrev pub ranges_left : SkipKind → Rendition → List Listed

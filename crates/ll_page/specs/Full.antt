@@ -4,7 +4,7 @@ use Rattle.ll_time.specs.Times.{time_text}
 use Rattle.ll_item.specs.Settings.{Configuration, skip_limit}
 use Rattle.ll_item.specs.declared.item.Item.{Item}
 use Rattle.ll_item.specs.declared.part.Part.{Part}
-use Rattle.ll_window.specs.declared.place.Place.{Place}
+use Rattle.ll_window.specs.declared.part_position.PartPosition.{PartPosition}
 use Rattle.ll_window.specs.Compact.{Compact, unfinished}
 use Rattle.ll_window.specs.Rows.{Row}
 use Rattle.ll_item.specs.Told.{Listed}
@@ -65,7 +65,7 @@ sequence_of k [] = k.next_number
 sequence_of k (row ∷ more) = row.segment.number
 
 -- the report of a rendition, where it has a part and the playlist is not its own
-abbrev pub report_by : Bool → List ℕ → Option Place → List Report
+abbrev pub report_by : Bool → List ℕ → Option PartPosition → List Report
 report_by true name last = []
 report_by false name None = []
 report_by false name (Some place) = (record { uri = report_uri name; number = place.number; index = place.index }) ∷ []

@@ -1,12 +1,12 @@
 -- What a page tells: the text of one playlist, and what it is made of.
-use Rattle.std.specs.Prelude.{ℕ, List}
+use Rattle.std.specs.Prelude.{ℕ, zero, suc, List, Option, Some, None}
 use Rattle.ll_item.specs.Settings.{Configuration}
+use Rattle.ll_item.specs.declared.skip_kind.SkipKind.{SkipKind}
 use Rattle.ll_page.specs.Delta.{delta_text}
 use Rattle.ll_page.specs.Full.{full_text}
-use Rattle.ll_page.specs.View.{Seen}
-use Rattle.ll_page.specs.declared.form.Form.{Form}
-use Rattle.ll_page.specs.declared.form.Form.TheVariants.{Full, Delta}
+use Rattle.ll_page.specs.View.{Seen, asked}
 use Rattle.ll_rendition.specs.declared.rendition.Rendition.{Rendition}
+use Rattle.ll_window.specs.Compact.{skip_count}
 
 -- what is kept of all renditions of a channel at one moment
 pub record Moment : Type 0 where
@@ -19,15 +19,23 @@ pub record Moment : Type 0 where
 abbrev pub seen_of : Moment → ℕ → Seen
 seen_of m rendition = record { settings = m.settings; renditions = m.renditions; rendition = rendition; count = m.count }
 
--- what is seen, and which playlist of it is asked for
+-- what is seen, and which delta update of it is asked for; none for the full playlist
 pub record Paged : Type 0 where
   pub seen : Seen
-  pub form : Form
+  pub form : Option SkipKind
 
--- the text of the playlist in this form
-abbrev pub text_in : Form → Seen → List ℕ
-text_in Full v = full_text v
-text_in (Delta kind) v = delta_text kind v
+-- the text of the delta update of this kind, or of the full playlist for none
+abbrev pub text_in : Option SkipKind → Seen → List ℕ
+text_in None v = full_text v
+text_in (Some kind) v = delta_text kind v
 
 abbrev pub page_text : Paged → List ℕ
 page_text p = text_in p.form p.seen
+
+abbrev pub unless_none : ℕ → Option SkipKind → Option SkipKind
+unless_none zero form = None
+unless_none (suc n) form = form
+
+-- Which delta update the text is. None where it is a full playlist, also where an update was asked for and no segment is skipped.
+abbrev pub update_in : Paged → Option SkipKind
+update_in p = unless_none (skip_count (asked p.seen).window) p.form

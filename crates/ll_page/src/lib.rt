@@ -2,7 +2,6 @@
 //! draft-pantos-hls-rfc8216bis-13.
 #![tactic(auto)]
 
-mod form;
 mod laws;
 mod page;
 mod piece;
@@ -10,16 +9,14 @@ mod pieces;
 mod playlist;
 mod segment_lines;
 mod shown;
-mod skip_kind;
 mod view;
 
-pub use form::Form;
 pub use laws::worked_playlists;
+pub use ll_item::SkipKind;
 pub use ll_line::{Control, DateRange, DateTime, Line, PartLine, Report, Skip, Uri, push_line};
 pub use ll_rendition::Rendition;
 pub use page::Page;
 pub use pieces::Pieces;
 pub use playlist::{delta, full};
 pub use shown::Shown;
-pub use skip_kind::SkipKind;
 pub use view::View;

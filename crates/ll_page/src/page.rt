@@ -1,12 +1,12 @@
 ghost use Rattle.std.specs.Prelude.{◌≡◌, ◌<◌, ◌≤◌, IfOk, MatchOption, length};
-ghost use Rattle.ll_page.specs.Page.{page_text, seen_of};
+ghost use Rattle.ll_page.specs.Page.{page_text, seen_of, update_in};
 ghost use Rattle.ll_page.specs.Pieces.{pieces_of};
 
-use crate::form::Form;
 use crate::pieces::Pieces;
 use crate::playlist::written;
 use crate::shown::Shown;
 use crate::view::View;
+use ll_item::SkipKind;
 use std::alloc::{AllocError, Global};
 use std::marker::Model;
 use std::sync::ArcStr;
@@ -17,7 +17,7 @@ pub struct Page {
     text: ArcStr,
     shown: Shown,
     rendition: usize,
-    form: Form,
+    form: Option<SkipKind>,
 }
 
 impl Model for Page {
@@ -34,13 +34,14 @@ impl Model for Page {
 }
 
 impl Page {
-    /// The page of the rendition with this index, in this form, where there is that rendition. It shares what is shown and
+    /// The page of the rendition with this index, where there is that rendition: its delta update of this kind, or its full playlist for
+    /// none. It shares what is shown and
     /// copies nothing of it; it fails only where no memory is found.
     pub fn make(
         alloc: Global,
         shown: &Shown,
         rendition: usize,
-        form: Form,
+        form: Option<SkipKind>,
     ) -> Result<Option<Page>, AllocError>
         ensures { IfOk result (λ found. MatchOption found (length shown.now.renditions ≤ rendition)
             (λ p. (rendition < length shown.now.renditions) × (p ≡ record { seen = seen_of shown.now rendition; form = form }))) }
@@ -59,7 +60,7 @@ impl Page {
         shown: &Shown,
         rendition: usize,
         pieces: &Pieces,
-        form: Form,
+        form: Option<SkipKind>,
     ) -> Result<Option<Page>, AllocError>
         requires { rendition < length shown.now.renditions → pieces.now ≡ pieces_of (seen_of shown.now rendition) }
         ensures { IfOk result (λ found. MatchOption found (length shown.now.renditions ≤ rendition)
@@ -98,11 +99,18 @@ impl Page {
         self.rendition
     }
 
-    /// Which playlist of the rendition it is.
-    pub fn form(&self) -> Form
+    /// Which delta update of the rendition was asked for; none for the full playlist.
+    pub fn form(&self) -> Option<SkipKind>
         ensures { result ≡ self.now.form }
     {
         self.form
+    }
+
+    /// Which delta update its text is; none where it is a full playlist, also where an update was asked for and no segment is skipped.
+    pub fn update(&self) -> Option<SkipKind>
+        ensures { result ≡ update_in self.now }
+    {
+        self.view().update(self.form)
     }
 
     /// The view whose playlist it is.

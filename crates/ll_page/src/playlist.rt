@@ -8,15 +8,13 @@ ghost use Rattle.ll_line.specs.Line as says;
 ghost use Rattle.ll_line.specs.Text.{line_text, text_of};
 ghost use Rattle.ll_page.specs.Spelling.{spelling, head_lines, header_lines, last_line};
 
-use crate::form::Form;
 use crate::pieces::Pieces;
-use crate::skip_kind::SkipKind;
 use crate::view::View;
 use ll_attr::{Micros, Text};
-use ll_item::Settings;
+use ll_item::{Settings, SkipKind};
 use ll_line::{Control, Line, Report, Uri, push_line, push_skip};
 use ll_range::Ranges;
-use ll_window::{Place, Window};
+use ll_window::{PartPosition, Window};
 use std::alloc::{AllocError, Global};
 
 /// The text of the full Media Playlist of a view (section 4.4): the lines that tell of the channel, the date ranges in
@@ -27,7 +25,7 @@ pub fn full(alloc: Global, view: &View<'_>) -> Result<Text, AllocError>
     ensures { IfOk result (λ text. text ≡ full_text view.now) }
 {
     let pieces = Pieces::new(alloc).after(alloc, view)?;
-    Ok(Text::from_string(written(alloc, view, &pieces, Form::Full)?))
+    Ok(Text::from_string(written(alloc, view, &pieces, None)?))
 }
 
 /// The text of the delta update of a view (section 6.2.5.1): the lines of the full playlist, but that one line stands for
@@ -38,22 +36,22 @@ pub fn delta(alloc: Global, view: &View<'_>, kind: SkipKind) -> Result<Text, All
     ensures { IfOk result (λ text. text ≡ delta_text kind view.now) }
 {
     let pieces = Pieces::new(alloc).after(alloc, view)?;
-    Ok(Text::from_string(written(alloc, view, &pieces, Form::Delta(kind))?))
+    Ok(Text::from_string(written(alloc, view, &pieces, Some(kind))?))
 }
 
-/// The text of the playlist of a view in this form, joined from the pieces of the view.
+/// The text of the delta update of this kind of a view, or of its full playlist for none, joined from the pieces of the view.
 pub(crate) fn written(
     alloc: Global,
     view: &View<'_>,
     pieces: &Pieces,
-    form: Form,
+    form: Option<SkipKind>,
 ) -> Result<String, AllocError>
     requires { pieces.now ≡ pieces_of view.now }
     ensures { IfOk result (λ text. string_bytes text ≡ text_in form view.now) }
 {
     match form {
-        Form::Full => playlist(alloc, view, pieces, SkipKind::Yes, 0),
-        Form::Delta(kind) => playlist(alloc, view, pieces, kind, view.window().skip_count()),
+        None => playlist(alloc, view, pieces, SkipKind::Yes, 0),
+        Some(kind) => playlist(alloc, view, pieces, kind, view.window().skip_count()),
     }
 }
 
@@ -189,7 +187,7 @@ fn push_report(
     text: &mut String,
     is_asked: bool,
     name: &Text,
-    last: Option<Place>,
+    last: Option<PartPosition>,
 ) -> Result<(), AllocError>
     ensures { OnOk result (string_bytes text.new ≡ string_bytes text.old
         ++ text_of (map says.RenditionReport (report_by is_asked name.now last))) }

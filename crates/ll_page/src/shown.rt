@@ -16,19 +16,19 @@ use std::sync::Arc;
 /// pages may share it.
 #[derive(Drop)]
 pub struct Shown {
-    kept: Arc<Kept>,
+    kept: Arc<ChannelMoment>,
 }
 
 /// What is shared.
 #[derive(Drop)]
-struct Kept {
+struct ChannelMoment {
     alloc: Global,
     settings: Arc<Settings>,
     renditions: Vec<Rendition>,
     count: u64,
 }
 
-impl Model for Kept {
+impl Model for ChannelMoment {
     ghost use Rattle.std.specs.Arc.{arc_value};
     ghost use Rattle.ll_page.specs.Page.{Moment};
 
@@ -46,13 +46,13 @@ impl Model for Shown {
     ghost view = { λ s. arc_value s.kept };
 }
 
-impl Clone for Kept {
+impl Clone for ChannelMoment {
     ghost use Rattle.std.specs.Prelude.{◌≡◌};
 
     ghost is_clone = { λ k l. l ≡ k };
 
-    fn clone(&self) -> Result<Kept, AllocError> {
-        Ok(Kept {
+    fn clone(&self) -> Result<ChannelMoment, AllocError> {
+        Ok(ChannelMoment {
             alloc: self.alloc,
             settings: Arc::try_clone(&self.settings)?,
             renditions: Rendition::copy_all(self.alloc, &self.renditions)?,
@@ -61,7 +61,7 @@ impl Clone for Kept {
     }
 }
 
-impl Kept {
+impl ChannelMoment {
     /// Takes one more item into what is kept of its rendition.
     fn accept(&mut self, item: Item) -> Result<(), AllocError>
         requires allowed { refusal_at (slice_get self.old.renditions (rendition_of item)) item ≡ None }
@@ -88,7 +88,7 @@ impl Shown {
     ) -> Result<Shown, AllocError>
         ensures { IfOk result (λ s. s ≡ record { settings = arc_value settings.now; renditions = renditions.items; count = count }) }
     {
-        let kept = Kept {
+        let kept = ChannelMoment {
             alloc,
             settings: Arc::try_clone(settings)?,
             renditions,

@@ -1,7 +1,8 @@
 ghost use Rattle.std.specs.Prelude.{◌≡◌, ◌<◌, ◌≤◌, MatchOption, length};
+ghost use Rattle.ll_page.specs.Page.{update_in};
 ghost use Rattle.ll_page.specs.View.{asked};
 
-use ll_item::Settings;
+use ll_item::{Settings, SkipKind};
 use ll_range::Ranges;
 use ll_rendition::Rendition;
 use ll_window::Window;
@@ -91,6 +92,18 @@ impl<'a> View<'a> {
         ensures { result ≡ self.now.count }
     {
         self.count
+    }
+
+    /// Which delta update its playlist is where one of this kind is asked for, or none; none where it is a full playlist, also since no
+    /// segment is skipped.
+    pub fn update(&self, form: Option<SkipKind>) -> Option<SkipKind>
+        ensures { result ≡ update_in (record { seen = self.now; form = form }) }
+    {
+        let kind = form?;
+        if self.window().skip_count() == 0 {
+            return None;
+        }
+        Some(kind)
     }
 
     /// What is kept of the rendition that is asked for.

@@ -5,14 +5,14 @@ use Rattle.std.specs.declared.string.String.{String}
 use Rattle.ll_range.specs.Announced.{Announced}
 use Rattle.ll_item.specs.Told.{Listed, Removal}
 use Rattle.ll_range.specs.Kept.{listed_at, removal_at}
-use Rattle.ll_range.specs.declared.ranges.Stored.{Stored}
+use Rattle.ll_range.specs.declared.ranges.RangeEntry.{RangeEntry}
 
-same_entry : {A : Type 0} (p q : String A × Stored) → string_bytes q.0 ≡ string_bytes p.0 → q.1 ≡ p.1 → listed_at q ≡ listed_at p
+same_entry : {A : Type 0} (p q : String A × RangeEntry) → string_bytes q.0 ≡ string_bytes p.0 → q.1 ≡ p.1 → listed_at q ≡ listed_at p
 same_entry p q e f =
     ap (λ i. (let x : Listed = record { id = i; attributes = q.1.attributes; added = q.1.added } in x)) e
-    ∙ ap (λ (s : Stored). (let x : Listed = record { id = string_bytes p.0; attributes = s.attributes; added = s.added } in x)) f
+    ∙ ap (λ (s : RangeEntry). (let x : Listed = record { id = string_bytes p.0; attributes = s.attributes; added = s.added } in x)) f
 
-pub copied_listed : {A : Type 0} (es fs : List (String A × Stored)) → AllZip (λ p q. (string_bytes q.0 ≡ string_bytes p.0) × (q.1 ≡ p.1)) es fs → map listed_at fs ≡ map listed_at es
+pub copied_listed : {A : Type 0} (es fs : List (String A × RangeEntry)) → AllZip (λ p q. (string_bytes q.0 ≡ string_bytes p.0) × (q.1 ≡ p.1)) es fs → map listed_at fs ≡ map listed_at es
 copied_listed [] [] h = refl
 copied_listed [] (f ∷ fs) h = absurd h
 copied_listed (e ∷ es) [] h = absurd h

@@ -11,7 +11,7 @@ use Rattle.indexmap.proofs.CallerLemmas.{insert_entry-new}
 use Rattle.ll_item.specs.Told.{Listed, Removal, others, other_removals}
 use Rattle.ll_range.specs.Announced.{Announced, is_recent_one, was_removed}
 use Rattle.ll_range.specs.Kept.{listed_at, removal_at}
-use Rattle.ll_range.specs.declared.ranges.Stored.{Stored}
+use Rattle.ll_range.specs.declared.ranges.RangeEntry.{RangeEntry}
 
 map_by : {X Y : Type 0} (f : X → Y) (b : Bool) (x : X) (xs : List X) → map f (cond b (x ∷ xs) xs) ≡ cond b (f x ∷ map f xs) (map f xs)
 map_by f true x xs = refl
@@ -53,11 +53,11 @@ module _ {A V : Type 0} (id : List ℕ) where
   removed [] e = refl
   removed (x ∷ es) e = removed_by (has_id id x.0) x es (shift_remove_entry (has_id id) es) (all_others es) e refl (removed es)
 
-found_by : (b : Bool) (v : Stored) (o : Option Stored) (rest : Bool) → is_some o ≡ rest → is_some (cond b (Some v) o) ≡ (b || rest)
+found_by : (b : Bool) (v : RangeEntry) (o : Option RangeEntry) (rest : Bool) → is_some o ≡ rest → is_some (cond b (Some v) o) ≡ (b || rest)
 found_by true v o rest e = refl
 found_by false v o rest e = e
 
-pub listed_found : {A : Type 0} (id : List ℕ) (es : List (String A × Stored)) → is_some (lookup (has_id id) es) ≡ list_any (λ (range : Listed). bytes_eq id range.id) (map listed_at es)
+pub listed_found : {A : Type 0} (id : List ℕ) (es : List (String A × RangeEntry)) → is_some (lookup (has_id id) es) ≡ list_any (λ (range : Listed). bytes_eq id range.id) (map listed_at es)
 listed_found id [] = refl
 listed_found id (e ∷ es) = found_by (has_id id e.0) e.1 (lookup (has_id id) es) _ (listed_found id es)
 
@@ -103,7 +103,7 @@ no_one None e = refl
 no_one (Some v) e = absurd (cc)
 
 -- a date range of a new id
-pub listed_put : {A S : Type 0} (m : IndexMap (String A) Stored S) (new : List (String A × Stored)) (k : String A) (v : Stored) (id : List ℕ) → string_bytes k ≡ id
+pub listed_put : {A S : Type 0} (m : IndexMap (String A) RangeEntry S) (new : List (String A × RangeEntry)) (k : String A) (v : RangeEntry) (id : List ℕ) → string_bytes k ≡ id
     → list_any (λ (range : Listed). bytes_eq id range.id) (map listed_at m.entries) ≡ false → new ≡ insert_entry string_eq m.entries k v
     → map listed_at new ≡ map listed_at m.entries ++ (record { id = id; attributes = v.attributes; added = v.added }) ∷ []
 listed_put m new k v id same none is =
@@ -111,7 +111,7 @@ listed_put m new k v id same none is =
     ∙ ap (λ i. map listed_at m.entries ++ (let x : Listed = record { id = i; attributes = v.attributes; added = v.added } in x) ∷ []) same
 
 -- without a date range
-pub listed_left : {A : Type 0} (id : List ℕ) (es new : List (String A × Stored)) → new ≡ shift_remove_entry (has_id id) es → lookup (has_id id) new ≡ None
+pub listed_left : {A : Type 0} (id : List ℕ) (es new : List (String A × RangeEntry)) → new ≡ shift_remove_entry (has_id id) es → lookup (has_id id) new ≡ None
     → map listed_at new ≡ others id (map listed_at es)
 listed_left id es new is none =
     ap (map listed_at) (is ∙ removed id es (subst (λ es. lookup (has_id id) es ≡ None) is none)) ∙ map-filter listed_at (λ (range : Listed). not (bytes_eq id range.id)) es

@@ -5,10 +5,10 @@ use Rattle.ll_attr.specs.Attributes.{spelling}
 use Rattle.ll_attr.specs.declared.attributes.Attribute.{Attribute}
 use Rattle.ll_item.specs.Told.{Listed, Removal, others, other_removals}
 use Rattle.ll_range.specs.Announced.{Announced, recent_at}
-use Rattle.ll_range.specs.declared.ranges.Stored.{Stored}
+use Rattle.ll_range.specs.declared.ranges.RangeEntry.{RangeEntry}
 
 -- a date range that is kept under its id
-abbrev pub listed_at : {A : Type 0} → String A × Stored → Listed
+abbrev pub listed_at : {A : Type 0} → String A × RangeEntry → Listed
 listed_at entry = record { id = string_bytes entry.0; attributes = entry.1.attributes; added = entry.1.added }
 
 -- a removal that is kept under its id

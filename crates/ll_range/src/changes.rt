@@ -11,7 +11,7 @@ ghost use Rattle.ll_range.specs.Kept.{listed_at, removal_at, with_range, without
 ghost use Rattle.ll_item.specs.Told.{end_time, Listed, others, other_removals};
 
 use crate::attributes::{are_allowed, is_id};
-use crate::ranges::{RangeFault, Ranges, Stored};
+use crate::ranges::{RangeEntry, RangeFault, Ranges};
 use indexmap::IndexMap;
 use ll_attr::{AttrList, Text};
 use std::alloc::AllocError;
@@ -137,7 +137,7 @@ impl Ranges {
         ensures ok { OnOk result (self.new ≡ with_range end id.now attributes.now self.old) }
         ensures err { OnErr result (self.new ≡ self.old) }
     {
-        let added = Stored {
+        let added = RangeEntry {
             attributes: attributes.write()?,
             added: end,
         };
@@ -156,7 +156,11 @@ impl Ranges {
 }
 
 /// Puts a date range after the others.
-fn put(listed: &mut IndexMap<String, Stored>, id: &str, stored: Stored) -> Result<(), AllocError>
+fn put(
+    listed: &mut IndexMap<String, RangeEntry>,
+    id: &str,
+    stored: RangeEntry,
+) -> Result<(), AllocError>
     requires { list_any (λ (range : Listed). bytes_eq id.now range.id) (map listed_at listed.old.entries) ≡ false }
     ensures ok { OnOk result (map listed_at listed.new.entries ≡ map listed_at listed.old.entries
         ++ (record { id = id.now; attributes = stored.attributes; added = stored.added }) ∷ []) }
@@ -171,7 +175,7 @@ fn put(listed: &mut IndexMap<String, Stored>, id: &str, stored: Stored) -> Resul
 }
 
 /// Takes the date range of this id out. The others keep their order.
-fn take_out(listed: &mut IndexMap<String, Stored>, id: &str)
+fn take_out(listed: &mut IndexMap<String, RangeEntry>, id: &str)
     ensures { map listed_at listed.new.entries ≡ others id.now (map listed_at listed.old.entries) }
 {
     listed.shift_remove(id);

@@ -41,16 +41,16 @@ pub struct DateRange<'a> {
 
 /// What is kept of a date range beside its id.
 #[derive(Debug, Drop)]
-pub(crate) struct Stored {
+pub(crate) struct RangeEntry {
     pub(crate) attributes: Text,
     pub(crate) added: u64,
 }
 
-impl Clone for Stored {
+impl Clone for RangeEntry {
     ghost is_clone = { λ s t. t ≡ s };
 
-    fn clone(&self) -> Result<Stored, AllocError> {
-        Ok(Stored {
+    fn clone(&self) -> Result<RangeEntry, AllocError> {
+        Ok(RangeEntry {
             attributes: self.attributes.copy()?,
             added: self.added,
         })
@@ -62,7 +62,7 @@ impl Clone for Stored {
 #[derive(Debug, Drop)]
 pub struct Ranges {
     pub(crate) limit: u64,
-    pub(crate) listed: IndexMap<String, Stored>,
+    pub(crate) listed: IndexMap<String, RangeEntry>,
     /// How long all parts before each removal last, in microseconds.
     pub(crate) recent: IndexMap<String, u64>,
 }

@@ -7,7 +7,7 @@ use Rattle.ll_rooms.specs.Kept as rooms
 use Rattle.ll_rooms.specs.Kept.{Leads, answers_of}
 use Rattle.ll_rooms.specs.World as world
 use Rattle.ll_rooms.specs.World.{all_settings, count_end, silent}
-use Rattle.ll_rooms.specs.declared.answer.Answer.{Answer}
+use Rattle.ll_rooms.specs.declared.answer.ActAnswer.{ActAnswer}
 use Rattle.ll_replay.specs.Kept.{Keeps, Kept, Says, kept_script, told}
 use Rattle.ll_replay.specs.Script.{Script, asked_under, heard, reply_count, spelled}
 
@@ -17,7 +17,7 @@ hears k held n = record k { rooms = held; replies = n }
 up_to_end : (n m r e : ℕ) → n ≡ min (min r e + m) e → n ≡ min (r + m) e
 up_to_end n m r e h = omega arith
 
-answers_are : (held : rooms.Kept) (a : Option Answer) (w v : world.World) → w.answers ≡ [] → Leads held a w v → v.answers ≡ answers_of a
+answers_are : (held : rooms.Kept) (a : Option ActAnswer) (w v : world.World) → w.answers ≡ [] → Leads held a w v → v.answers ≡ answers_of a
 answers_are held a w v quiet leads = leads.answers ∙ ap (λ list. list ++ answers_of a) quiet
 
 stands : (held : rooms.Kept) (n : ℕ) (w : Script) (v : world.World) → held ≡ rooms.kept_world v → all_settings v ≡ all_settings w.rooms
@@ -26,7 +26,7 @@ stands held n w v is same count =
     ap₂ (λ h m. hears (kept_script w) h m) is count ∙ ap (λ s. record (hears (kept_script w) (rooms.kept_world v) (min (w.replies + reply_count v.answers) count_end)) { declared = s }) (sym same)
 
 -- what the rooms answered is written, and its replies are counted
-pub heard-says : (old : Kept) (held : rooms.Kept) (n : ℕ) (w : Script) (v : world.World) (a : Option Answer) (t : Option (Vec ℕ Global))
+pub heard-says : (old : Kept) (held : rooms.Kept) (n : ℕ) (w : Script) (v : world.World) (a : Option ActAnswer) (t : Option (Vec ℕ Global))
     → Keeps old w → Leads held a w.rooms v → all_settings v ≡ all_settings w.rooms → n ≡ min (old.replies + reply_count (answers_of a)) count_end
     → told t ≡ flat_map spelled (answers_of a) → Says (hears old held n) t w (heard w v)
 heard-says old held n w v a t k leads same count text =
@@ -67,7 +67,7 @@ heard-still w v quiet same =
     nothing = ap₂ (λ n text. record w { replies = n; text = text }) (no_more w.replies) (append-nil w.text)
 
 -- a call of the rooms, whose answer is counted and spelled
-pub heard-result : {E : Type 0} (r : Result (Option (Vec ℕ Global)) E) (old now new : Kept) (held : rooms.Kept) (step : world.World → world.World) (a : Option Answer)
+pub heard-result : {E : Type 0} (r : Result (Option (Vec ℕ Global)) E) (old now new : Kept) (held : rooms.Kept) (step : world.World → world.World) (a : Option ActAnswer)
     → old ≡ now → ((v : world.World) → all_settings (step v) ≡ all_settings v) → ((v : world.World) → old.rooms ≡ rooms.kept_world v → Leads held a v (step v))
     → new ≡ hears old held (min (old.replies + reply_count (answers_of a)) count_end) → IfOk r (λ t. told t ≡ flat_map spelled (answers_of a))
     → (w : Script) → Keeps now w → IfOk r (λ t. Says new t w (heard w (step w.rooms)))
@@ -78,7 +78,7 @@ heard-result (Ok t) old now new held step a same keeps leads is text w k =
     (heard-says old held (min (old.replies + reply_count (answers_of a)) count_end) w (step w.rooms) a t q (leads w.rooms (ap (λ (s : Kept). s.rooms) q.stands)) (keeps w.rooms) refl text)
 
 -- a request, whose answer is counted and spelled
-pub asked-result : {E : Type 0} (r : Result (Option (Vec ℕ Global)) E) (old now new : Kept) (held : rooms.Kept) (id : ℕ) (step : world.World → world.World) (a : Option Answer)
+pub asked-result : {E : Type 0} (r : Result (Option (Vec ℕ Global)) E) (old now new : Kept) (held : rooms.Kept) (id : ℕ) (step : world.World → world.World) (a : Option ActAnswer)
     → old ≡ now → ((v : world.World) → all_settings (step v) ≡ all_settings v) → ((v : world.World) → old.rooms ≡ rooms.kept_world v → Leads held a v (step v))
     → new ≡ record (hears old held (min (old.replies + reply_count (answers_of a)) count_end)) { last_id = Some id } → IfOk r (λ t. told t ≡ flat_map spelled (answers_of a))
     → (w : Script) → Keeps now w → IfOk r (λ t. Says new t w (asked_under (heard w (step w.rooms)) id))
@@ -102,7 +102,7 @@ unheard old now new held step same keeps leads is w k =
     within n r e h = omega arith
 
 -- a call of the rooms that tells of nothing
-pub still-result : {E : Type 0} (r : Result (Option (Vec ℕ Global)) E) (old now : Kept) (step : world.World → world.World) (a : Option Answer)
+pub still-result : {E : Type 0} (r : Result (Option (Vec ℕ Global)) E) (old now : Kept) (step : world.World → world.World) (a : Option ActAnswer)
     → old ≡ now → ((v : world.World) → old.rooms ≡ rooms.kept_world v → a ≡ None → step v ≡ v) → IfOk r (λ t. t ≡ None → a ≡ None)
     → (w : Script) → Keeps now w → IfOk r (λ t. t ≡ None → heard w (step w.rooms) ≡ w)
 still-result (Err e) old now step a same still none w k = tt

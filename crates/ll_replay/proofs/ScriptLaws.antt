@@ -15,8 +15,8 @@ use Rattle.ll_script.specs.declared.act.Act.TheVariants.{Declare, Offer, Refuse,
 use Rattle.ll_script.specs.declared.clock.ClockRefusal.TheVariants as refused
 use Rattle.ll_verdict.specs.declared.reply.Reply.{Reply}
 use Rattle.ll_rooms.specs.World as rooms
-use Rattle.ll_rooms.specs.declared.answer.Answer as answer
-use Rattle.ll_rooms.specs.declared.answer.Answer.TheVariants as said
+use Rattle.ll_rooms.specs.declared.answer.ActAnswer as answer
+use Rattle.ll_rooms.specs.declared.answer.ActAnswer.TheVariants as said
 use Rattle.ll_replay.specs.Kept.{met}
 use Rattle.ll_replay.specs.Script.{Script, Ending, LineTooLong, Lot, Marked, act, acted, counted, done, heard, line, line_by, makes_due, passed_on, passed_to, read_by, rest, rest_at, so_many, spelled, next_reply, turned, with_lots}
 
@@ -54,14 +54,14 @@ passed_to-follows : (lucks : List Luck) (w : Script) (o : Owner) (r : Reply) →
 passed_to-follows lucks w (Get id) r = follows_itself w w refl refl
 passed_to-follows lucks w (Connection n) r = turned-follows w (connection.reply lucks n r w.connections w.rooms)
 
-passed_on-follows : (lucks : List Luck) (w : Script) (a : answer.Answer) → Follows w (passed_on lucks w a)
+passed_on-follows : (lucks : List Luck) (w : Script) (a : answer.ActAnswer) → Follows w (passed_on lucks w a)
 passed_on-follows lucks w (said.Accepted count) = follows_itself w w refl refl
 passed_on-follows lucks w (said.Refused reason) = follows_itself w w refl refl
 passed_on-follows lucks w (said.ClockRefused reason) = follows_itself w w refl refl
 passed_on-follows lucks w (said.Replied o r) = passed_to-follows lucks w o r
 passed_on-follows lucks w (said.Unavailable o) = follows_itself w w refl refl
 
-all_passed_on-follow : (lucks : List Luck) (w : Script) (answers : List answer.Answer) → Follows w (fold (passed_on lucks) w answers)
+all_passed_on-follow : (lucks : List Luck) (w : Script) (answers : List answer.ActAnswer) → Follows w (fold (passed_on lucks) w answers)
 all_passed_on-follow lucks w [] = follows_itself w w refl refl
 all_passed_on-follow lucks w (a ∷ answers) =
     follows_both w (passed_on lucks w a) (fold (passed_on lucks) (passed_on lucks w a) answers) (passed_on-follows lucks w a) (all_passed_on-follow lucks (passed_on lucks w a) answers)

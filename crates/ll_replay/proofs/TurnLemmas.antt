@@ -19,8 +19,8 @@ use Rattle.ll_rooms.specs.Kept as rooms
 use Rattle.ll_rooms.specs.Kept.{Leads, answers_of}
 use Rattle.ll_rooms.specs.World as world
 use Rattle.ll_rooms.specs.World.{all_settings, count_end, silent}
-use Rattle.ll_rooms.specs.declared.answer.Answer as answer
-use Rattle.ll_rooms.specs.declared.answer.Answer.TheVariants as said
+use Rattle.ll_rooms.specs.declared.answer.ActAnswer as answer
+use Rattle.ll_rooms.specs.declared.answer.ActAnswer.TheVariants as said
 use Rattle.ll_replay.specs.Kept.{Keeps, Kept, Says, kept_script, told}
 use Rattle.ll_replay.specs.Script.{Script, heard, passed_on, reply_count, spelled, next_reply, turned}
 use Rattle.ll_replay.proofs.HeardLemmas.{hears, heard-result, heard-says, still-result}
@@ -127,10 +127,10 @@ end-says old now new n all held same ends is w k =
 
 -- ---- a reply that is due
 
-answers_are : (held : rooms.Kept) (a : Option answer.Answer) (w v : world.World) → w.answers ≡ [] → Leads held a w v → v.answers ≡ answers_of a
+answers_are : (held : rooms.Kept) (a : Option answer.ActAnswer) (w v : world.World) → w.answers ≡ [] → Leads held a w v → v.answers ≡ answers_of a
 answers_are held a w v quiet leads = leads.answers ∙ ap (λ list. list ++ answers_of a) quiet
 
-module _ (old now : Kept) (held : rooms.Kept) (place : ℕ) (a : Option answer.Answer) (same : old ≡ now)
+module _ (old now : Kept) (held : rooms.Kept) (place : ℕ) (a : Option answer.ActAnswer) (same : old ≡ now)
     (leads : (v : world.World) → old.rooms ≡ rooms.kept_world v → Leads held a v (world.next_reply place v)) where
   here : (w : Script) → Keeps now w → Keeps old w
   here w k = subst (λ s. Keeps s w) (sym same) k

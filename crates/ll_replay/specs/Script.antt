@@ -11,14 +11,14 @@ use Rattle.ll_script.specs.Answers.{clock_line, fault_line, reply_lines, unasked
 use Rattle.ll_script.specs.Lines.{acts, starved}
 use Rattle.ll_script.specs.declared.act.Act.{Act}
 use Rattle.ll_script.specs.declared.act.Act.TheVariants.{Declare, Offer, Refuse, Ask, Answer, Close, Clock, RefuseClock, Bytes, Drop}
-use Rattle.ll_script.specs.declared.ask.AskRefusal.TheVariants as unasked
+use Rattle.ll_verdict.specs.declared.fault.AskFault.TheVariants as unasked
 use Rattle.ll_script.specs.declared.clock.ClockRefusal.{ClockRefusal}
 use Rattle.ll_script.specs.declared.clock.ClockRefusal.TheVariants as refused
 use Rattle.ll_rooms.specs.World as rooms
 use Rattle.ll_verdict.specs.declared.reply.Reply.{Reply}
 use Rattle.ll_rooms.specs.World.{all_settings, silent}
-use Rattle.ll_rooms.specs.declared.answer.Answer as answer
-use Rattle.ll_rooms.specs.declared.answer.Answer.TheVariants as said
+use Rattle.ll_rooms.specs.declared.answer.ActAnswer as answer
+use Rattle.ll_rooms.specs.declared.answer.ActAnswer.TheVariants as said
 use Rattle.ll_replay.specs.declared.outcome.Summary.{Summary}
 
 -- what ends a script before its last line: the number of the line, from 1
@@ -82,7 +82,7 @@ unavailable_text (Get id) = unasked_line id unasked.RecordFull
 unavailable_text (Connection n) = []
 
 -- the lines of an answer
-abbrev pub spelled : answer.Answer → List ℕ
+abbrev pub spelled : answer.ActAnswer → List ℕ
 spelled (said.Accepted count) = ok_line count
 spelled (said.Refused reason) = no_line (refusal_of reason)
 spelled (said.ClockRefused reason) = clock_line (clock_refusal reason)
@@ -94,14 +94,14 @@ is_get (Get id) = true
 is_get (Connection n) = false
 
 -- whether it answers a `get` line
-abbrev pub is_reply : answer.Answer → Bool
+abbrev pub is_reply : answer.ActAnswer → Bool
 is_reply (said.Accepted count) = false
 is_reply (said.Refused reason) = false
 is_reply (said.ClockRefused reason) = false
 is_reply (said.Replied owner reply) = is_get owner
 is_reply (said.Unavailable owner) = is_get owner
 
-abbrev pub reply_count : List answer.Answer → ℕ
+abbrev pub reply_count : List answer.ActAnswer → ℕ
 reply_count answers = length (filter is_reply answers)
 
 -- what the rooms have come to, and what they answered is written
@@ -141,7 +141,7 @@ abbrev pub passed_to : List Luck → Owner → Reply → Script → Script
 passed_to lucks (Get id) reply w = w
 passed_to lucks (Connection n) reply w = turned w (connection.reply lucks n reply w.connections w.rooms)
 
-abbrev pub passed_on : List Luck → Script → answer.Answer → Script
+abbrev pub passed_on : List Luck → Script → answer.ActAnswer → Script
 passed_on lucks w (said.Accepted count) = w
 passed_on lucks w (said.Refused reason) = w
 passed_on lucks w (said.ClockRefused reason) = w

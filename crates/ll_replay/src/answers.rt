@@ -13,28 +13,28 @@ use crate::outcome::RunFault;
 use ll_device::{Failed, Writer, write_all};
 use ll_publish::{Refusal, no_line, ok_line};
 use ll_room::ClockFault;
-use ll_rooms::{Answer, Owner};
-use ll_script::{AskRefusal, ClockRefusal, clock_line, reply_lines, unasked_line};
-use ll_verdict::Reply;
+use ll_rooms::{ActAnswer, Owner};
+use ll_script::{ClockRefusal, clock_line, reply_lines, unasked_line};
+use ll_verdict::{AskFault, Reply};
 use std::alloc::{AllocError, Global};
 
 /// The reply that goes to a connection, and the connection's number; any other answer is handed back.
-pub(crate) fn to_connection(answer: Option<Answer>) -> Result<(u64, Reply), Option<Answer>>
-    ensures to { IfOk result (λ r. answer ≡ Some (Answer.Replied (Owner.Connection r.0) r.1)) }
+pub(crate) fn to_connection(answer: Option<ActAnswer>) -> Result<(u64, Reply), Option<ActAnswer>>
+    ensures to { IfOk result (λ r. answer ≡ Some (ActAnswer.Replied (Owner.Connection r.0) r.1)) }
     ensures other { IfErr result (λ a. (a ≡ answer) × ((lucks : List Luck) (w : Script) → fold (script.passed_on lucks) w (answers_of a) ≡ w)) }
 {
     match answer {
-        Some(Answer::Replied(Owner::Connection(number), reply)) => Ok((number, reply)),
+        Some(ActAnswer::Replied(Owner::Connection(number), reply)) => Ok((number, reply)),
         other => Err(other),
     }
 }
 
 /// How many replies an answer is: one or none. An answer to a connection is counted there.
-pub(crate) fn replies_in(answer: &Option<Answer>) -> u64
+pub(crate) fn replies_in(answer: &Option<ActAnswer>) -> u64
     ensures { result ≡ script.reply_count (answers_of answer.now) }
 {
     match answer {
-        Some(Answer::Replied(Owner::Get(_), _) | Answer::Unavailable(Owner::Get(_))) => 1,
+        Some(ActAnswer::Replied(Owner::Get(_), _) | ActAnswer::Unavailable(Owner::Get(_))) => 1,
         _ => 0,
     }
 }
@@ -48,7 +48,7 @@ pub(crate) fn refuse(alloc: Global, reason: Refusal) -> Result<Option<Vec<u8>>, 
 }
 
 /// The lines of what was answered, where something was.
-pub(crate) fn spell(alloc: Global, answer: Option<Answer>) -> Result<Option<Vec<u8>>, AllocError>
+pub(crate) fn spell(alloc: Global, answer: Option<ActAnswer>) -> Result<Option<Vec<u8>>, AllocError>
     ensures lines { IfOk result (λ t. told t ≡ flat_map script.spelled (answers_of answer)) }
     ensures nothing { IfOk result (λ t. t ≡ None → answer ≡ None) }
 {
@@ -59,18 +59,17 @@ pub(crate) fn spell(alloc: Global, answer: Option<Answer>) -> Result<Option<Vec<
 }
 
 /// The lines of an answer.
-pub(crate) fn spell_one(alloc: Global, answer: Answer) -> Result<String, AllocError>
+pub(crate) fn spell_one(alloc: Global, answer: ActAnswer) -> Result<String, AllocError>
     ensures { IfOk result (λ t. string_bytes t ≡ script.spelled answer) }
 {
     match answer {
-        Answer::Accepted(count) => ok_line(alloc, count),
-        Answer::Refused(reason) => no_line(alloc, Refusal::from(reason)),
-        Answer::ClockRefused(reason) => clock_line(alloc, clock_refusal(reason)),
-        Answer::Replied(Owner::Get(id), reply) => reply_lines(alloc, id, &reply),
-        Answer::Unavailable(Owner::Get(id)) => unasked_line(alloc, id, AskRefusal::RecordFull),
-        Answer::Replied(Owner::Connection(_), _) | Answer::Unavailable(Owner::Connection(_)) => {
-            Ok(String::new(alloc))
-        }
+        ActAnswer::Accepted(count) => ok_line(alloc, count),
+        ActAnswer::Refused(reason) => no_line(alloc, Refusal::from(reason)),
+        ActAnswer::ClockRefused(reason) => clock_line(alloc, clock_refusal(reason)),
+        ActAnswer::Replied(Owner::Get(id), reply) => reply_lines(alloc, id, &reply),
+        ActAnswer::Unavailable(Owner::Get(id)) => unasked_line(alloc, id, AskFault::RecordFull),
+        ActAnswer::Replied(Owner::Connection(_), _)
+        | ActAnswer::Unavailable(Owner::Connection(_)) => { Ok(String::new(alloc)) }
     }
 }
 

@@ -12,13 +12,12 @@ ghost use Rattle.ll_replay.specs.Cuts.{IsCutBetween};
 
 use crate::answers::{refuse, replies_in, say, spell, to_connection};
 use crate::outcome::{RunFault, Summary};
-use ll_channels::Channels;
 use ll_connection::{Connections, Sent};
 use ll_device::Writer;
 use ll_directive::{TargetFault, Want};
-use ll_item::{Item, Settings};
+use ll_item::{Channels, Item, Settings};
 use ll_publish::Refusal;
-use ll_rooms::{Answer, AskStop, Owner, Rooms};
+use ll_rooms::{ActAnswer, AskStop, Owner, Rooms};
 use ll_script::{Act, Acts, ClockRefusal, LineFault, clock_line, fault_line, read_line};
 use ll_verdict::Reply;
 use std::alloc::{AllocError, Global};
@@ -286,7 +285,7 @@ impl Driver {
     {
         let copy = settings.copy(self.alloc)?;
         self.rooms.declare(settings)?;
-        self.declared.declare(self.alloc, copy)?;
+        self.declared.add(self.alloc, copy)?;
         Ok(None)
     }
 
@@ -393,7 +392,7 @@ impl Driver {
     }
 
     /// Counts a reply, where an answer is one.
-    fn count(&mut self, answer: &Option<Answer>)
+    fn count(&mut self, answer: &Option<ActAnswer>)
         ensures { self.new ≡ record self.old { replies = min (self.old.replies + script.reply_count (answers_of answer.now)) rooms.count_end } }
     {
         self.replies = self.replies.saturating_add(replies_in(answer));

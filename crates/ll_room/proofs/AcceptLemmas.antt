@@ -27,7 +27,7 @@ use Rattle.ll_rendition.proofs.ItemLemmas.{its_refusal}
 use Rattle.ll_room.specs.Freed.{freed_slots, releases_at, with_item}
 use Rattle.ll_verdict.specs.Full.{full_by, is_full, refusal_after}
 use Rattle.ll_room.specs.Full.{refusal_by}
-use Rattle.ll_room.specs.Home.{Home, Stands, home}
+use Rattle.ll_room.specs.RoomValue.{RoomValue, Stands, room_value}
 use Rattle.ll_room.proofs.FreedLemmas.{each_freed}
 use Rattle.ll_room.proofs.IdleLemmas.{idle}
 use Rattle.ll_room.proofs.StandLemmas.{all_stay, stands-by}
@@ -49,12 +49,12 @@ refusal_as c xs i (Some k) e =
     ap (λ q. refusal_of q i) got.1 ∙ its_refusal c (own (rendition_of i) xs) i
     ∙ sym (ap (λ b. cond b (rendition_refusal c (own (rendition_of i) xs) i) (Some NoRendition)) got.0)
 
-refusal-of-home : (channel : ℕ) (c : Configuration) (es : List Event) (i : Item) → refusal_by (home channel c (state_of c es)) i ≡ refusal_after c es i
-refusal-of-home channel c es i =
+refusal-of-room : (channel : ℕ) (c : Configuration) (es : List Event) (i : Item) → refusal_by (room_value channel c (state_of c es)) i ≡ refusal_after c es i
+refusal-of-room channel c es i =
     ap (λ f. first_refusal f (full_by (is_full (length es)))) (refusal_as c (items c es) i (slice_get (renditions c (items c es)) (rendition_of i)) refl)
 
-pub refusal-told : (h : Home) (es : List Event) (i : Item) → Stands h es → refusal_by h i ≡ refusal_after h.settings es i
-refusal-told h es i stands = ap (λ x. refusal_by x i) stands ∙ refusal-of-home h.channel h.settings es i
+pub refusal-told : (h : RoomValue) (es : List Event) (i : Item) → Stands h es → refusal_by h i ≡ refusal_after h.settings es i
+refusal-told h es i stands = ap (λ x. refusal_by x i) stands ∙ refusal-of-room h.channel h.settings es i
 
 -- an item that nothing refuses
 
@@ -101,7 +101,7 @@ its_page : (c : Configuration) (xs : List Item) (i : Item) (w : Wanted) → w.re
 its_page c xs i w e =
     ap₂ (λ n r. page_in (pages_with c (renditions c (xs ++ i ∷ [])) n r) w.form) (length-append xs (i ∷ [])) e
 
-abbrev home_on : ℕ → Configuration → State → List Rendition → ℕ → List Slot → Home
+abbrev home_on : ℕ → Configuration → State → List Rendition → ℕ → List Slot → RoomValue
 home_on channel c s kept_now count slots = record {
   channel = channel;
   settings = c;
@@ -131,7 +131,7 @@ slots_are c es i low none =
 
 item-next : (channel : ℕ) (c : Configuration) (es : List Event) (i : Item) (kept_now : List Rendition) → 1 ≤ c.target → refusal c (items c es) i ≡ None
     → kept_now ≡ renditions c (items c es ++ i ∷ [])
-    → with_item (home channel c (state_of c es)) kept_now i ≡ home channel c (next c (state_of c es) (Publish i))
+    → with_item (room_value channel c (state_of c es)) kept_now i ≡ room_value channel c (next c (state_of c es) (Publish i))
 item-next channel c es i kept_now low none on =
     let xs = items c es in
     let s = state_of c es in
@@ -140,13 +140,13 @@ item-next channel c es i kept_now low none on =
     ∙ ap₂ (home_on channel c s (renditions c (xs ++ i ∷ []))) (sym (length-append xs (i ∷ []))) (slots_are c es i low none)
     ∙ ap (λ ys. home_on channel c s (renditions c ys) (length ys) (map (settle c ys (time es)) (filter (stays (Publish i)) s.slots) ++ [])) (sym (taken_is c xs i none))
 
-pub publish-stands : (h new : Home) (es : List Event) (i : Item) (kept_now : List Rendition) → Stands h es → 1 ≤ h.settings.target → refusal_by h i ≡ None
+pub publish-stands : (h new : RoomValue) (es : List Event) (i : Item) (kept_now : List Rendition) → Stands h es → 1 ≤ h.settings.target → refusal_by h i ≡ None
     → GoOn h.renditions kept_now i → new ≡ with_item h kept_now i → Stands new (es ++ Publish i ∷ [])
 publish-stands h new es i kept_now stands low free on is =
     let c = h.settings in
     let none : refusal c (items c es) i ≡ None = first_none (refusal c (items c es) i) (full_by (is_full (length es))) (sym (refusal-told h es i stands) ∙ free) in
-    let whole : new ≡ home h.channel c (next c (state_of c es) (Publish i)) =
+    let whole : new ≡ room_value h.channel c (next c (state_of c es) (Publish i)) =
     is ∙ ap (λ x. with_item x kept_now i) stands
-    ∙ item-next h.channel c es i kept_now low none (on c (items c es) (ap (λ (x : Home). x.renditions) stands)) in
-    stands-by new c es (Publish i) (ap (λ (x : Home). x.settings) whole)
-    (whole ∙ ap (λ n. home n c (next c (state_of c es) (Publish i))) (sym (ap (λ (x : Home). x.channel) whole)))
+    ∙ item-next h.channel c es i kept_now low none (on c (items c es) (ap (λ (x : RoomValue). x.renditions) stands)) in
+    stands-by new c es (Publish i) (ap (λ (x : RoomValue). x.settings) whole)
+    (whole ∙ ap (λ n. room_value n c (next c (state_of c es) (Publish i))) (sym (ap (λ (x : RoomValue). x.channel) whole)))

@@ -22,17 +22,17 @@ use Rattle.ll_verdict.specs.declared.reply.Reply.{Reply}
 use Rattle.ll_verdict.specs.declared.reply.Reply.TheVariants as now
 use Rattle.ll_verdict.specs.declared.wanted.Wanted.{Wanted}
 use Rattle.ll_room.specs.Decided.{page_now}
-use Rattle.ll_room.specs.Home.{Home, Stands, home, less, tickets}
+use Rattle.ll_room.specs.RoomValue.{RoomValue, Stands, room_value, less, tickets}
 use Rattle.ll_room.specs.Kept.{with_answer, with_held}
 use Rattle.ll_room.proofs.IdleLemmas.{idle, same_slots}
 use Rattle.ll_room.proofs.KeptLemmas.{newest}
 use Rattle.ll_room.proofs.StandLemmas.{all_stay, stands-by}
 
 -- the state that a room stands for
-abbrev of : Home → List Event → State
+abbrev of : RoomValue → List Event → State
 of h es = state_of h.settings es
 
-abbrev with_reply : Home → Option Reply → Option Wanted → Home
+abbrev with_reply : RoomValue → Option Reply → Option Wanted → RoomValue
 with_reply h (Some reply) a = with_answer h
 with_reply h None (Some a) = with_held h a
 with_reply h None None = with_answer h
@@ -45,7 +45,7 @@ stay c es w low =
     ∙ same_slots c (items c es) (time es) (state_of c es).slots (idle c es low)
 
 asked-next : (channel : ℕ) (c : Configuration) (es : List Event) (w : WantValue) (o : Option Reply) → 1 ≤ c.target → answer_of c (state_of c es) w ≡ o
-    → with_reply (home channel c (state_of c es)) o (wanted_of c w) ≡ home channel c (next c (state_of c es) (Ask w))
+    → with_reply (room_value channel c (state_of c es)) o (wanted_of c w) ≡ room_value channel c (next c (state_of c es) (Ask w))
 asked-next channel c es w o low e =
     by_wanted o (wanted_of c w)
     ∙ ap (λ x. finish (slot_by c x (state_of c es) (wanted_of c w))) (sym e)
@@ -54,25 +54,25 @@ asked-next channel c es w o low e =
     before : List Slot
     before = (state_of c es).slots
 
-    finish_on : List Slot → List Slot → Home
-    finish_on old more = record (home channel c (state_of c es)) { asks = (state_of c es).asks + 1; slots = old ++ more; events = (state_of c es).events + 1 }
+    finish_on : List Slot → List Slot → RoomValue
+    finish_on old more = record (room_value channel c (state_of c es)) { asks = (state_of c es).asks + 1; slots = old ++ more; events = (state_of c es).events + 1 }
 
-    finish : List Slot → Home
+    finish : List Slot → RoomValue
     finish more = finish_on before more
 
-    by_wanted : (o : Option Reply) (a : Option Wanted) → with_reply (home channel c (state_of c es)) o a ≡ finish (slot_by c o (state_of c es) a)
-    by_wanted (Some reply) a = ap (λ ss. record (with_answer (home channel c (state_of c es))) { slots = ss }) (sym (append-nil before))
+    by_wanted : (o : Option Reply) (a : Option Wanted) → with_reply (room_value channel c (state_of c es)) o a ≡ finish (slot_by c o (state_of c es) a)
+    by_wanted (Some reply) a = ap (λ ss. record (with_answer (room_value channel c (state_of c es))) { slots = ss }) (sym (append-nil before))
     by_wanted None (Some a) = refl
-    by_wanted None None = ap (λ ss. record (with_answer (home channel c (state_of c es))) { slots = ss }) (sym (append-nil before))
+    by_wanted None None = ap (λ ss. record (with_answer (room_value channel c (state_of c es))) { slots = ss }) (sym (append-nil before))
 
-pub asked-stands : (h new : Home) (es : List Event) (w : WantValue) (o : Option Reply) → Stands h es → 1 ≤ h.settings.target
+pub asked-stands : (h new : RoomValue) (es : List Event) (w : WantValue) (o : Option Reply) → Stands h es → 1 ≤ h.settings.target
     → answer_of h.settings (of h es) w ≡ o → new ≡ with_reply h o (wanted_of h.settings w) → Stands new (es ++ Ask w ∷ [])
 asked-stands h new es w o stands low e is =
-    let whole : new ≡ home h.channel h.settings (next h.settings (of h es) (Ask w)) =
+    let whole : new ≡ room_value h.channel h.settings (next h.settings (of h es) (Ask w)) =
     is ∙ ap (λ x. with_reply x o (wanted_of h.settings w)) stands ∙ asked-next h.channel h.settings es w o low e in
-    let settings : new.settings ≡ h.settings = ap (λ (x : Home). x.settings) whole in
-    let channel : new.channel ≡ h.channel = ap (λ (x : Home). x.channel) whole in
-    stands-by new h.settings es (Ask w) settings (whole ∙ ap (λ n. home n h.settings (next h.settings (of h es) (Ask w))) (sym channel))
+    let settings : new.settings ≡ h.settings = ap (λ (x : RoomValue). x.settings) whole in
+    let channel : new.channel ≡ h.channel = ap (λ (x : RoomValue). x.channel) whole in
+    stands-by new h.settings es (Ask w) settings (whole ∙ ap (λ n. room_value n h.settings (next h.settings (of h es) (Ask w))) (sym channel))
 
 -- why it is answered so
 
@@ -97,16 +97,16 @@ pub too_far : (c : Configuration) (s : State) (w : WantValue) (a : Wanted) → w
 too_far c s w a e t f = known c s w a false true (nat_le waiting_limit (waiting_in s.slots)) e t f refl
 
 -- the page is that of the state
-pub page-is : (h : Home) (es : List Event) (a : Wanted) → Stands h es → page_now h a ≡ page_of h.settings (items h.settings es) a
-page-is h es a stands = ap (λ (x : Home). page_now x a) stands
+pub page-is : (h : RoomValue) (es : List Event) (a : Wanted) → Stands h es → page_now h a ≡ page_of h.settings (items h.settings es) a
+page-is h es a stands = ap (λ (x : RoomValue). page_now x a) stands
 
 -- the window of a rendition
-pub window-is : (h : Home) (es : List Event) (r : ℕ) (k : Rendition) → Stands h es → slice_get h.renditions r ≡ Some k
+pub window-is : (h : RoomValue) (es : List Event) (r : ℕ) (k : Rendition) → Stands h es → slice_get h.renditions r ≡ Some k
     → k.window ≡ compact h.settings (own r (items h.settings es))
 window-is h es r k stands e =
-    ap (λ (x : Rendition). x.window) (rendition-got h.settings (items h.settings es) r k (sym (ap (λ (x : Home). slice_get x.renditions r) stands) ∙ e)).1
+    ap (λ (x : Rendition). x.window) (rendition-got h.settings (items h.settings es) r k (sym (ap (λ (x : RoomValue). slice_get x.renditions r) stands) ∙ e)).1
 
-told-at : {B : Type 0} (h : Home) (es : List Event) (r : ℕ) (k : Rendition) (b : B) (f : Configuration → List Item → B) → Stands h es
+told-at : {B : Type 0} (h : RoomValue) (es : List Event) (r : ℕ) (k : Rendition) (b : B) (f : Configuration → List Item → B) → Stands h es
     → slice_get h.renditions r ≡ Some k → ((its : List Item) → k.window ≡ compact k.window.settings its → b ≡ f k.window.settings its)
     → b ≡ f h.settings (own r (items h.settings es))
 told-at h es r k b f stands got told =
@@ -116,39 +116,39 @@ told-at h es r k b f stands got told =
     told own_items (w ∙ ap (λ d. compact d own_items) (sym same)) ∙ ap (λ d. f d own_items) same
 
 -- what a rendition tells is what the events tell
-pub told-there : (h : Home) (es : List Event) (a : Wanted) (k : Rendition) (b : Bool) → Stands h es → slice_get h.renditions a.rendition ≡ Some k
+pub told-there : (h : RoomValue) (es : List Event) (a : Wanted) (k : Rendition) (b : Bool) → Stands h es → slice_get h.renditions a.rendition ≡ Some k
     → ((its : List Item) → k.window ≡ compact k.window.settings its → b ≡ (verdict.holds k.window.settings its a.awaited || ended its))
     → b ≡ is_there h.settings (items h.settings es) a
 unfolding is_there
 told-there h es a k b stands got told = told-at h es a.rendition k b (λ c its. verdict.holds c its a.awaited || ended its) stands got told
 
-pub told-far : (h : Home) (es : List Event) (a : Wanted) (k : Rendition) (b : Bool) → Stands h es → slice_get h.renditions a.rendition ≡ Some k
+pub told-far : (h : RoomValue) (es : List Event) (a : Wanted) (k : Rendition) (b : Bool) → Stands h es → slice_get h.renditions a.rendition ≡ Some k
     → ((its : List Item) → k.window ≡ compact k.window.settings its → b ≡ verdict.far k.window.settings its a.awaited)
     → b ≡ verdict.far h.settings (own a.rendition (items h.settings es)) a.awaited
 told-far h es a k b stands got told = told-at h es a.rendition k b (λ c its. verdict.far c its a.awaited) stands got told
 
-pub got-at : (h i : Home) (r : ℕ) (k : Rendition) → i ≡ h → r < length h.renditions → k ≡ slice_index_or i.renditions r k → slice_get h.renditions r ≡ Some k
+pub got-at : (h i : RoomValue) (r : ℕ) (k : Rendition) → i ≡ h → r < length h.renditions → k ≡ slice_index_or i.renditions r k → slice_get h.renditions r ≡ Some k
 got-at h i r k e within at =
-    ap (λ (x : Home). slice_get x.renditions r) (sym e)
-    ∙ slice_get_read i.renditions (length i.renditions) r k refl (subst (λ (x : Home). r < length x.renditions) (sym e) within) at
+    ap (λ (x : RoomValue). slice_get x.renditions r) (sym e)
+    ∙ slice_get_read i.renditions (length i.renditions) r k refl (subst (λ (x : RoomValue). r < length x.renditions) (sym e) within) at
 
-pub low : (h i : Home) → i ≡ h → 1 ≤ i.settings.target → 1 ≤ h.settings.target
-low h i e n = subst (λ (x : Home). 1 ≤ x.settings.target) e n
+pub low : (h i : RoomValue) → i ≡ h → 1 ≤ i.settings.target → 1 ≤ h.settings.target
+low h i e n = subst (λ (x : RoomValue). 1 ≤ x.settings.target) e n
 
 -- no ticket of an open request is the next one
-pub newest-held : (h i new : Home) (a : Wanted) → i ≡ h → AreBelow (i.asks + 1) i.slots → new ≡ with_held h a → less (h.asks + 1) (tickets new) ≡ tickets h
+pub newest-held : (h i new : RoomValue) (a : Wanted) → i ≡ h → AreBelow (i.asks + 1) i.slots → new ≡ with_held h a → less (h.asks + 1) (tickets new) ≡ tickets h
 newest-held h i new a e below is =
-    ap (λ (x : Home). less (h.asks + 1) (tickets x)) is
+    ap (λ (x : RoomValue). less (h.asks + 1) (tickets x)) is
     ∙ ap (less (h.asks + 1)) (map-append ticket_in h.slots _)
-    ∙ newest (h.asks + 1) h.slots (subst (λ (x : Home). AreBelow (x.asks + 1) x.slots) e below)
+    ∙ newest (h.asks + 1) h.slots (subst (λ (x : RoomValue). AreBelow (x.asks + 1) x.slots) e below)
 
-pub held-stands : (h new : Home) (es : List Event) (w : WantValue) (a : Wanted) → Stands h es → 1 ≤ h.settings.target → wanted_of h.settings w ≡ Some a
+pub held-stands : (h new : RoomValue) (es : List Event) (w : WantValue) (a : Wanted) → Stands h es → 1 ≤ h.settings.target → wanted_of h.settings w ≡ Some a
     → answer_of h.settings (of h es) w ≡ None → new ≡ with_held h a → Stands new (es ++ Ask w ∷ [])
 held-stands h new es w a stands low e none is = asked-stands h new es w None stands low none (is ∙ ap (with_reply h None) (sym e))
 
-pub is-busy : (h i : Home) (es : List Event) (b : Bool) → Stands h es → i ≡ h → b ≡ nat_le waiting_limit (waiting_in i.slots)
+pub is-busy : (h i : RoomValue) (es : List Event) (b : Bool) → Stands h es → i ≡ h → b ≡ nat_le waiting_limit (waiting_in i.slots)
     → nat_le waiting_limit (waiting_in (state_of h.settings es).slots) ≡ b
-is-busy h i es b stands e is = sym (is ∙ ap (λ (x : Home). nat_le waiting_limit (waiting_in x.slots)) (e ∙ stands))
+is-busy h i es b stands e is = sym (is ∙ ap (λ (x : RoomValue). nat_le waiting_limit (waiting_in x.slots)) (e ∙ stands))
 
-pub few-now : (h i : Home) (b : Bool) → i ≡ h → b ≡ nat_le waiting_limit (waiting_in i.slots) → b ≡ false → waiting_in h.slots < waiting_limit
-few-now h i b e is no_more = grind (arith, nat_tests, ap (λ (x : Home). nat_le waiting_limit (waiting_in x.slots)) e)
+pub few-now : (h i : RoomValue) (b : Bool) → i ≡ h → b ≡ nat_le waiting_limit (waiting_in i.slots) → b ≡ false → waiting_in h.slots < waiting_limit
+few-now h i b e is no_more = grind (arith, nat_tests, ap (λ (x : RoomValue). nat_le waiting_limit (waiting_in x.slots)) e)

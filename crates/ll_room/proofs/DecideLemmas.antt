@@ -8,33 +8,33 @@ use Rattle.ll_verdict.specs.declared.reply.Reply.{Reply}
 use Rattle.ll_verdict.specs.declared.reply.Reply.TheVariants as now
 use Rattle.ll_verdict.specs.declared.wanted.Wanted.{Wanted}
 use Rattle.ll_room.specs.Decided.{IsDecided, page_now, reply_in}
-use Rattle.ll_room.specs.Home.{Home, Stands}
+use Rattle.ll_room.specs.RoomValue.{RoomValue, Stands}
 use Rattle.ll_room.specs.Kept.{with_answer, with_held}
 use Rattle.ll_room.specs.declared.decision.Decision.{Decision}
 use Rattle.ll_room.specs.declared.decision.Decision.TheVariants.{NotFound, There, TooFar, Busy, Waits}
 use Rattle.ll_room.proofs.AskLemmas.{asked-stands, held-stands}
 
-answer-is : (h : Home) (w : WantValue) (d : Decision) (es : List Event) → IsDecided h w d → Stands h es → answer_of h.settings (state_of h.settings es) w ≡ reply_in h d
+answer-is : (h : RoomValue) (w : WantValue) (d : Decision) (es : List Event) → IsDecided h w d → Stands h es → answer_of h.settings (state_of h.settings es) w ≡ reply_in h d
 answer-is h w d es k stands = sym (at_once-is h.settings es w) ∙ k.reply es stands
 
 -- it is answered at once
-pub decided-stands : (h new : Home) (w : WantValue) (d : Decision) (reply : Reply) → IsDecided h w d → reply_in h d ≡ Some reply → 1 ≤ h.settings.target → new ≡ with_answer h
+pub decided-stands : (h new : RoomValue) (w : WantValue) (d : Decision) (reply : Reply) → IsDecided h w d → reply_in h d ≡ Some reply → 1 ≤ h.settings.target → new ≡ with_answer h
     → (es : List Event) → Stands h es → Stands new (es ++ Ask w ∷ [])
 decided-stands h new w d reply k e low is es stands = asked-stands h new es w (Some reply) stands low (answer-is h w d es k stands ∙ e) is
 
 -- it is held
-pub decided-holds : (h new : Home) (w : WantValue) (a : Wanted) → IsDecided h w (Waits a) → 1 ≤ h.settings.target → new ≡ with_held h a
+pub decided-holds : (h new : RoomValue) (w : WantValue) (a : Wanted) → IsDecided h w (Waits a) → 1 ≤ h.settings.target → new ≡ with_held h a
     → (es : List Event) → Stands h es → Stands new (es ++ Ask w ∷ [])
 decided-holds h new w a k low is es stands = held-stands h new es w a stands low k.asks.0 (answer-is h w (Waits a) es k stands) is
 
 -- a request that isn't held has a reply at once
-replied : (h : Home) (d : Decision) → ((a : Wanted) → d ≡ Waits a → ⊥) → (reply : Reply) × (reply_in h d ≡ Some reply)
+replied : (h : RoomValue) (d : Decision) → ((a : Wanted) → d ≡ Waits a → ⊥) → (reply : Reply) × (reply_in h d ≡ Some reply)
 replied h NotFound ends = (now.NotFound, refl)
 replied h (There a) ends = (now.Text (page_now h a), refl)
 replied h TooFar ends = (now.TooFar, refl)
 replied h Busy ends = (now.Busy, refl)
 replied h (Waits a) ends = absurd (ends a refl)
 
-pub decided-counts : (h new : Home) (w : WantValue) (d : Decision) → ((a : Wanted) → d ≡ Waits a → ⊥) → IsDecided h w d → 1 ≤ h.settings.target → new ≡ with_answer h
+pub decided-counts : (h new : RoomValue) (w : WantValue) (d : Decision) → ((a : Wanted) → d ≡ Waits a → ⊥) → IsDecided h w d → 1 ≤ h.settings.target → new ≡ with_answer h
     → (es : List Event) → Stands h es → Stands new (es ++ Ask w ∷ [])
 decided-counts h new w d ends k low is = let r = replied h d ends in decided-stands h new w d r.0 k r.1 low is

@@ -5,7 +5,7 @@ use Rattle.ll_verdict.specs.declared.entry.Slot.{Slot}
 use Rattle.ll_book.specs.Release.{expired, is_over, over_if}
 use Rattle.ll_verdict.specs.Waiting.{AreBelow, without, has_ticket, ticket_in}
 use Rattle.ll_page.specs.Page.{Moment}
-use Rattle.ll_room.specs.Home.{Home, less}
+use Rattle.ll_room.specs.RoomValue.{RoomValue, less}
 use Rattle.ll_room.specs.Kept.{IsKept, with_answer}
 use Rattle.ll_room.specs.Stored.{AreFew}
 use Rattle.ll_room.specs.Written.{WrittenOf}
@@ -29,7 +29,7 @@ below-new a s [] h r = (h, tt)
 below-new a s (t ∷ ss) h r = (r.0, below-new a s ss h r.1)
 
 -- a request that is answered at once
-pub kept-answer : (h : Home) (w : WrittenOf) → h.events < event_end → IsKept h w → IsKept (with_answer h) w
+pub kept-answer : (h : RoomValue) (w : WrittenOf) → h.events < event_end → IsKept h w → IsKept (with_answer h) w
 kept-answer h w few k = record {
   current = k.current;
   stored = k.stored;
@@ -44,7 +44,7 @@ kept-answer h w few k = record {
 }
 
 -- a request that is held
-pub kept-held : (h : Home) (w : WrittenOf) (e : Entry) (ss : List Slot) → h.events < event_end → e.ticket ≡ h.asks + 1
+pub kept-held : (h : RoomValue) (w : WrittenOf) (e : Entry) (ss : List Slot) → h.events < event_end → e.ticket ≡ h.asks + 1
     → ss ≡ h.slots ++ (record { entry = e; settled = None }) ∷ [] → IsKept h w
     → IsKept (record h { asks = h.asks + 1; slots = ss; events = h.events + 1 }) w
 kept-held h w e ss few t is k =
@@ -100,8 +100,8 @@ newest t [] r =
     let it : not (t == t) ≡ false = grind (arith, nat_tests) in ap (λ b. cond b (t ∷ []) []) it
 newest t (s ∷ ss) r = left_by t s ss r.0 (newest t ss r.1)
 
-pub few-events : (h k : Home) → h ≡ k → k.events < event_end → h.events < event_end
-few-events h k e few = subst (λ (x : Home). x.events < event_end) (sym e) few
+pub few-events : (h k : RoomValue) → h ≡ k → k.events < event_end → h.events < event_end
+few-events h k e few = subst (λ (x : RoomValue). x.events < event_end) (sym e) few
 
 -- ---- after held requests were collected, closed or timed out
 
@@ -137,7 +137,7 @@ clock_counted : (events slots : ℕ) → events < 2 ^ 60 → slots ≤ events �
 clock_counted events slots h k = omega (arith, h, k)
 
 -- the clock
-pub clock-kept : (h : Home) (w : WrittenOf) (time : ℕ) (slots : List Slot) → IsKept h w
+pub clock-kept : (h : RoomValue) (w : WrittenOf) (time : ℕ) (slots : List Slot) → IsKept h w
     → h.events < 2 ^ 60 → time ≤ 2 ^ 60 → slots ≡ map (expired time) h.slots
     → IsKept (record h { time = time; slots = slots; events = h.events + 1 }) w
 clock-kept h w time slots k room early e =
@@ -166,10 +166,10 @@ lost : (t : ℕ) (ss : List Slot) → list_any (has_ticket t) ss ≡ true → le
 lost t [] h = absurd (true≢false (sym h))
 lost t (s ∷ ss) h = lost_by s (without t ss) ss (s.entry.ticket == t) (list_any (has_ticket t) ss) (short-filter (λ s. not (has_ticket t s)) ss) (lost t ss) h
 
-abbrev with_left : Home → List Slot → Home
+abbrev with_left : RoomValue → List Slot → RoomValue
 with_left h slots = record h { slots = slots; events = h.events + 1 }
 
-pub leave-kept : (h : Home) (w : WrittenOf) (t : ℕ) (slots : List Slot) → IsKept h w
+pub leave-kept : (h : RoomValue) (w : WrittenOf) (t : ℕ) (slots : List Slot) → IsKept h w
     → slots ≡ without t h.slots → list_any (has_ticket t) h.slots ≡ true → IsKept (with_left h slots) w
 leave-kept h w t slots k e there =
     let fewer : length slots < length h.slots = subst (λ ss. length ss < length h.slots) (sym e) (lost t h.slots there) in
@@ -187,5 +187,5 @@ leave-kept h w t slots k e there =
     }
 
 -- where none leaves
-pub same-kept : (h : Home) (w : WrittenOf) (slots : List Slot) → IsKept h w → slots ≡ h.slots → IsKept (record h { slots = slots }) w
+pub same-kept : (h : RoomValue) (w : WrittenOf) (slots : List Slot) → IsKept h w → slots ≡ h.slots → IsKept (record h { slots = slots }) w
 same-kept h w slots k e = subst (λ ss. IsKept (record h { slots = ss }) w) (sym e) k

@@ -14,7 +14,7 @@ use Rattle.ll_window.specs.Compact.{Compact}
 use Rattle.ll_verdict.specs.State.{is_waiting}
 use Rattle.ll_verdict.specs.declared.entry.Slot.{Slot}
 use Rattle.ll_book.specs.Pages.{PagesOf}
-use Rattle.ll_book.specs.Release.{AreThose, Held, given_if, holder, holders_of, part_comes, released, segment_comes, takes}
+use Rattle.ll_book.specs.Release.{AreThose, HoldersValue, given_if, holder, holders_of, part_comes, released, segment_comes, takes}
 use Rattle.ll_verdict.specs.Waiting.{AreBelow, ticket_in}
 use Rattle.ll_book.specs.declared.release.Release.{Release}
 use Rattle.ll_book.specs.declared.release.Release.TheVariants as release
@@ -23,7 +23,7 @@ use Rattle.ll_book.specs.Releases.{HasHolders, HasThose, released_with, takes_an
 use Rattle.ll_room.specs.Coming.{IsComing, changed, pages_in}
 use Rattle.ll_room.specs.Freed.{AreApart, freed, freed_slots, new_pages, releases, releases_at, with_item}
 use Rattle.ll_verdict.specs.Full.{event_end}
-use Rattle.ll_room.specs.Home.{Home}
+use Rattle.ll_room.specs.RoomValue.{RoomValue}
 use Rattle.ll_room.specs.Kept.{IsKept}
 use Rattle.ll_room.specs.Stored.{AreFew}
 use Rattle.ll_room.specs.Written.{AreWritten, WrittenOf}
@@ -115,18 +115,18 @@ same_holders pages first second (s ∷ ss) h =
     (takes second (given_if pages (takes first s) s)) (takes second s) (second_kept pages first second s (takes first s) h refl)
     (same_holder pages (takes first s) s) (same_holders pages first second ss h)
 
-pub has-those : (pages : PagesOf) (which : Option Release) (ss : List Slot) (found : Option Held) → HasHolders pages which ss found → HasThose which found ss
+pub has-those : (pages : PagesOf) (which : Option Release) (ss : List Slot) (found : Option HoldersValue) → HasHolders pages which ss found → HasThose which found ss
 has-those pages None ss found h = tt
 has-those pages (Some which) ss None h = h
 has-those pages (Some which) ss (Some held) h = subst (λ hs. AreThose which hs ss) (sym h) (release-law.those pages which ss)
 
-released-is : (pages : PagesOf) (which : Option Release) (ss : List Slot) (found : Option Held) → HasHolders pages which ss found
+released-is : (pages : PagesOf) (which : Option Release) (ss : List Slot) (found : Option HoldersValue) → HasHolders pages which ss found
     → released_with which found ss ≡ map (freed pages which) ss
 released-is pages None ss found h = sym (map_same ss)
 released-is pages (Some which) ss None h = absurd h
 released-is pages (Some which) ss (Some held) h = ap (λ hs. released which hs ss) h ∙ release-law.given pages which ss
 
-has_after : (pages : PagesOf) (first second : Option Release) (ss : List Slot) (found : Option Held) → AreApart (first, second)
+has_after : (pages : PagesOf) (first second : Option Release) (ss : List Slot) (found : Option HoldersValue) → AreApart (first, second)
     → HasHolders pages second ss found → HasHolders pages second (map (freed pages first) ss) found
 has_after pages None second ss found apart h = subst (λ xs. HasHolders pages second xs found) (sym (map_same ss)) h
 has_after pages (Some first) None ss found apart h = h
@@ -134,20 +134,20 @@ has_after pages (Some first) (Some second) ss None apart h = h
 has_after pages (Some first) (Some second) ss (Some held) apart h = h ∙ sym (same_holders pages first second ss (λ s. apart first second s refl refl))
 
 -- the second release, after the first
-pub has-those-after : (pages : PagesOf) (both : Option Release × Option Release) (ss new : List Slot) (found more : Option Held) → AreApart both
+pub has-those-after : (pages : PagesOf) (both : Option Release × Option Release) (ss new : List Slot) (found more : Option HoldersValue) → AreApart both
     → HasHolders pages both.0 ss found → HasHolders pages both.1 ss more → new ≡ released_with both.0 found ss → HasThose both.1 more new
 has-those-after pages both ss new found more apart h k e =
     subst (HasThose both.1 more) (sym (e ∙ released-is pages both.0 ss found h))
     (has-those pages both.1 (map (freed pages both.0) ss) more (has_after pages both.0 both.1 ss more apart k))
 
-pub both-released : (pages : PagesOf) (both : Option Release × Option Release) (ss new : List Slot) (found more : Option Held) → AreApart both
+pub both-released : (pages : PagesOf) (both : Option Release × Option Release) (ss new : List Slot) (found more : Option HoldersValue) → AreApart both
     → HasHolders pages both.0 ss found → HasHolders pages both.1 ss more → new ≡ released_with both.0 found ss
     → released_with both.1 more new ≡ freed_slots pages both ss
 both-released pages both ss new found more apart h k e =
     ap (released_with both.1 more) (e ∙ released-is pages both.0 ss found h)
     ∙ released-is pages both.1 (map (freed pages both.0) ss) more (has_after pages both.0 both.1 ss more apart k)
 
-pub apart : (h : Home) (i : Item) → AreApart (releases h i)
+pub apart : (h : RoomValue) (i : Item) → AreApart (releases h i)
 apart h i = apart_at (slice_get h.renditions (rendition_of i)) i
 
 -- what a room keeps true of itself after one more item
@@ -179,7 +179,7 @@ length_tickets : (ss : List Slot) → length (map ticket_in ss) ≡ length ss
 length_tickets [] = refl
 length_tickets (s ∷ ss) = ap suc (length_tickets ss)
 
-pub kept-item : (h : Home) (w now : WrittenOf) (kept : List Rendition) (ss : List Slot) → h.events < event_end → IsKept h w
+pub kept-item : (h : RoomValue) (w now : WrittenOf) (kept : List Rendition) (ss : List Slot) → h.events < event_end → IsKept h w
     → AreWritten (record { settings = h.settings; renditions = kept; count = h.count + 1 }) now.pages → AreFew now.pieces kept
     → length kept ≡ length h.renditions → map ticket_in ss ≡ map ticket_in h.slots
     → IsKept (record h { renditions = kept; count = h.count + 1; slots = ss; events = h.events + 1 }) now
@@ -198,31 +198,31 @@ kept-item h w now kept ss few k current stored many same =
     }
 
 -- the room after one more item that releases nothing, or of which these are the open requests
-abbrev pub item_on : List Rendition → List Slot → Home → Home
+abbrev pub item_on : List Rendition → List Slot → RoomValue → RoomValue
 item_on kept ss h = record h { renditions = kept; count = h.count + 1; slots = ss; events = h.events + 1 }
 
 -- the room in which the channel is shown so
-abbrev pub shown_on : Moment → List Slot → Home → Home
+abbrev pub shown_on : Moment → List Slot → RoomValue → RoomValue
 shown_on m ss h = record h { settings = m.settings; renditions = m.renditions; count = m.count; slots = ss; events = h.events + 1 }
 
-pub shown-item : (m : Moment) (ss : List Slot) (h : Home) → m ≡ record { settings = h.settings; renditions = m.renditions; count = h.count + 1 }
+pub shown-item : (m : Moment) (ss : List Slot) (h : RoomValue) → m ≡ record { settings = h.settings; renditions = m.renditions; count = h.count + 1 }
     → shown_on m ss h ≡ item_on m.renditions ss h
 shown-item m ss h e = ap (λ (n : Moment). shown_on n ss h) e
 
-pub silent-item : (h now : Home) (kept : List Rendition) (i : Item) → h ≡ now → takes_any (releases now i).0 now.slots ≡ false
+pub silent-item : (h now : RoomValue) (kept : List Rendition) (i : Item) → h ≡ now → takes_any (releases now i).0 now.slots ≡ false
     → takes_any (releases now i).1 now.slots ≡ false → item_on kept h.slots h ≡ with_item now kept i
 silent-item h now kept i e first second =
-    ap (λ (x : Home). item_on kept x.slots x) e
+    ap (λ (x : RoomValue). item_on kept x.slots x) e
     ∙ ap (λ ss. item_on kept ss now) (sym (silent-slots (new_pages now kept i) (releases now i) now.slots first second))
 
-pub released-item : (h : Home) (i : Item) (first second : Option Release) (x : Coming) → (first, second) ≡ releases h i → x.rendition ≡ rendition_of i
+pub released-item : (h : RoomValue) (i : Item) (first second : Option Release) (x : Coming) → (first, second) ≡ releases h i → x.rendition ≡ rendition_of i
     → IsComing h first second x → changed h first second x ≡ with_item h x.shown.renditions i
 released-item h i first second x both r is =
     let pages_are : pages_in x ≡ new_pages h x.shown.renditions i = ap₂ (λ m q. record { moment = m; rendition = q }) is.shown r in
     ap₂ (λ p q. item_on x.shown.renditions (freed_slots p q h.slots) h) pages_are both
 
 -- the room that takes over what was made is kept true
-pub kept-change : (h : Home) (w now : WrittenOf) (first second : Option Release) (x : Coming) (new final : List Slot) → h.events < event_end → IsKept h w
+pub kept-change : (h : RoomValue) (w now : WrittenOf) (first second : Option Release) (x : Coming) (new final : List Slot) → h.events < event_end → IsKept h w
     → now.pages ≡ x.pages.items → AreFew now.pieces x.shown.renditions
     → AreApart (first, second) → IsComing h first second x → new ≡ released_with first x.first h.slots → final ≡ released_with second x.second new
     → IsKept (item_on x.shown.renditions final h) now
@@ -233,12 +233,12 @@ kept-change h w now first second x new final few k written stored apart is e f =
     (ap (map ticket_in) slots ∙ same-tickets (pages_in x) (first, second) h.slots)
 
 -- so is one after an item that releases nothing, with no page of before it
-pub kept-silent : (h : Home) (w now : WrittenOf) (kept : List Rendition) → h.events < event_end → IsKept h w → now.pages ≡ [] → AreFew now.pieces kept
+pub kept-silent : (h : RoomValue) (w now : WrittenOf) (kept : List Rendition) → h.events < event_end → IsKept h w → now.pages ≡ [] → AreFew now.pieces kept
     → length kept ≡ length h.renditions → IsKept (item_on kept h.slots h) now
 kept-silent h w now kept few k none stored many = kept-item h w now kept h.slots few k (none-written _ now.pages none) stored many refl
 
 -- and one whose pages were dropped
-pub kept-dropped : (h : Home) (w now : WrittenOf) → IsKept h w → now.pages ≡ [] → AreFew now.pieces h.renditions → IsKept h now
+pub kept-dropped : (h : RoomValue) (w now : WrittenOf) → IsKept h w → now.pages ≡ [] → AreFew now.pieces h.renditions → IsKept h now
 kept-dropped h w now k none stored = record {
   current = none-written _ now.pages none;
   stored = stored;
@@ -252,12 +252,12 @@ kept-dropped h w now k none stored = record {
   counted = k.counted;
 }
 
-pub coming-of : (h now : Home) (first second : Option Release) (x : Coming) → h ≡ now → IsComing now first second x → IsComing h first second x
-coming-of h now first second x e is = subst (λ (r : Home). IsComing r first second x) (sym e) is
+pub coming-of : (h now : RoomValue) (first second : Option Release) (x : Coming) → h ≡ now → IsComing now first second x → IsComing h first second x
+coming-of h now first second x e is = subst (λ (r : RoomValue). IsComing r first second x) (sym e) is
 
-pub changed-is : (h now : Home) (first second : Option Release) (x : Coming) (new final : List Slot) → h ≡ now → AreApart (first, second)
+pub changed-is : (h now : RoomValue) (first second : Option Release) (x : Coming) (new final : List Slot) → h ≡ now → AreApart (first, second)
     → IsComing h first second x → new ≡ released_with first x.first h.slots → final ≡ released_with second x.second new
     → item_on x.shown.renditions final h ≡ changed now first second x
 changed-is h now first second x new final e apart is f g =
     ap (λ ss. item_on x.shown.renditions ss h) (g ∙ both-released (pages_in x) (first, second) h.slots new x.first x.second apart is.has_first is.has_second f)
-    ∙ ap (λ (r : Home). changed r first second x) e
+    ∙ ap (λ (r : RoomValue). changed r first second x) e

@@ -12,7 +12,7 @@ use Rattle.ll_verdict.specs.declared.reply.Settled.{Settled}
 use Rattle.ll_verdict.specs.declared.reply.Settled.TheVariants.{Text, Timeout}
 use Rattle.ll_book.specs.Release.{expired, is_over, over_if}
 use Rattle.ll_verdict.specs.Waiting.{reply_at, ticket_in, without, without_ready}
-use Rattle.ll_room.specs.Home.{Home, Stands, home, less}
+use Rattle.ll_room.specs.RoomValue.{RoomValue, Stands, room_value, less}
 use Rattle.ll_room.specs.Answers.{closed, collected, is_open}
 use Rattle.ll_room.specs.Ticket.{Ticket}
 use Rattle.ll_room.specs.declared.asked.Closed.TheVariants as given_up
@@ -53,27 +53,27 @@ clock_slots c st ms h =
     ∙ ap (map (settle c st.items (max st.time ms))) (sym (all_stay (Clock ms) st.slots (λ s. refl)))
     ∙ sym (append-nil (map (settle c st.items (max st.time ms)) (filter (stays (Clock ms)) st.slots)))
 
-abbrev pub clocked : Home → ℕ → List Slot → Home
+abbrev pub clocked : RoomValue → ℕ → List Slot → RoomValue
 clocked h now slots = record h { time = now; slots = slots; events = h.events + 1 }
 
-abbrev pub with_slots : Home → List Slot → Home
+abbrev pub with_slots : RoomValue → List Slot → RoomValue
 with_slots h slots = record h { slots = slots }
 
 -- the room at a later time
-abbrev later_home : Home → ℕ → Home
+abbrev later_home : RoomValue → ℕ → RoomValue
 later_home h ms = clocked h (max h.time ms) (map (expired (max h.time ms)) h.slots)
 
-pub same-home : (h : Home) (slots : List Slot) → slots ≡ h.slots → with_slots h slots ≡ h
-same-home h slots e = ap (with_slots h) e
+pub same-room : (h : RoomValue) (slots : List Slot) → slots ≡ h.slots → with_slots h slots ≡ h
+same-room h slots e = ap (with_slots h) e
 
-pub clock-stands : (h : Home) (es : List Event) (ms now : ℕ) (slots : List Slot) → 1 ≤ h.settings.target → Stands h es
+pub clock-stands : (h : RoomValue) (es : List Event) (ms now : ℕ) (slots : List Slot) → 1 ≤ h.settings.target → Stands h es
     → now ≡ max h.time ms → slots ≡ map (expired now) h.slots → Stands (clocked h now slots) (es ++ Clock ms ∷ [])
 clock-stands h es ms now slots low st at e =
     stands-by (clocked h now slots) h.settings es (Clock ms) refl
     (ap (clocked h now) e
     ∙ ap (λ n. clocked h n (map (expired n) h.slots)) at
     ∙ ap (λ x. later_home x ms) st
-    ∙ ap (with_slots (home h.channel h.settings (next h.settings (state_of h.settings es) (Clock ms))))
+    ∙ ap (with_slots (room_value h.channel h.settings (next h.settings (state_of h.settings es) (Clock ms))))
     (clock_slots h.settings (state_of h.settings es) ms (idle h.settings es low)))
 
 pub clock-tickets : (time : ℕ) (ss : List Slot) → map ticket_in (map (expired time) ss) ≡ map ticket_in ss
@@ -82,7 +82,7 @@ clock-tickets time (s ∷ ss) = ap₂ (λ n ns. n ∷ ns) (ap ticket_in (over_co
 
 -- a request that leaves
 
-abbrev pub left_with : Home → List Slot → Home
+abbrev pub left_with : RoomValue → List Slot → RoomValue
 left_with h slots = record h { slots = slots; events = h.events + 1 }
 
 -- the others were not due before, and are not now
@@ -92,22 +92,22 @@ left_slots c st e h =
     sym (append-nil (map (settle c st.items st.time) (filter (stays e) st.slots))
     ∙ same_slots c st.items st.time (filter (stays e) st.slots) (each-filter (Idle c st.items st.time) (stays e) st.slots h))
 
-pub collect-stands : (h : Home) (es : List Event) (t p : ℕ) (slots : List Slot) → 1 ≤ h.settings.target → Stands h es
+pub collect-stands : (h : RoomValue) (es : List Event) (t p : ℕ) (slots : List Slot) → 1 ≤ h.settings.target → Stands h es
     → t ≡ p → slots ≡ without_ready t h.slots → Stands (left_with h slots) (es ++ Collect p ∷ [])
 collect-stands h es t p slots low st same e =
     stands-by (left_with h slots) h.settings es (Collect p) refl
     (ap (left_with h) (e ∙ ap (λ n. without_ready n h.slots) same)
     ∙ ap (λ x. left_with x (without_ready p x.slots)) st
-    ∙ ap (with_slots (home h.channel h.settings (next h.settings (state_of h.settings es) (Collect p))))
+    ∙ ap (with_slots (room_value h.channel h.settings (next h.settings (state_of h.settings es) (Collect p))))
     (left_slots h.settings (state_of h.settings es) (Collect p) (idle h.settings es low)))
 
-pub close-stands : (h : Home) (es : List Event) (t p : ℕ) (slots : List Slot) → 1 ≤ h.settings.target → Stands h es
+pub close-stands : (h : RoomValue) (es : List Event) (t p : ℕ) (slots : List Slot) → 1 ≤ h.settings.target → Stands h es
     → t ≡ p → slots ≡ without t h.slots → Stands (left_with h slots) (es ++ Close p ∷ [])
 close-stands h es t p slots low st same e =
     stands-by (left_with h slots) h.settings es (Close p) refl
     (ap (left_with h) (e ∙ ap (λ n. without n h.slots) same)
     ∙ ap (λ x. left_with x (without p x.slots)) st
-    ∙ ap (with_slots (home h.channel h.settings (next h.settings (state_of h.settings es) (Close p))))
+    ∙ ap (with_slots (room_value h.channel h.settings (next h.settings (state_of h.settings es) (Close p))))
     (left_slots h.settings (state_of h.settings es) (Close p) (idle h.settings es low)))
 
 fewer_by : (s : Slot) (xs : List Slot) (ns : List ℕ) (b : Bool) → map ticket_in xs ≡ ns
@@ -125,20 +125,20 @@ fewer t (s ∷ ss) = fewer_by s (without t ss) (less t (map ticket_in ss)) (s.en
 same_number : (a b : ℕ) → a ≡ b → (a == b) ≡ true
 same_number a b e = grind (arith, nat_tests, e)
 
-pub still : (h now : Home) (p : Ticket) (t : ℕ) → h ≡ now → p.channel ≡ h.channel → t ≡ p.ticket
+pub still : (h now : RoomValue) (p : Ticket) (t : ℕ) → h ≡ now → p.channel ≡ h.channel → t ≡ p.ticket
     → reply_at t h.slots ≡ None → is_open h t ≡ true → Still p ≡ collected now p
 still h now p t is e same none there =
     subst (λ x. Still p ≡ collected x p) is (rw (same_number p.channel h.channel e, sym same, none, there) refl)
 
-pub stranger : (h now : Home) (p : Ticket) (t : ℕ) → h ≡ now → p.channel ≡ h.channel → t ≡ p.ticket
+pub stranger : (h now : RoomValue) (p : Ticket) (t : ℕ) → h ≡ now → p.channel ≡ h.channel → t ≡ p.ticket
     → reply_at t h.slots ≡ None → is_open h t ≡ false → Stranger p ≡ collected now p
 stranger h now p t is e same none there =
     subst (λ x. Stranger p ≡ collected x p) is (rw (same_number p.channel h.channel e, sym same, none, there) refl)
 
-pub done : (h now : Home) (p : Ticket) (t : ℕ) → h ≡ now → p.channel ≡ h.channel → t ≡ p.ticket → is_open h t ≡ true → given_up.Done ≡ closed now p
+pub done : (h now : RoomValue) (p : Ticket) (t : ℕ) → h ≡ now → p.channel ≡ h.channel → t ≡ p.ticket → is_open h t ≡ true → given_up.Done ≡ closed now p
 done h now p t is e same there =
     subst (λ x. given_up.Done ≡ closed x p) is (rw (same_number p.channel h.channel e, sym same, there) refl)
 
-pub not_done : (h now : Home) (p : Ticket) (t : ℕ) → h ≡ now → p.channel ≡ h.channel → t ≡ p.ticket → is_open h t ≡ false → given_up.Stranger p ≡ closed now p
+pub not_done : (h now : RoomValue) (p : Ticket) (t : ℕ) → h ≡ now → p.channel ≡ h.channel → t ≡ p.ticket → is_open h t ≡ false → given_up.Stranger p ≡ closed now p
 not_done h now p t is e same there =
     subst (λ x. given_up.Stranger p ≡ closed x p) is (rw (same_number p.channel h.channel e, sym same, there) refl)

@@ -5,12 +5,12 @@ use Rattle.ll_verdict.specs.Events.{Event}
 use Rattle.ll_verdict.specs.State.{state_of, stays, next}
 use Rattle.ll_verdict.specs.declared.entry.Slot.{Slot}
 use Rattle.ll_verdict.proofs.StateLemmas.{state-snoc}
-use Rattle.ll_room.specs.Home.{Home, Stands, home}
+use Rattle.ll_room.specs.RoomValue.{RoomValue, Stands, room_value}
 
-pub stands-by : (h : Home) (c : Configuration) (es : List Event) (e : Event)
-    → h.settings ≡ c → h ≡ home h.channel c (next c (state_of c es) e) → Stands h (es ++ e ∷ [])
+pub stands-by : (h : RoomValue) (c : Configuration) (es : List Event) (e : Event)
+    → h.settings ≡ c → h ≡ room_value h.channel c (next c (state_of c es) e) → Stands h (es ++ e ∷ [])
 stands-by h c es e same h_is =
-    h_is ∙ ap (home h.channel c) (sym (state-snoc c es e)) ∙ ap (λ c. home h.channel c (state_of c (es ++ e ∷ []))) (sym same)
+    h_is ∙ ap (room_value h.channel c) (sym (state-snoc c es e)) ∙ ap (λ c. room_value h.channel c (state_of c (es ++ e ∷ []))) (sym same)
 
 stays_by : (s : Slot) (xs ys : List Slot) (b : Bool) → b ≡ true → xs ≡ ys → cond b (s ∷ xs) xs ≡ s ∷ ys
 stays_by s xs ys b h k = rw (h, k) refl

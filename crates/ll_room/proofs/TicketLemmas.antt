@@ -1,7 +1,7 @@
 -- Tickets that stand once each, whatever comes and leaves.
 use Rattle.std.proofs.Common.{◌≡◌, ℕ, ◌==◌, ◌||◌, List, [], ◌∷◌, ◌++◌, Bool, true, false, not, cond, refl, ap, ap₂, ◌∙◌, sym, true≢false, arith}
 use Rattle.std.proofs.lemmas.Bool.Decides.{nat_tests}
-use Rattle.ll_room.specs.Home.{AreDistinct, among, less}
+use Rattle.ll_room.specs.RoomValue.{AreDistinct, among, less}
 
 turn : (i j : ℕ) → (j == i) ≡ false → (i == j) ≡ false
 turn i j f = grind (arith, nat_tests, f)

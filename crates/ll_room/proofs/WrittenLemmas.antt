@@ -1,5 +1,5 @@
 -- The pages of a rendition stand at its place.
-use Rattle.std.proofs.Common.{◌≡◌, ℕ, zero, suc, ◌+◌, ◌<◌, ◌≤◌, ◌||◌, List, [], ◌∷◌, ◌++◌, Bool, true, false, cond, not, if◌then◌else◌, Some, None, length, map, nat_lt, refl, ap, ap₂, sym, get_or, position, subst, arith}
+use Rattle.std.proofs.Common.{◌≡◌, ℕ, zero, suc, ◌+◌, ◌<◌, ◌≤◌, ◌||◌, List, [], ◌∷◌, ◌++◌, Bool, true, false, cond, not, if◌then◌else◌, Option, Some, None, length, map, nat_lt, refl, ap, ap₂, sym, get_or, position, subst, arith}
 use Rattle.std.specs.List.{position_or_len}
 use Rattle.std.proofs.lemmas.Bool.Decides.{nat_tests}
 use Rattle.std.proofs.lemmas.List.{map-append}
@@ -7,15 +7,15 @@ use Rattle.std.proofs.lemmas.List.Elements.{All-append}
 use Rattle.std.proofs.lemmas.List.Quantifiers.{position-Some}
 use Rattle.ll_book.specs.Pages.{PagesOf, page_in}
 use Rattle.ll_page.specs.Page.{Moment, seen_of}
-use Rattle.ll_page.specs.declared.form.Form.{Form}
-use Rattle.ll_room.specs.Home.{AreDistinct, among}
+use Rattle.ll_item.specs.declared.skip_kind.SkipKind.{SkipKind}
+use Rattle.ll_room.specs.RoomValue.{AreDistinct, among}
 use Rattle.ll_room.specs.Written.{AreAt, AreWritten, is_of, rendition}
 use Rattle.ll_room.proofs.TicketLemmas.{distinct_more}
 
 same-rendition : (r : ℕ) (p : PagesOf) → is_of r p ≡ true → p.rendition ≡ r
 same-rendition r p h = grind (arith, nat_tests, h)
 
-pub page-at : (now : Moment) (ps : List PagesOf) (r i : ℕ) (p : PagesOf) (form : Form) → AreAt now ps → Some i ≡ position (is_of r) ps → p ≡ get_or ps i p
+pub page-at : (now : Moment) (ps : List PagesOf) (r i : ℕ) (p : PagesOf) (form : Option SkipKind) → AreAt now ps → Some i ≡ position (is_of r) ps → p ≡ get_or ps i p
     → page_in p form ≡ record { seen = seen_of now r; form = form }
 page-at now ps r i p form all found at =
     let there = position-Some (is_of r) ps i p (sym found) in

@@ -6,8 +6,8 @@ use Rattle.ll_verdict.specs.Waiting.{has_ticket, reply_at}
 use Rattle.ll_verdict.specs.Verdict.{reply_of}
 use Rattle.ll_verdict.specs.declared.reply.Reply.{Reply}
 use Rattle.ll_verdict.specs.declared.reply.Settled.{Settled}
-use Rattle.ll_room.specs.Home.{Home, less}
-use Rattle.ll_room.specs.Mark.{Mark}
+use Rattle.ll_room.specs.RoomValue.{RoomValue, less}
+use Rattle.ll_room.specs.StampedValue.{StampedValue}
 use Rattle.ll_room.specs.Ticket.{Ticket}
 use Rattle.ll_room.specs.declared.asked.Asked.{Asked}
 use Rattle.ll_room.specs.declared.asked.Asked.TheVariants.{Now, Held}
@@ -18,7 +18,7 @@ use Rattle.ll_room.specs.declared.asked.Closed.TheVariants as given_up
 use Rattle.ll_room.specs.declared.stamped.Stamp.TheVariants as stamp
 
 -- a request is answered at once, or held under the next number
-abbrev pub asked : Home → WantValue → Option Reply → Asked
+abbrev pub asked : RoomValue → WantValue → Option Reply → Asked
 asked h want (Some reply) = Now (record { room = h.channel; stamp = stamp.Ask (h.asks + 1) want; value = reply })
 asked h want None = Held (record { channel = h.channel; ticket = h.asks + 1 })
 
@@ -38,20 +38,20 @@ collected_by p None true = Still p
 collected_by p None false = Stranger p
 
 -- the reply to the request of this number, handed out by its room
-abbrev pub collected_at : Home → ℕ → Settled → Mark Reply
+abbrev pub collected_at : RoomValue → ℕ → Settled → StampedValue Reply
 collected_at h ticket settled = record { room = h.channel; stamp = stamp.Collect ticket; value = reply_of settled }
 
 -- the reply that is given at once
-abbrev pub now_in : Asked → Option (Mark Reply)
+abbrev pub now_in : Asked → Option (StampedValue Reply)
 now_in (Now reply) = Some reply
 now_in (Held parked) = None
 
 -- whether a request is open under this ticket
-abbrev pub is_open : Home → ℕ → Bool
+abbrev pub is_open : RoomValue → ℕ → Bool
 is_open h ticket = list_any (has_ticket ticket) h.slots
 
 -- what comes of a held request whose reply is asked for
-abbrev pub collected : Home → Ticket → Collected
+abbrev pub collected : RoomValue → Ticket → Collected
 collected h p = if p.channel == h.channel then collected_by p (reply_at p.ticket h.slots) (is_open h p.ticket) else Stranger p
 
 abbrev pub is_got : Collected → Bool
@@ -60,7 +60,7 @@ is_got (Still p) = false
 is_got (Stranger p) = false
 
 -- what comes of a held request that is given up
-abbrev pub closed : Home → Ticket → Closed
+abbrev pub closed : RoomValue → Ticket → Closed
 closed h p = if p.channel == h.channel && is_open h p.ticket then given_up.Done else given_up.Stranger p
 
 abbrev pub is_done : Closed → Bool

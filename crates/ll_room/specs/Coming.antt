@@ -4,14 +4,14 @@ use Rattle.ll_book.specs.Pages.{PagesOf}
 use Rattle.ll_book.specs.declared.release.Release.{Release}
 use Rattle.ll_book.specs.Releases.{HasHolders}
 use Rattle.ll_room.specs.Freed.{freed_slots}
-use Rattle.ll_room.specs.Home.{Home}
+use Rattle.ll_room.specs.RoomValue.{RoomValue}
 use Rattle.ll_room.specs.declared.publish.Coming.{Coming}
 
 -- the pages of the item's rendition
 abbrev pub pages_in : Coming → PagesOf
 pages_in x = record { moment = x.shown; rendition = x.rendition }
 
-pub record IsComing (h : Home) (first second : Option Release) (x : Coming) : Type 0 where
+pub record IsComing (h : RoomValue) (first second : Option Release) (x : Coming) : Type 0 where
   pub many : length x.shown.renditions ≡ length h.renditions
   pub shown : x.shown ≡ record { settings = h.settings; renditions = x.shown.renditions; count = h.count + 1 }
   pub pages : x.pages.items ≡ pages_in x ∷ []
@@ -19,7 +19,7 @@ pub record IsComing (h : Home) (first second : Option Release) (x : Coming) : Ty
   pub has_second : HasHolders (pages_in x) second h.slots x.second
 
 -- the room with what was made
-abbrev pub changed : Home → Option Release → Option Release → Coming → Home
+abbrev pub changed : RoomValue → Option Release → Option Release → Coming → RoomValue
 changed h first second x = record h {
   renditions = x.shown.renditions;
   count = h.count + 1;

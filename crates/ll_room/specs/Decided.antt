@@ -8,16 +8,16 @@ use Rattle.ll_verdict.specs.declared.reply.Reply.{Reply}
 use Rattle.ll_verdict.specs.declared.reply.Reply.TheVariants as now
 use Rattle.ll_page.specs.Page.{Paged, seen_of}
 use Rattle.ll_verdict.specs.declared.wanted.Wanted.{Wanted}
-use Rattle.ll_room.specs.Home.{Home, Stands, moment}
+use Rattle.ll_room.specs.RoomValue.{RoomValue, Stands, moment}
 use Rattle.ll_room.specs.declared.decision.Decision.{Decision}
 use Rattle.ll_room.specs.declared.decision.Decision.TheVariants.{NotFound, There, TooFar, Busy, Waits}
 
 -- the playlist or delta update as it is now
-abbrev pub page_now : Home → Wanted → Paged
+abbrev pub page_now : RoomValue → Wanted → Paged
 page_now h a = record { seen = seen_of (moment h) a.rendition; form = a.form }
 
 -- the reply at once
-abbrev pub reply_in : Home → Decision → Option Reply
+abbrev pub reply_in : RoomValue → Decision → Option Reply
 reply_in h NotFound = Some now.NotFound
 reply_in h (There a) = Some (now.Text (page_now h a))
 reply_in h TooFar = Some now.TooFar
@@ -25,7 +25,7 @@ reply_in h Busy = Some now.Busy
 reply_in h (Waits a) = None
 
 -- a request that has its text, or waits, asks this of a rendition of the channel; where it waits, fewer wait than may
-abbrev pub IsFor : Home → WantValue → Decision → Type 0
+abbrev pub IsFor : RoomValue → WantValue → Decision → Type 0
 IsFor h want NotFound = ⊤
 IsFor h want (There a) = (wanted_of h.settings want ≡ Some a) × (a.rendition < length h.renditions)
 IsFor h want TooFar = ⊤
@@ -33,10 +33,10 @@ IsFor h want Busy = ⊤
 IsFor h want (Waits a) = (wanted_of h.settings want ≡ Some a) × (waiting_in h.slots < waiting_limit)
 
 -- the reply at once is the one that the definitions say, whatever events the room stands for
-pub record IsDecided (h : Home) (want : WantValue) (d : Decision) : Type 0 where
+pub record IsDecided (h : RoomValue) (want : WantValue) (d : Decision) : Type 0 where
   pub asks : IsFor h want d
   pub reply : (events : List Event) → Stands h events → at_once h.settings (held h.settings events) events want ≡ reply_in h d
 
 -- it was decided of some request
-abbrev pub IsDecidedOfOne : Home → Decision → Type 0
+abbrev pub IsDecidedOfOne : RoomValue → Decision → Type 0
 IsDecidedOfOne h d = (want : WantValue) × IsDecided h want d

@@ -8,14 +8,14 @@ use Rattle.ll_book.specs.Pages.{PagesOf}
 use Rattle.ll_book.specs.Release.{given_if, takes}
 use Rattle.ll_book.specs.declared.release.Release.{Release}
 use Rattle.ll_book.specs.Releases.{first_release, second_release}
-use Rattle.ll_room.specs.Home.{Home}
+use Rattle.ll_room.specs.RoomValue.{RoomValue}
 
 -- the two releases that an item brings, where this is kept of its rendition
 abbrev pub releases_at : Option Rendition → Item → Option Release × Option Release
 releases_at None i = (None, None)
 releases_at (Some kept) i = (first_release kept.window i, second_release kept.window i)
 
-abbrev pub releases : Home → Item → Option Release × Option Release
+abbrev pub releases : RoomValue → Item → Option Release × Option Release
 releases h i = releases_at (slice_get h.renditions (rendition_of i)) i
 
 -- two releases of which the second takes none that the first takes
@@ -32,11 +32,11 @@ abbrev pub freed_slots : PagesOf → Option Release × Option Release → List S
 freed_slots pages both slots = map (freed pages both.1) (map (freed pages both.0) slots)
 
 -- the pages of a rendition after one more item, with which these are kept
-abbrev pub new_pages : Home → List Rendition → Item → PagesOf
+abbrev pub new_pages : RoomValue → List Rendition → Item → PagesOf
 new_pages h kept i = record { moment = record { settings = h.settings; renditions = kept; count = h.count + 1 }; rendition = rendition_of i }
 
 -- the room after one more item, with which these are kept
-abbrev pub with_item : Home → List Rendition → Item → Home
+abbrev pub with_item : RoomValue → List Rendition → Item → RoomValue
 with_item h kept i = record h {
   renditions = kept;
   count = h.count + 1;

@@ -5,7 +5,7 @@ use Rattle.ll_item.specs.declared.item.Item.{Item}
 use Rattle.ll_verdict.specs.Full.{full_by, is_full}
 use Rattle.ll_rendition.specs.declared.fault.PublishFault.{PublishFault}
 use Rattle.ll_rendition.specs.Refusal.{first_refusal, refusal_at}
-use Rattle.ll_room.specs.Home.{Home}
+use Rattle.ll_room.specs.RoomValue.{RoomValue}
 
-abbrev pub refusal_by : Home → Item → Option PublishFault
+abbrev pub refusal_by : RoomValue → Item → Option PublishFault
 refusal_by h item = first_refusal (refusal_at (slice_get h.renditions (rendition_of item)) item) (full_by (is_full h.events))

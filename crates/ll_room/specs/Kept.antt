@@ -2,11 +2,11 @@
 use Rattle.std.specs.Prelude.{◌≡◌, ◌≤◌, ◌+◌, ◌*◌, ◌^◌, ◌++◌, List, [], ◌∷◌, None, length}
 use Rattle.ll_verdict.specs.Waiting.{AreBelow}
 use Rattle.ll_verdict.specs.declared.wanted.Wanted.{Wanted}
-use Rattle.ll_room.specs.Home.{Home, moment}
+use Rattle.ll_room.specs.RoomValue.{RoomValue, moment}
 use Rattle.ll_room.specs.Stored.{AreFew}
 use Rattle.ll_room.specs.Written.{AreWritten, WrittenOf}
 
-pub record IsKept (h : Home) (w : WrittenOf) : Type 0 where
+pub record IsKept (h : RoomValue) (w : WrittenOf) : Type 0 where
   pub current : AreWritten (moment h) w.pages
   pub stored : AreFew w.pieces h.renditions
   -- a request that waits is not due when it is made
@@ -21,11 +21,11 @@ pub record IsKept (h : Home) (w : WrittenOf) : Type 0 where
   pub counted : h.events + length h.slots ≤ 2 ^ 61
 
 -- one more request, which is answered at once
-abbrev pub with_answer : Home → Home
+abbrev pub with_answer : RoomValue → RoomValue
 with_answer h = record h { asks = h.asks + 1; events = h.events + 1 }
 
 -- one more request, which waits
-abbrev pub with_held : Home → Wanted → Home
+abbrev pub with_held : RoomValue → Wanted → RoomValue
 with_held h a = record h {
   asks = h.asks + 1;
   slots = h.slots ++ (record {

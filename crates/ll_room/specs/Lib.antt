@@ -3,9 +3,9 @@ pub mod Coming
 pub mod Decided
 pub mod Freed
 pub mod Full
-pub mod Home
 pub mod Kept
-pub mod Mark
+pub mod RoomValue
+pub mod StampedValue
 pub mod Stored
 pub mod Ticket
 pub mod Written

@@ -4,7 +4,7 @@ use Rattle.std.specs.List.{All}
 use Rattle.ll_book.specs.Pages.{PagesOf}
 use Rattle.ll_page.specs.Page.{Moment}
 use Rattle.ll_page.specs.Pieces.{PiecesOf}
-use Rattle.ll_room.specs.Home.{AreDistinct}
+use Rattle.ll_room.specs.RoomValue.{AreDistinct}
 
 -- the pages of each rendition that was asked for, and what was rendered of the segments of each
 pub record WrittenOf : Type 0 where

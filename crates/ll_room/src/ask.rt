@@ -1,5 +1,6 @@
 //! Requests: a reply at once, or a request that is held (Blocking Playlist Reload, section 6.2.5.2).
 ghost use Rattle.std.specs.Prelude.{◌≡◌, ◌+◌, ◌<◌, ◌≤◌, ◌++◌, ◌∷◌, [], List, IfOk, IsErrOf, OnOk, OnErr, Some, length, option_map};
+ghost use Rattle.ll_page.specs.Page.{update_in};
 ghost use Rattle.ll_window.specs.Segments.{own};
 ghost use Rattle.ll_verdict.specs.Events.{Event, Ask, items};
 ghost use Rattle.ll_verdict.specs.Outcome.{outcome_of};
@@ -10,19 +11,19 @@ ghost use Rattle.ll_directive.specs.Targets.{WantValue};
 ghost use Rattle.ll_room.specs.Answers.{asked, new_tickets, others};
 ghost use Rattle.ll_room.specs.Decided.{IsDecided, IsDecidedOfOne, page_now};
 ghost use Rattle.ll_verdict.specs.Full.{event_end};
-ghost use Rattle.ll_room.specs.Home.{IsSame, Stands, tickets};
+ghost use Rattle.ll_room.specs.RoomValue.{IsSame, Stands, tickets};
 ghost use Rattle.ll_room.specs.Kept.{with_answer, with_held};
 
 use crate::asked::Asked;
 use crate::decision::Decision;
-use crate::fault::AskFault;
 use crate::parked::Parked;
 use crate::room::{EVENT_END, Room};
 use crate::stamped::{Stamp, Stamped};
 use ll_book::ParkFault;
-use ll_directive::{Skip, Want};
-use ll_page::{Form, Page, SkipKind};
-use ll_verdict::{Entry, Outcome, Reply, Wanted, is_far, is_there};
+use ll_directive::Want;
+use ll_item::SkipKind;
+use ll_page::Page;
+use ll_verdict::{AskFault, Entry, Outcome, Reply, Wanted, is_far, is_there};
 use std::alloc::AllocError;
 
 /// How long a request waits, for each second of the target duration: three target durations, in milliseconds.
@@ -130,7 +131,7 @@ impl Room {
         Some(Wanted {
             rendition,
             awaited: want.awaited(),
-            form: form_of(want.skip()),
+            form: want.skip(),
         })
     }
 
@@ -156,6 +157,14 @@ impl Room {
             &self.shown.renditions()[wanted.rendition].window,
             wanted.awaited,
         )
+    }
+
+    /// Which delta update the playlist that is asked for is now; none where it is a full one.
+    pub(crate) fn update(&self, wanted: &Wanted) -> Option<SkipKind>
+        requires { wanted.now.rendition < length self.now.renditions }
+        ensures { result ≡ update_in (page_now self.now wanted.now) }
+    {
+        self.shown.view(wanted.rendition)?.update(wanted.form)
     }
 
     /// The playlist or delta update as it is now. It is kept until the next item, so that whoever asks for it until then shares it.
@@ -210,16 +219,5 @@ impl Room {
         self.asks = ticket;
         self.events += 1;
         Ok(Parked::new(self.channel, ticket))
-    }
-}
-
-/// The playlist that is asked for.
-fn form_of(skip: Skip) -> Form
-    ensures { result ≡ verdict.form_of skip }
-{
-    match skip {
-        Skip::No => Form::Full,
-        Skip::Yes => Form::Delta(SkipKind::Yes),
-        Skip::V2 => Form::Delta(SkipKind::V2),
     }
 }

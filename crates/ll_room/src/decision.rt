@@ -1,8 +1,8 @@
 ghost use Rattle.std.specs.Prelude.{◌≡◌, option_map};
 ghost use Rattle.ll_verdict.specs.Outcome.{outcome_of};
-ghost use Rattle.ll_room.specs.Decided.{reply_in};
-ghost use Rattle.ll_room.specs.Home.{Home};
+ghost use Rattle.ll_room.specs.Decided.{IsDecidedOfOne, reply_in};
 
+use crate::room::Room;
 use ll_verdict::{Outcome, Wanted};
 
 /// What comes of a request when it is made: the first of these that applies. It tells all of its reply but the playlist's text.
@@ -21,13 +21,14 @@ pub enum Decision {
 }
 
 impl Decision {
-    /// What the reply at once comes to, where the channel has accepted so many items; none where the request is held.
-    pub fn outcome(&self, count: u64) -> Option<Outcome>
-        ensures { (h : Home) → h.count ≡ count → result ≡ option_map outcome_of (reply_in h self.now) }
+    /// What the reply at once comes to, of a request of which this was decided in this room; none where the request is held.
+    pub fn outcome(&self, room: &Room) -> Option<Outcome>
+        requires { IsDecidedOfOne room.now self.now }
+        ensures { result ≡ option_map outcome_of (reply_in room.now self.now) }
     {
         match self {
             Decision::NotFound => Some(Outcome::NotFound),
-            Decision::There(_) => Some(Outcome::Text(count)),
+            Decision::There(wanted) => Some(Outcome::Text(room.count(), room.update(wanted))),
             Decision::TooFar => Some(Outcome::TooFar),
             Decision::Busy => Some(Outcome::Busy),
             Decision::Waits(_) => None,

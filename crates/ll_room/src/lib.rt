@@ -17,8 +17,9 @@ mod written;
 
 pub use asked::{Asked, Closed, Collected};
 pub use decision::Decision;
-pub use fault::{AskFault, ClockFault};
+pub use fault::ClockFault;
 pub use laws::event_limit_law;
+pub use ll_verdict::AskFault;
 pub use parked::{Parked, Stored};
 pub use replayer::Replayer;
 pub use room::Room;

@@ -10,7 +10,7 @@ ghost use Rattle.ll_room.specs.Coming.{IsComing, changed};
 ghost use Rattle.ll_room.specs.Freed as spec;
 ghost use Rattle.ll_verdict.specs.Full.{event_end, refusal_after};
 ghost use Rattle.ll_room.specs.Full.{refusal_by};
-ghost use Rattle.ll_room.specs.Home.{IsSame, Stands, tickets};
+ghost use Rattle.ll_room.specs.RoomValue.{IsSame, Stands, tickets};
 ghost use Rattle.ll_room.specs.declared.stamped.Stamp.TheVariants as stamp;
 
 use crate::room::{EVENT_END, Room};

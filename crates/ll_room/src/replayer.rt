@@ -8,18 +8,18 @@ ghost use Rattle.ll_directive.specs.Targets.{WantValue};
 ghost use Rattle.ll_room.specs.Answers.{asked, collected_at, is_open, now_in};
 ghost use Rattle.ll_room.specs.Decided.{IsDecided, IsDecidedOfOne};
 ghost use Rattle.ll_verdict.specs.Full.{event_end, refusal_after};
-ghost use Rattle.ll_room.specs.Home.{Stands, home};
+ghost use Rattle.ll_room.specs.RoomValue.{Stands, room_value};
 ghost use Rattle.ll_room.specs.declared.stamped.Stamp.TheVariants as stamp;
 
 use crate::asked::{Asked, Closed, Collected};
 use crate::decision::Decision;
-use crate::fault::{AskFault, ClockFault};
+use crate::fault::ClockFault;
 use crate::parked::Parked;
 use crate::room::Room;
 use crate::stamped::Stamped;
 use ll_directive::Want;
 use ll_item::{Item, Settings};
-use ll_verdict::{PublishFault, Reply};
+use ll_verdict::{AskFault, PublishFault, Reply};
 use std::alloc::{AllocError, Global};
 use std::marker::Model;
 
@@ -31,9 +31,9 @@ pub struct Replayer {
 }
 
 impl Model for Replayer {
-    ghost use Rattle.ll_room.specs.Home.{Home};
+    ghost use Rattle.ll_room.specs.RoomValue.{RoomValue};
 
-    ghost Value = { Home };
+    ghost Value = { RoomValue };
 
     ghost view = { λ k. k.room };
 }
@@ -41,7 +41,7 @@ impl Model for Replayer {
 impl Replayer {
     /// The room of this number for a channel of these settings, to which nothing has happened. It fails only where no memory is found.
     pub fn new(alloc: Global, channel: u64, settings: Settings) -> Result<Replayer, AllocError>
-        ensures { IfOk result (λ k. k ≡ home channel settings (state_of settings [])) }
+        ensures { IfOk result (λ k. k ≡ room_value channel settings (state_of settings [])) }
     {
         Ok(Replayer {
             room: Room::new(alloc, channel, settings)?,

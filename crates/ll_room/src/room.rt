@@ -6,7 +6,7 @@ ghost use Rattle.ll_verdict.specs.Waiting as waiting;
 ghost use Rattle.ll_verdict.specs.State.{state_of};
 ghost use Rattle.ll_room.specs.Answers.{is_open};
 ghost use Rattle.ll_verdict.specs.Full.{is_full};
-ghost use Rattle.ll_room.specs.Home.{home};
+ghost use Rattle.ll_room.specs.RoomValue.{room_value};
 
 use crate::written::Written;
 use ll_book::Book;
@@ -38,10 +38,10 @@ pub struct Room {
 }
 
 impl Model for Room {
-    ghost use Rattle.ll_room.specs.Home.{Home};
+    ghost use Rattle.ll_room.specs.RoomValue.{RoomValue};
     ghost use Rattle.ll_room.specs.Kept.{IsKept};
 
-    ghost Value = { Home };
+    ghost Value = { RoomValue };
 
     ghost view = { λ r. record {
       channel = r.channel;
@@ -69,7 +69,7 @@ impl Model for Room {
 impl Room {
     /// The room of this number for a channel of these settings, to which nothing has happened. It fails only where no memory is found.
     pub fn new(alloc: Global, channel: u64, settings: Settings) -> Result<Room, AllocError>
-        ensures { IfOk result (λ r. r ≡ home channel settings (state_of settings [])) }
+        ensures { IfOk result (λ r. r ≡ room_value channel settings (state_of settings [])) }
     {
         // so that no request is due when it is made
         prove!(settings.target() >= 1);

@@ -3,7 +3,7 @@ ghost use Rattle.std.specs.Prelude.{◌≡◌, ◌≢◌, ◌≤◌, ◌<◌, �
 ghost use Rattle.ll_verdict.specs.Events.{Event, Collect, Close, Clock};
 ghost use Rattle.ll_room.specs.Answers as answers;
 ghost use Rattle.ll_verdict.specs.Full.{event_end};
-ghost use Rattle.ll_room.specs.Home.{IsSame, Stands, less, tickets};
+ghost use Rattle.ll_room.specs.RoomValue.{IsSame, Stands, less, tickets};
 
 use crate::asked::{Closed, Collected};
 use crate::fault::ClockFault;

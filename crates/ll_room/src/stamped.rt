@@ -24,9 +24,9 @@ pub struct Stamped<T> {
 }
 
 impl<T> Model for Stamped<T> {
-    ghost use Rattle.ll_room.specs.Mark.{Mark};
+    ghost use Rattle.ll_room.specs.StampedValue.{StampedValue};
 
-    ghost Value = { Mark T };
+    ghost Value = { StampedValue T };
 
     ghost view = { λ s. record { room = s.room; stamp = s.stamp; value = s.value } };
 }

@@ -5,7 +5,8 @@ ghost use Rattle.ll_room.specs.Stored.{AreFew};
 ghost use Rattle.ll_room.specs.Written.{AreWritten, is_of};
 
 use ll_book::Pages;
-use ll_page::{Form, Page, Pieces, Rendition, Shown};
+use ll_item::SkipKind;
+use ll_page::{Page, Pieces, Rendition, Shown};
 use std::alloc::{AllocError, Global};
 use std::marker::Model;
 
@@ -46,7 +47,7 @@ impl Written {
         alloc: Global,
         shown: &Shown,
         rendition: usize,
-        form: Form,
+        form: Option<SkipKind>,
     ) -> Result<Page, AllocError>
         requires there { rendition < length shown.now.renditions }
         requires current { AreWritten shown.now self.old.pages }

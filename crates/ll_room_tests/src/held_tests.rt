@@ -1,7 +1,7 @@
 //! Requests that wait in a channel, step by step.
 use ll_directive::read_target;
 use ll_item::{Item, Settings};
-use ll_rooms::{Answer, Owner, Rooms};
+use ll_rooms::{ActAnswer, Owner, Rooms};
 use ll_verdict::Reply;
 use std::alloc::Global;
 use std::process::Abort;
@@ -129,11 +129,11 @@ fn take(alloc: Global, rooms: &mut Rooms, step: Step) -> Option<String> {
 }
 
 /// An answer as a text: of an item the count, of a reply its number and its name or the last line of its playlist.
-fn told(alloc: Global, answer: Option<Answer>) -> Option<String> {
+fn told(alloc: Global, answer: Option<ActAnswer>) -> Option<String> {
     match answer {
         None => Some(String::new(alloc)),
-        Some(Answer::Accepted(count)) => format!(in alloc; "ok {count}").ok(),
-        Some(Answer::Replied(Owner::Get(id), reply)) => {
+        Some(ActAnswer::Accepted(count)) => format!(in alloc; "ok {count}").ok(),
+        Some(ActAnswer::Replied(Owner::Get(id), reply)) => {
             format!(in alloc; "{id} {}", reply_told(&reply)).ok()
         }
         Some(_) => None,

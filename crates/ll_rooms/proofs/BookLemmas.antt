@@ -17,30 +17,30 @@ use Rattle.ll_rooms.specs.Spots.{spot}
 use Rattle.ll_rooms.specs.Waits.{is_of, is_same, is_under, under, wait_of, without}
 use Rattle.ll_rooms.specs.declared.owner.Owner.{Owner}
 use Rattle.ll_rooms.specs.declared.owner.Owner.TheVariants.{Get, Connection}
-use Rattle.ll_rooms.specs.declared.row.Row.{Row}
+use Rattle.ll_rooms.specs.declared.held_request.HeldRequest.{HeldRequest}
 use Rattle.ll_rooms.specs.declared.wait.Wait.{Wait}
 use Rattle.ll_rooms.proofs.Firsts.{first_left, under_left, under_pushed}
 use Rattle.ll_rooms.proofs.SpotLemmas.{first_of, has_key, is_there, none_of}
 
 -- ---- the rows and their waits
 
-found_by : (q : Wait → Bool) (r : Row) (rs : List Row) (b : Bool) → find q (map wait_in rs) ≡ option_map wait_in (find (λ s. q (wait_in s)) rs)
+found_by : (q : Wait → Bool) (r : HeldRequest) (rs : List HeldRequest) (b : Bool) → find q (map wait_in rs) ≡ option_map wait_in (find (λ s. q (wait_in s)) rs)
     → cond b (Some (wait_in r)) (find q (map wait_in rs)) ≡ option_map wait_in (cond b (Some r) (find (λ s. q (wait_in s)) rs))
 found_by q r rs true h = refl
 found_by q r rs false h = h
 
 -- what is found among the waits is found among the rows
-find_waits : (q : Wait → Bool) (rs : List Row) → find q (map wait_in rs) ≡ option_map wait_in (find (λ r. q (wait_in r)) rs)
+find_waits : (q : Wait → Bool) (rs : List HeldRequest) → find q (map wait_in rs) ≡ option_map wait_in (find (λ r. q (wait_in r)) rs)
 find_waits q [] = refl
 find_waits q (r ∷ rs) = found_by q r rs (q (wait_in r)) (find_waits q rs)
 
-left_by : (q : Wait → Bool) (r : Row) (rs : List Row) (b : Bool) → map wait_in (remove_key (λ s. q (wait_in s)) rs) ≡ remove_key q (map wait_in rs)
+left_by : (q : Wait → Bool) (r : HeldRequest) (rs : List HeldRequest) (b : Bool) → map wait_in (remove_key (λ s. q (wait_in s)) rs) ≡ remove_key q (map wait_in rs)
     → map wait_in (cond b rs (r ∷ remove_key (λ s. q (wait_in s)) rs)) ≡ cond b (map wait_in rs) (wait_in r ∷ remove_key q (map wait_in rs))
 left_by q r rs true h = refl
 left_by q r rs false h = ap (λ ws. wait_in r ∷ ws) h
 
 -- what leaves the rows leaves their waits
-left_waits : (q : Wait → Bool) (rs : List Row) → map wait_in (remove_key (λ r. q (wait_in r)) rs) ≡ remove_key q (map wait_in rs)
+left_waits : (q : Wait → Bool) (rs : List HeldRequest) → map wait_in (remove_key (λ r. q (wait_in r)) rs) ≡ remove_key q (map wait_in rs)
 left_waits q [] = refl
 left_waits q (r ∷ rs) = left_by q r rs (q (wait_in r)) (left_waits q rs)
 
@@ -55,9 +55,9 @@ none_left q [] h = refl
 none_left q (w ∷ ws) h = kept_by q w ws (q w) h (none_left q ws)
 
 -- the first of the rows
-pub first_wait : (e : ℕ × Row) (rows : List (ℕ × Row)) → slice_get rows 0 ≡ Some e → slice_get (map wait_in (values_of rows)) 0 ≡ Some (wait_in e.1)
+pub first_wait : (e : ℕ × HeldRequest) (rows : List (ℕ × HeldRequest)) → slice_get rows 0 ≡ Some e → slice_get (map wait_in (values_of rows)) 0 ≡ Some (wait_in e.1)
 first_wait e [] h = absurd (none-some e h)
-first_wait e (f ∷ rows) h = ap (option_map (λ (x : ℕ × Row). wait_in x.1)) h
+first_wait e (f ∷ rows) h = ap (option_map (λ (x : ℕ × HeldRequest). wait_in x.1)) h
 
 same_owner : (a b : Owner) → (kind_of a == kind_of b && id_of a == id_of b) ≡ is_same a b
 same_owner (Get a) (Get b) = refl
@@ -65,20 +65,20 @@ same_owner (Get a) (Connection b) = refl
 same_owner (Connection a) (Get b) = refl
 same_owner (Connection a) (Connection b) = refl
 
-abbrev place_of : Row → ℕ
+abbrev place_of : HeldRequest → ℕ
 place_of r = r.parked.channel
 
-abbrev ticket_of : Row → ℕ
+abbrev ticket_of : HeldRequest → ℕ
 ticket_of r = r.parked.ticket
 
-abbrev owner_kind : Row → ℕ
+abbrev owner_kind : HeldRequest → ℕ
 owner_kind r = kind_of r.owner
 
-abbrev owner_id : Row → ℕ
+abbrev owner_id : HeldRequest → ℕ
 owner_id r = id_of r.owner
 
-module _ (rows : List (ℕ × Row)) (tickets owners : List Place) (last : ℕ) (book : IsBook rows tickets owners last) where
-  abbrev listed : List Row
+module _ (rows : List (ℕ × HeldRequest)) (tickets owners : List Place) (last : ℕ) (book : IsBook rows tickets owners last) where
+  abbrev listed : List HeldRequest
   listed = values_of rows
 
   abbrev waits : List Wait
@@ -108,7 +108,7 @@ module _ (rows : List (ℕ × Row)) (tickets owners : List Place) (last : ℕ) (
       is_there number_of place_of ticket_of listed tickets rise book.tickets_told place ticket n next (sym (looked_up number_of n 0 rows book.keyed) ∙ none)
 
   owned : (owner : Owner) → find (λ r. is_of owner (wait_in r)) listed ≡ find (has_key number_of owner_kind owner_id (kind_of owner) (id_of owner)) listed
-  owned owner = ap (λ (q : Row → Bool). find q listed) (λ i r. sym (same_owner r.owner owner) i)
+  owned owner = ap (λ (q : HeldRequest → Bool). find q listed) (λ i r. sym (same_owner r.owner owner) i)
 
   -- the same of an owner
   pub none_owned : (owner : Owner) → ((n : ℕ) → 0 < n → stands owners (spot (kind_of owner) (id_of owner) n) ≡ false) → wait_of owner waits ≡ None
@@ -123,7 +123,7 @@ module _ (rows : List (ℕ × Row)) (tickets owners : List Place) (last : ℕ) (
 
   -- ---- one row leaves
 
-  module _ (n : ℕ) (r : Row) (found : lookup (is_at (nat_cmp n)) rows ≡ Some r) where
+  module _ (n : ℕ) (r : HeldRequest) (found : lookup (is_at (nat_cmp n)) rows ≡ Some r) where
     its : find (has_number number_of n) listed ≡ Some r
     its = sym (looked_up number_of n 0 rows book.keyed) ∙ found
 
@@ -137,7 +137,7 @@ module _ (rows : List (ℕ × Row)) (tickets owners : List Place) (last : ℕ) (
         ∙ sym (first_left number_of (λ s. is_under place ticket (wait_in s)) 0 r listed rise (number_under place ticket n next ∙ its)))
         ∙ left_waits (is_under place ticket) listed
 
-    pub book_left : (left : List (ℕ × Row)) (tickets_left owners_left : List Place) → left ≡ remove_entry (is_at (nat_cmp n)) rows
+    pub book_left : (left : List (ℕ × HeldRequest)) (tickets_left owners_left : List Place) → left ≡ remove_entry (is_at (nat_cmp n)) rows
         → Removes (by_ticket r) tickets tickets_left → Removes (by_owner r) owners owners_left → IsBook left tickets_left owners_left last
     book_left left tickets_left owners_left e gone gone_too =
         let out : values_of left ≡ all_but number_of r.number listed = ap values_of e ∙ taken_out number_of n 0 rows book.keyed ∙ ap (λ m. all_but number_of m listed) (sym number_is) in
@@ -157,14 +157,14 @@ module _ (rows : List (ℕ × Row)) (tickets owners : List Place) (last : ℕ) (
   pub fresh : lookup (is_at (nat_cmp (last + 1))) rows ≡ None
   fresh = looked_up number_of (last + 1) 0 rows book.keyed ∙ none_above number_of (last + 1) listed book.given
 
-  module _ (r : Row) (next : r.number ≡ last + 1) where
+  module _ (r : HeldRequest) (next : r.number ≡ last + 1) where
     new : AreUnder number_of r.number listed
     new = subst (λ n. AreUnder number_of n listed) (sym next) book.given
 
-    pub waits_more : (more : List (ℕ × Row)) → more ≡ insert_entry nat_cmp rows r.number r → map wait_in (values_of more) ≡ waits ++ wait_in r ∷ []
+    pub waits_more : (more : List (ℕ × HeldRequest)) → more ≡ insert_entry nat_cmp rows r.number r → map wait_in (values_of more) ≡ waits ++ wait_in r ∷ []
     waits_more more e = ap (map wait_in) (ap values_of e ∙ pushed number_of 0 r rows book.keyed new) ∙ map-append wait_in listed (r ∷ [])
 
-    pub book_more : (more : List (ℕ × Row)) (tickets_more owners_more : List Place) → more ≡ insert_entry nat_cmp rows r.number r
+    pub book_more : (more : List (ℕ × HeldRequest)) (tickets_more owners_more : List Place) → more ≡ insert_entry nat_cmp rows r.number r
         → Adds (by_ticket r) tickets tickets_more → Adds (by_owner r) owners owners_more → IsBook more tickets_more owners_more (last + 1)
     book_more more tickets_more owners_more e added added_too =
         let in_all : values_of more ≡ listed ++ r ∷ [] = ap values_of e ∙ pushed number_of 0 r rows book.keyed new in
@@ -178,7 +178,7 @@ module _ (rows : List (ℕ × Row)) (tickets owners : List Place) (last : ℕ) (
         }
 
     -- a row that was put into both orders, and not into the rows, leaves them again
-    pub book_undone : (same : List (ℕ × Row)) (tickets_more tickets_back owners_more owners_back : List Place) → same ≡ rows
+    pub book_undone : (same : List (ℕ × HeldRequest)) (tickets_more tickets_back owners_more owners_back : List Place) → same ≡ rows
         → Adds (by_ticket r) tickets tickets_more → Removes (by_ticket r) tickets_more tickets_back
         → Adds (by_owner r) owners owners_more → Removes (by_owner r) owners_more owners_back → IsBook same tickets_back owners_back last
     book_undone same tickets_more tickets_back owners_more owners_back e added gone added_too gone_too =

@@ -8,8 +8,8 @@ use Rattle.ll_verdict.specs.Events.{Ask, Collect, Close}
 use Rattle.ll_directive.specs.Targets.{WantValue}
 use Rattle.ll_verdict.specs.declared.reply.Reply.{Reply}
 use Rattle.ll_room.specs.Answers as room
-use Rattle.ll_room.specs.Home.{Home, IsSame, less, tickets}
-use Rattle.ll_room.specs.Mark.{Mark}
+use Rattle.ll_room.specs.RoomValue.{RoomValue, IsSame, less, tickets}
+use Rattle.ll_room.specs.StampedValue.{StampedValue}
 use Rattle.ll_room.specs.Ticket.{Ticket}
 use Rattle.ll_room.specs.declared.asked.Asked.TheVariants.{Held}
 use Rattle.ll_verdict.specs.Full.{event_end}
@@ -21,13 +21,13 @@ use Rattle.ll_rooms.specs.declared.owner.Owner.{Owner}
 use Rattle.ll_rooms.specs.declared.wait.Wait.{Wait}
 use Rattle.ll_rooms.specs.Kept.{AreTied, Kept, Leads, kept_world}
 use Rattle.ll_rooms.specs.World.{World, ask, clock, close_at, next_reply}
-use Rattle.ll_rooms.specs.declared.answer.Answer.TheVariants.{ClockRefused, Replied}
+use Rattle.ll_rooms.specs.declared.answer.ActAnswer.TheVariants.{ClockRefused, Replied}
 use Rattle.ll_rooms.proofs.ActLemmas.{Answered, own_test, asked_held, held_is, clock_full, clock_range, closes, gave_up, gets, one_more, ready_waits, ticked}
 use Rattle.ll_rooms.proofs.DueLemmas.{find_passes}
 use Rattle.ll_rooms.proofs.StandLemmas.{GoesOn, still_back, still_less, still_more}
 use Rattle.ll_rooms.proofs.TieLemmas.{get_set, has_room, none_some, some_is}
 
-abbrev pub kept_of : List Home → List Wait → ℕ → Kept
+abbrev pub kept_of : List RoomValue → List Wait → ℕ → Kept
 kept_of rooms waits n = record { rooms = rooms; waits = waits; events = n }
 
 none_by : {X : Type 0} (xs : List X) (n i : ℕ) (o : Option X) → slice_get xs i ≡ o → n ≡ length xs → (i < n → false ≡ true) → o ≡ None
@@ -59,29 +59,29 @@ parked_by i t p xs (Some x) e f =
 pub parked_is : (i t : ℕ) (p : Ticket) (xs : List Wait) → Some p ≡ option_map parked_of (under i t xs) → p ≡ record { channel = i; ticket = t }
 parked_is i t p xs f = parked_by i t p xs (under i t xs) refl f
 
-pub not_lost : (rooms : List Home) (waits : List Wait) (i t : ℕ) (h : Home) → AreTied rooms waits → slice_get rooms i ≡ Some h → first_ready h.slots ≡ Some t → under i t waits ≡ None → ⊥
+pub not_lost : (rooms : List RoomValue) (waits : List Wait) (i t : ℕ) (h : RoomValue) → AreTied rooms waits → slice_get rooms i ≡ Some h → first_ready h.slots ≡ Some t → under i t waits ≡ None → ⊥
 not_lost rooms waits i t h tied at ready lost = true≢false (sym (ready_waits rooms waits i t h tied at ready) ∙ ap is_some lost)
 
-pub not_refused : (rooms : List Home) (waits : List Wait) (i t : ℕ) (h : Home) (p : Ticket) → AreTied rooms waits → slice_get rooms i ≡ Some h → first_ready h.slots ≡ Some t
+pub not_refused : (rooms : List RoomValue) (waits : List Wait) (i t : ℕ) (h : RoomValue) (p : Ticket) → AreTied rooms waits → slice_get rooms i ≡ Some h → first_ready h.slots ≡ Some t
     → Some p ≡ option_map parked_of (under i t waits) → room.is_got (room.collected h p) ≡ false → ⊥
 not_refused rooms waits i t h p tied at ready value lost = true≢false (sym (gets rooms waits i t h p tied at ready (parked_is i t p waits value)) ∙ lost)
 
 ticket_is : (i t : ℕ) (p : Ticket) (xs : List Wait) → Some p ≡ option_map parked_of (under i t xs) → p.ticket ≡ t
 ticket_is i t p xs value = ap (λ (p : Ticket). p.ticket) (parked_is i t p xs value)
 
-pub tied_told : (rooms : List Home) (waits waits2 : List Wait) (i t : ℕ) (h h2 : Home) (p : Ticket) → AreTied rooms waits → slice_get rooms i ≡ Some h → IsSame h h2 → GoesOn h h2 (Collect p.ticket)
+pub tied_told : (rooms : List RoomValue) (waits waits2 : List Wait) (i t : ℕ) (h h2 : RoomValue) (p : Ticket) → AreTied rooms waits → slice_get rooms i ≡ Some h → IsSame h h2 → GoesOn h h2 (Collect p.ticket)
     → tickets h2 ≡ less p.ticket (tickets h) → Some p ≡ option_map parked_of (under i t waits) → waits2 ≡ without i t waits → AreTied (slice_set rooms i h2) waits2
 tied_told rooms waits waits2 i t h h2 p tied at same goes fewer value left =
     subst (λ xs. AreTied (slice_set rooms i h2) xs) (ap (λ n. without i n waits) (ticket_is i t p waits value) ∙ sym left)
     (still_less rooms waits i p.ticket h h2 (Collect p.ticket) tied at same goes fewer)
 
-pub tied_gave_up : (rooms : List Home) (waits waits2 : List Wait) (i t : ℕ) (h h2 : Home) (p : Ticket) → AreTied rooms waits → slice_get rooms i ≡ Some h → IsSame h h2 → GoesOn h h2 (Close p.ticket)
+pub tied_gave_up : (rooms : List RoomValue) (waits waits2 : List Wait) (i t : ℕ) (h h2 : RoomValue) (p : Ticket) → AreTied rooms waits → slice_get rooms i ≡ Some h → IsSame h h2 → GoesOn h h2 (Close p.ticket)
     → tickets h2 ≡ less p.ticket (tickets h) → Some p ≡ option_map parked_of (under i t waits) → waits2 ≡ without i t waits → AreTied (slice_set rooms i h2) waits2
 tied_gave_up rooms waits waits2 i t h h2 p tied at same goes fewer value left =
     subst (λ xs. AreTied (slice_set rooms i h2) xs) (ap (λ n. without i n waits) (ticket_is i t p waits value) ∙ sym left)
     (still_less rooms waits i p.ticket h h2 (Close p.ticket) tied at same goes fewer)
 
-pub told_due : (rooms : List Home) (waits waits2 : List Wait) (n : ℕ) (w : World) (i t : ℕ) (h h2 : Home) (p : Ticket) (m : Mark Reply) (v : Reply) (x : Wait)
+pub told_due : (rooms : List RoomValue) (waits waits2 : List Wait) (n : ℕ) (w : World) (i t : ℕ) (h h2 : RoomValue) (p : Ticket) (m : StampedValue Reply) (v : Reply) (x : Wait)
     → kept_of rooms waits n ≡ kept_world w → slice_get rooms i ≡ Some h → IsSame h h2 → GoesOn h h2 (Collect p.ticket) → first_ready h.slots ≡ Some t → Some x ≡ under i t waits
     → Some p ≡ option_map parked_of (under i t waits) → waits2 ≡ without i t waits → Got m ≡ room.collected h p → v ≡ m.value
     → Leads (kept_of (slice_set rooms i h2) waits2 n) (Some (Replied x.owner v)) w (next_reply i w)
@@ -90,7 +90,7 @@ told_due rooms waits waits2 n w i t h h2 p m v x e at same goes ready found valu
     (subst (λ xs. Leads (kept_of (slice_set rooms i h2) xs n) (Some (Replied x.owner m.value)) w (next_reply i w)) (sym left)
     (ticked (kept_of rooms waits n) w i t h h2 p m x e at same goes (ticket_is i t p waits value) ready (sym found) handed))
 
-pub gave_up_one : (rooms : List Home) (waits waits2 : List Wait) (n n2 : ℕ) (w : World) (x : Wait) (h h2 : Home) (p : Ticket)
+pub gave_up_one : (rooms : List RoomValue) (waits waits2 : List Wait) (n n2 : ℕ) (w : World) (x : Wait) (h h2 : RoomValue) (p : Ticket)
     → n2 ≡ one_more n → kept_of rooms waits n ≡ kept_world w → slice_get rooms x.place ≡ Some h → IsSame h h2 → GoesOn h h2 (Close p.ticket)
     → Some p ≡ option_map parked_of (under x.place x.ticket waits) → waits2 ≡ without x.place x.ticket waits
     → Leads (kept_of (slice_set rooms x.place h2) waits2 n2) None w (close_at w x (slice_get w.channels x.place))
@@ -98,7 +98,7 @@ gave_up_one rooms waits waits2 n n2 w x h h2 p more e at same goes value left =
     subst (λ xs. Leads (kept_of (slice_set rooms x.place h2) xs n2) None w (close_at w x (slice_get w.channels x.place))) (sym left)
     (gave_up n2 (kept_of rooms waits n) w x h h2 p more e at same goes (ticket_is x.place x.ticket p waits value))
 
-pub not_stranger : (rooms : List Home) (waits : List Wait) (i t : ℕ) (h : Home) (p : Ticket) → AreTied rooms waits → slice_get rooms i ≡ Some h → is_some (under i t waits) ≡ true
+pub not_stranger : (rooms : List RoomValue) (waits : List Wait) (i t : ℕ) (h : RoomValue) (p : Ticket) → AreTied rooms waits → slice_get rooms i ≡ Some h → is_some (under i t waits) ≡ true
     → Some p ≡ option_map parked_of (under i t waits) → room.is_done (room.closed h p) ≡ false → ⊥
 not_stranger rooms waits i t h p tied at waiting value lost = true≢false (sym (closes rooms waits i t h p tied at waiting (parked_is i t p waits value)) ∙ lost)
 
@@ -109,13 +109,13 @@ waiting_by p (Some x) f = refl
 pub waiting_there : (i t : ℕ) (p : Ticket) (waits : List Wait) → Some p ≡ option_map parked_of (under i t waits) → is_some (under i t waits) ≡ true
 waiting_there i t p waits f = waiting_by p (under i t waits) f
 
-pub no_room : (rooms : List Home) (waits : List Wait) (i t : ℕ) (p : Ticket) → AreTied rooms waits → slice_get rooms i ≡ None → Some p ≡ option_map parked_of (under i t waits) → ⊥
+pub no_room : (rooms : List RoomValue) (waits : List Wait) (i t : ℕ) (p : Ticket) → AreTied rooms waits → slice_get rooms i ≡ None → Some p ≡ option_map parked_of (under i t waits) → ⊥
 no_room rooms waits i t p tied at f = has_room rooms waits i t tied at (waiting_there i t p waits f)
 
-abbrev pub count_is : Mark ℕ → ℕ
+abbrev pub count_is : StampedValue ℕ → ℕ
 count_is m = m.value
 
-pub clock_refused : (old : Kept) (w : World) (i ms : ℕ) (f : ClockFault) (h h2 : Home) → old ≡ kept_world w → slice_get old.rooms i ≡ Some h → h2 ≡ h
+pub clock_refused : (old : Kept) (w : World) (i ms : ℕ) (f : ClockFault) (h h2 : RoomValue) → old ≡ kept_world w → slice_get old.rooms i ≡ Some h → h2 ≡ h
     → (f ≡ ClockRange → 2 ^ 60 < ms) → (f ≡ RecordFull → (ms ≤ 2 ^ 60) × (event_end ≤ h.events))
     → Leads (kept_of (slice_set old.rooms i h2) old.waits old.events) (Some (ClockRefused f)) w (clock i ms w)
 clock_refused old w i ms ClockRange h h2 e at u range full = clock_range old w i ms h h2 e at u (range refl)
@@ -137,7 +137,7 @@ shorter q (x ∷ xs) h = shorter_by q x (q x) xs h (shorter q xs)
 pub smaller : (xs ys : List Wait) (x : Wait) → ys ≡ without x.place x.ticket xs → is_some (under x.place x.ticket xs) ≡ true → length ys < length xs
 smaller xs ys x e h = subst (λ zs. length zs < length xs) (sym e) (shorter (is_under x.place x.ticket) xs h)
 
-pub tied_held : (rooms : List Home) (waits waits2 : List Wait) (i : ℕ) (owner : Owner) (want : WantValue) (p : Ticket) (h h2 : Home) → AreTied rooms waits → slice_get rooms i ≡ Some h → IsSame h h2
+pub tied_held : (rooms : List RoomValue) (waits waits2 : List Wait) (i : ℕ) (owner : Owner) (want : WantValue) (p : Ticket) (h h2 : RoomValue) → AreTied rooms waits → slice_get rooms i ≡ Some h → IsSame h h2
     → GoesOn h h2 (Ask want) → Answered h want (Held p) → tickets h2 ≡ tickets h ++ p.ticket ∷ [] → less p.ticket (tickets h2) ≡ tickets h
     → waits2 ≡ waits ++ (record { owner = owner; place = p.channel; ticket = p.ticket }) ∷ [] → AreTied (slice_set rooms i h2) waits2
 tied_held rooms waits waits2 i owner want p h h2 tied at same goes answer more back left =
@@ -145,7 +145,7 @@ tied_held rooms waits waits2 i owner want p h h2 tied at same goes answer more b
     (subst (λ n. AreTied (slice_set rooms i h2) (waits ++ (record { owner = owner; place = n; ticket = p.ticket }) ∷ [])) (sym (ap (λ (p : Ticket). p.channel) (held_is rooms waits i h want p tied at answer)))
     (still_more rooms waits (record { owner = owner; place = i; ticket = p.ticket }) h h2 (Ask want) tied at same goes more back))
 
-pub held_leads : (rooms : List Home) (waits waits2 : List Wait) (n n2 : ℕ) (w : World) (owner : Owner) (i : ℕ) (want : WantValue) (p : Ticket) (h h2 : Home) → n2 ≡ one_more n → kept_of rooms waits n ≡ kept_world w → AreTied rooms waits
+pub held_leads : (rooms : List RoomValue) (waits waits2 : List Wait) (n n2 : ℕ) (w : World) (owner : Owner) (i : ℕ) (want : WantValue) (p : Ticket) (h h2 : RoomValue) → n2 ≡ one_more n → kept_of rooms waits n ≡ kept_world w → AreTied rooms waits
     → slice_get rooms i ≡ Some h → IsSame h h2 → GoesOn h h2 (Ask want) → Answered h want (Held p) → h.events < event_end
     → waits2 ≡ waits ++ (record { owner = owner; place = p.channel; ticket = p.ticket }) ∷ [] → Leads (kept_of (slice_set rooms i h2) waits2 n2) None w (ask owner i want w)
 held_leads rooms waits waits2 n n2 w owner i want p h h2 more e tied at same goes answer few left =
@@ -161,7 +161,7 @@ last_waits [] x = ap (λ b. is_some (if b then Some x else None)) (own_test x)
 last_waits (y ∷ xs) x = last_by y (is_under x.place x.ticket y) (under x.place x.ticket (xs ++ x ∷ [])) (last_waits xs x)
 
 -- the newest request is open
-pub newest_closes : (rooms : List Home) (waits : List Wait) (i : ℕ) (owner : Owner) (want : WantValue) (p q : Ticket) (h h2 : Home) → AreTied rooms waits → slice_get rooms i ≡ Some h → IsSame h h2
+pub newest_closes : (rooms : List RoomValue) (waits : List Wait) (i : ℕ) (owner : Owner) (want : WantValue) (p q : Ticket) (h h2 : RoomValue) → AreTied rooms waits → slice_get rooms i ≡ Some h → IsSame h h2
     → GoesOn h h2 (Ask want) → Answered h want (Held p) → tickets h2 ≡ tickets h ++ p.ticket ∷ [] → less p.ticket (tickets h2) ≡ tickets h → q ≡ p
     → room.is_done (room.closed h2 q) ≡ false → ⊥
 newest_closes rooms waits i owner want p q h h2 tied at same goes answer more back e lost =
@@ -170,7 +170,7 @@ newest_closes rooms waits i owner want p q h h2 tied at same goes answer more ba
     (last_waits waits (record { owner = owner; place = i; ticket = p.ticket }))
     (e ∙ ap (λ n. record { channel = n; ticket = p.ticket }) (ap (λ (p : Ticket). p.channel) (held_is rooms waits i h want p tied at answer)))) ∙ lost)
 
-pub tied_back : (rooms : List Home) (waits waits2 : List Wait) (i : ℕ) (want : WantValue) (p q : Ticket) (h h2 h3 : Home) → AreTied rooms waits → slice_get rooms i ≡ Some h → IsSame h h2
+pub tied_back : (rooms : List RoomValue) (waits waits2 : List Wait) (i : ℕ) (want : WantValue) (p q : Ticket) (h h2 h3 : RoomValue) → AreTied rooms waits → slice_get rooms i ≡ Some h → IsSame h h2
     → GoesOn h h2 (Ask want) → IsSame h2 h3 → GoesOn h2 h3 (Close q.ticket) → tickets h3 ≡ less q.ticket (tickets h2) → less p.ticket (tickets h2) ≡ tickets h → q ≡ p → waits2 ≡ waits
     → AreTied (slice_set rooms i h3) waits2
 tied_back rooms waits waits2 i want p q h h2 h3 tied at same goes same2 goes2 fewer back e left =

@@ -6,11 +6,11 @@ use Rattle.ll_verdict.specs.Waiting.{has_ticket, ticket_in}
 use Rattle.ll_verdict.specs.declared.entry.Slot.{Slot}
 use Rattle.ll_room.specs.Answers.{is_open}
 use Rattle.ll_room.proofs.TicketLemmas.{absent, distinct_less, distinct_more, newest_is_new}
-use Rattle.ll_room.specs.Home.{AreDistinct, Home, among, less, tickets}
+use Rattle.ll_room.specs.RoomValue.{AreDistinct, RoomValue, among, less, tickets}
 use Rattle.ll_rooms.specs.Waits.{under, without}
 use Rattle.ll_rooms.specs.declared.wait.Wait.{Wait}
 use Rattle.ll_rooms.specs.World.{Channel}
-use Rattle.ll_rooms.specs.Kept.{AreTied, homes_from, is_in, open_in, ticket_of, tickets_at}
+use Rattle.ll_rooms.specs.Kept.{AreTied, room_values_from, is_in, open_in, ticket_of, tickets_at}
 
 pub some_is : {X : Type 0} (x y : X) → Some x ≡ Some y → x ≡ y
 some_is x y h = ap (λ o. elim o [ None ↦ x | Some z ↦ z ]) h
@@ -51,12 +51,12 @@ any_map t [] = refl
 any_map t (s ∷ ss) = ap (λ b. (s.entry.ticket == t) || b) (any_map t ss)
 
 -- a request waits at a place just where it is open in the room there
-pub is_open_there : (rooms : List Home) (waits : List Wait) (i t : ℕ) (h : Home) → AreTied rooms waits → slice_get rooms i ≡ Some h → is_some (under i t waits) ≡ is_open h t
+pub is_open_there : (rooms : List RoomValue) (waits : List Wait) (i t : ℕ) (h : RoomValue) → AreTied rooms waits → slice_get rooms i ≡ Some h → is_some (under i t waits) ≡ is_open h t
 is_open_there rooms waits i t h tied at =
     find_any i t waits ∙ ap (list_any (λ n. n == t)) (tied.opened i ∙ ap open_in at) ∙ any_map t h.slots
 
 -- where a request waits there is a room
-pub has_room : (rooms : List Home) (waits : List Wait) (i t : ℕ) → AreTied rooms waits → slice_get rooms i ≡ None → is_some (under i t waits) ≡ true → ⊥
+pub has_room : (rooms : List RoomValue) (waits : List Wait) (i t : ℕ) → AreTied rooms waits → slice_get rooms i ≡ None → is_some (under i t waits) ≡ true → ⊥
 has_room rooms waits i t tied at h =
     true≢false (sym h ∙ find_any i t waits ∙ ap (list_any (λ n. n == t)) (tied.opened i ∙ ap open_in at))
 
@@ -126,8 +126,8 @@ get_other (z ∷ xs) zero (suc j) y h = refl
 get_other (z ∷ xs) (suc i) zero y h = refl
 get_other (z ∷ xs) (suc i) (suc j) y h = get_other xs i j y (grind (arith, nat_tests, h))
 
-tied_at : (rooms : List Home) (waits waits2 : List Wait) (i : ℕ) (h h2 : Home) (cs : List Channel) → AreTied rooms waits → slice_get rooms i ≡ Some h
-    → slice_set rooms i h2 ≡ homes_from 0 cs → ((j : ℕ) → (j == i) ≡ false → tickets_at j waits2 ≡ tickets_at j waits) → tickets_at i waits2 ≡ tickets h2 → AreDistinct (tickets h2)
+tied_at : (rooms : List RoomValue) (waits waits2 : List Wait) (i : ℕ) (h h2 : RoomValue) (cs : List Channel) → AreTied rooms waits → slice_get rooms i ≡ Some h
+    → slice_set rooms i h2 ≡ room_values_from 0 cs → ((j : ℕ) → (j == i) ≡ false → tickets_at j waits2 ≡ tickets_at j waits) → tickets_at i waits2 ≡ tickets h2 → AreDistinct (tickets h2)
     → AreTied (slice_set rooms i h2) waits2
 tied_at rooms waits waits2 i h h2 cs tied at are others here once = record {
   channels = cs;
@@ -146,29 +146,29 @@ tied_at rooms waits waits2 i h h2 cs tied at are others here once = record {
     stand_once j false f = subst AreDistinct (sym (others j f)) (tied.distinct j)
 
 -- the open tickets of a room
-there : (rooms : List Home) (waits : List Wait) (i : ℕ) (h : Home) → AreTied rooms waits → slice_get rooms i ≡ Some h → tickets_at i waits ≡ tickets h
+there : (rooms : List RoomValue) (waits : List Wait) (i : ℕ) (h : RoomValue) → AreTied rooms waits → slice_get rooms i ≡ Some h → tickets_at i waits ≡ tickets h
 there rooms waits i h tied at = tied.opened i ∙ ap open_in at
 
-once : (rooms : List Home) (waits : List Wait) (i : ℕ) (h : Home) → AreTied rooms waits → slice_get rooms i ≡ Some h → AreDistinct (tickets h)
+once : (rooms : List RoomValue) (waits : List Wait) (i : ℕ) (h : RoomValue) → AreTied rooms waits → slice_get rooms i ≡ Some h → AreDistinct (tickets h)
 once rooms waits i h tied at = subst AreDistinct (there rooms waits i h tied at) (tied.distinct i)
 
 -- a room whose open tickets stay
-pub tied_same : (rooms : List Home) (waits : List Wait) (i : ℕ) (h h2 : Home) (cs : List Channel) → AreTied rooms waits → slice_get rooms i ≡ Some h
-    → slice_set rooms i h2 ≡ homes_from 0 cs → tickets h2 ≡ tickets h → AreTied (slice_set rooms i h2) waits
+pub tied_same : (rooms : List RoomValue) (waits : List Wait) (i : ℕ) (h h2 : RoomValue) (cs : List Channel) → AreTied rooms waits → slice_get rooms i ≡ Some h
+    → slice_set rooms i h2 ≡ room_values_from 0 cs → tickets h2 ≡ tickets h → AreTied (slice_set rooms i h2) waits
 tied_same rooms waits i h h2 cs tied at are e =
     tied_at rooms waits waits i h h2 cs tied at are (λ j f. refl) (there rooms waits i h tied at ∙ sym e) (subst AreDistinct (sym e) (once rooms waits i h tied at))
 
 -- a room of which one leaves
-pub tied_less : (rooms : List Home) (waits : List Wait) (i t : ℕ) (h h2 : Home) (cs : List Channel) → AreTied rooms waits → slice_get rooms i ≡ Some h
-    → slice_set rooms i h2 ≡ homes_from 0 cs → tickets h2 ≡ less t (tickets h) → AreTied (slice_set rooms i h2) (without i t waits)
+pub tied_less : (rooms : List RoomValue) (waits : List Wait) (i t : ℕ) (h h2 : RoomValue) (cs : List Channel) → AreTied rooms waits → slice_get rooms i ≡ Some h
+    → slice_set rooms i h2 ≡ room_values_from 0 cs → tickets h2 ≡ less t (tickets h) → AreTied (slice_set rooms i h2) (without i t waits)
 tied_less rooms waits i t h h2 cs tied at are e =
     tied_at rooms waits (without i t waits) i h h2 cs tied at are (λ j f. tickets_other i j t waits f)
     (tickets_drop i t waits (tied.distinct i) ∙ ap (less t) (there rooms waits i h tied at) ∙ sym e)
     (subst AreDistinct (sym e) (distinct_less t (tickets h) (once rooms waits i h tied at)))
 
 -- a room to which one comes
-pub tied_more : (rooms : List Home) (waits : List Wait) (x : Wait) (h h2 : Home) (cs : List Channel) → AreTied rooms waits → slice_get rooms x.place ≡ Some h
-    → slice_set rooms x.place h2 ≡ homes_from 0 cs → tickets h2 ≡ tickets h ++ x.ticket ∷ [] → less x.ticket (tickets h2) ≡ tickets h
+pub tied_more : (rooms : List RoomValue) (waits : List Wait) (x : Wait) (h h2 : RoomValue) (cs : List Channel) → AreTied rooms waits → slice_get rooms x.place ≡ Some h
+    → slice_set rooms x.place h2 ≡ room_values_from 0 cs → tickets h2 ≡ tickets h ++ x.ticket ∷ [] → less x.ticket (tickets h2) ≡ tickets h
     → AreTied (slice_set rooms x.place h2) (waits ++ x ∷ [])
 tied_more rooms waits x h h2 cs tied at are e back =
     tied_at rooms waits (waits ++ x ∷ []) x.place h h2 cs tied at are

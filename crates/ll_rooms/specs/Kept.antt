@@ -1,39 +1,39 @@
 -- What is kept of the channels of a script in place of all events.
 use Rattle.std.specs.Prelude.{◌≡◌, ℕ, ◌+◌, ◌==◌, List, [], ◌∷◌, ◌++◌, Bool, Option, Some, None, filter, map, slice_get}
-use Rattle.ll_room.specs.Home.{AreDistinct, Home, home, tickets}
+use Rattle.ll_room.specs.RoomValue.{AreDistinct, RoomValue, room_value, tickets}
 use Rattle.ll_verdict.specs.State.{state_of}
 use Rattle.ll_rooms.specs.declared.wait.Wait.{Wait}
 use Rattle.ll_rooms.specs.World.{Channel, World, event_count}
-use Rattle.ll_rooms.specs.declared.answer.Answer.{Answer}
+use Rattle.ll_rooms.specs.declared.answer.ActAnswer.{ActAnswer}
 
 pub record Kept : Type 0 where
   -- the number of a room is its place
-  pub rooms : List Home
+  pub rooms : List RoomValue
   -- the requests that wait, in order of asking
   pub waits : List Wait
   -- how many events lines brought
   pub events : ℕ
 
 -- the room at this place for a channel
-abbrev pub home_at : ℕ → Channel → Home
-home_at place channel = home place channel.settings (state_of channel.settings channel.events)
+abbrev pub home_at : ℕ → Channel → RoomValue
+home_at place channel = room_value place channel.settings (state_of channel.settings channel.events)
 
 -- the rooms for these channels, of which the first stands at this place
-abbrev pub homes_from : ℕ → List Channel → List Home
-homes_from place [] = []
-homes_from place (channel ∷ channels) = home_at place channel ∷ homes_from (place + 1) channels
+abbrev pub room_values_from : ℕ → List Channel → List RoomValue
+room_values_from place [] = []
+room_values_from place (channel ∷ channels) = home_at place channel ∷ room_values_from (place + 1) channels
 
 -- what is kept of what a script has come to
 abbrev pub kept_world : World → Kept
-kept_world w = record { rooms = homes_from 0 w.channels; waits = w.waits; events = event_count w }
+kept_world w = record { rooms = room_values_from 0 w.channels; waits = w.waits; events = event_count w }
 
 -- the answer of an act, where it is answered
-abbrev pub answers_of : Option Answer → List Answer
+abbrev pub answers_of : Option ActAnswer → List ActAnswer
 answers_of None = []
 answers_of (Some answer) = answer ∷ []
 
 -- an act leads from one world to another with this answer
-pub record Leads (kept : Kept) (answer : Option Answer) (old new : World) : Type 0 where
+pub record Leads (kept : Kept) (answer : Option ActAnswer) (old new : World) : Type 0 where
   pub stands : kept ≡ kept_world new
   pub answers : new.answers ≡ old.answers ++ answers_of answer
 
@@ -49,14 +49,14 @@ abbrev pub tickets_at : ℕ → List Wait → List ℕ
 tickets_at place waits = map ticket_of (filter (is_in place) waits)
 
 -- the tickets of the open requests of a room, where there is one
-abbrev pub open_in : Option Home → List ℕ
+abbrev pub open_in : Option RoomValue → List ℕ
 open_in None = []
 open_in (Some h) = tickets h
 
 -- for private contracts: each room stands for the events of a channel, its number is its place, and its open requests are those that
 -- wait there, in the same order
-pub record AreTied (rooms : List Home) (waits : List Wait) : Type 0 where
+pub record AreTied (rooms : List RoomValue) (waits : List Wait) : Type 0 where
   pub channels : List Channel
-  pub rooms_are : rooms ≡ homes_from 0 channels
+  pub rooms_are : rooms ≡ room_values_from 0 channels
   pub opened : (place : ℕ) → tickets_at place waits ≡ open_in (slice_get rooms place)
   pub distinct : (place : ℕ) → AreDistinct (tickets_at place waits)

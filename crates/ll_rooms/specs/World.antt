@@ -15,8 +15,8 @@ use Rattle.ll_room.specs.declared.fault.ClockFault.TheVariants.{ClockRange, Reco
 use Rattle.ll_rooms.specs.Waits.{under, wait_of, without}
 use Rattle.ll_rooms.specs.declared.owner.Owner.{Owner}
 use Rattle.ll_rooms.specs.declared.wait.Wait.{Wait}
-use Rattle.ll_rooms.specs.declared.answer.Answer.{Answer}
-use Rattle.ll_rooms.specs.declared.answer.Answer.TheVariants.{Accepted, Refused, ClockRefused, Replied, Unavailable}
+use Rattle.ll_rooms.specs.declared.answer.ActAnswer.{ActAnswer}
+use Rattle.ll_rooms.specs.declared.answer.ActAnswer.TheVariants.{Accepted, Refused, ClockRefused, Replied, Unavailable}
 
 pub record Channel : Type 0 where
   pub settings : Configuration
@@ -28,7 +28,7 @@ pub record World : Type 0 where
   -- the requests that had to wait and got no reply yet, in order of asking
   pub waits : List Wait
   -- what was answered
-  pub answers : List Answer
+  pub answers : List ActAnswer
 
 abbrev pub start : World
 start = record { channels = []; waits = []; answers = [] }
@@ -43,7 +43,7 @@ with_event event channel = record { settings = channel.settings; events = channe
 abbrev pub happens : World → ℕ → Channel → Event → World
 happens w place channel event = record w { channels = slice_set w.channels place (with_event event channel) }
 
-abbrev pub says : World → Answer → World
+abbrev pub says : World → ActAnswer → World
 says w answer = record w { answers = w.answers ++ answer ∷ [] }
 
 -- what was answered is heard

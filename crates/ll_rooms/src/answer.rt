@@ -13,7 +13,7 @@ pub enum AskStop {
 
 /// What an act of a script is answered.
 #[derive(Drop)]
-pub enum Answer {
+pub enum ActAnswer {
     /// An item was accepted: how many the channel has accepted with it.
     Accepted(u64),
     /// An item was refused.

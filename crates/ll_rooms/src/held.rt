@@ -1,8 +1,8 @@
 ghost use Rattle.std.specs.Prelude.{◌≡◌, ◌↔◌, ◌++◌, ◌∷◌, [], IfErr, IsOk, OnOk, length, option_map, slice_get};
 ghost use Rattle.ll_rooms.specs.Waits.{parked_of, under, wait_of, without};
 
+use crate::held_request::{HeldRequest, insert};
 use crate::owner::Owner;
-use crate::row::{Row, insert};
 use crate::spot::first_of;
 use crate::wait::Wait;
 use ll_order::Order;
@@ -15,7 +15,7 @@ use std::marker::Model;
 /// must: only an empty one may be let go.
 pub struct Held {
     /// The requests under their numbers, which rise in order of asking.
-    rows: BTreeMap<u64, Row>,
+    rows: BTreeMap<u64, HeldRequest>,
     /// The same requests by room and ticket.
     tickets: Order,
     /// The same requests by owner.
@@ -74,7 +74,7 @@ impl Held {
         if self.last == u64::MAX {
             return Err(parked);
         }
-        let row = Row {
+        let row = HeldRequest {
             number: self.last + 1,
             owner,
             parked,

@@ -4,14 +4,14 @@
 
 mod answer;
 mod held;
+mod held_request;
 mod owner;
 mod rooms;
-mod row;
 mod shelf;
 mod spot;
 mod wait;
 
-pub use answer::{Answer, AskStop};
+pub use answer::{ActAnswer, AskStop};
 pub use held::Held;
 pub use owner::Owner;
 pub use rooms::Rooms;

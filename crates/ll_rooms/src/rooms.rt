@@ -5,7 +5,7 @@ ghost use Rattle.ll_rooms.specs.World as world;
 ghost use Rattle.ll_rooms.specs.World.{World, start};
 ghost use Rattle.ll_rooms.specs.Waits.{under, wait_of, without};
 
-use crate::answer::{Answer, AskStop};
+use crate::answer::{ActAnswer, AskStop};
 use crate::held::Held;
 use crate::owner::Owner;
 use crate::wait::Wait;
@@ -87,7 +87,7 @@ impl Rooms {
     }
 
     /// Offers an item to the channel at this place. It fails only where no memory is found.
-    pub fn offer(&mut self, place: usize, item: Item) -> Result<Option<Answer>, AllocError>
+    pub fn offer(&mut self, place: usize, item: Item) -> Result<Option<ActAnswer>, AllocError>
         ensures offered { (w : World) → self.old ≡ kept_world w → IfOk result (λ a. Leads self.new a w (world.offer place item w)) }
         ensures unchanged { OnErr result (self.new ≡ self.old) }
     {
@@ -102,12 +102,17 @@ impl Rooms {
             }
         };
         self.events = self.events.saturating_add(1);
-        Ok(Some(Answer::Accepted(count)))
+        Ok(Some(ActAnswer::Accepted(count)))
     }
 
     /// Makes a request of the channel at this place, whose reply is told to this owner: now, or once it is due. It fails only where
     /// no memory is found.
-    pub fn ask(&mut self, owner: Owner, place: usize, want: Want) -> Result<Option<Answer>, AskStop>
+    pub fn ask(
+        &mut self,
+        owner: Owner,
+        place: usize,
+        want: Want,
+    ) -> Result<Option<ActAnswer>, AskStop>
         ensures asked { (w : World) → self.old ≡ kept_world w → IfOk result (λ a. Leads self.new a w (world.ask owner place want w)) }
         ensures unchanged { IsErrOf result AskStop.Request → self.new ≡ self.old }
     {
@@ -117,7 +122,7 @@ impl Rooms {
         match room.ask(want) {
             Ok(Asked::Now(reply)) => {
                 self.events = self.events.saturating_add(1);
-                Ok(Some(Answer::Replied(owner, reply.into_inner())))
+                Ok(Some(ActAnswer::Replied(owner, reply.into_inner())))
             }
             Ok(Asked::Held(parked)) => match self.held.put(owner, parked) {
                 Ok(()) => {
@@ -129,7 +134,7 @@ impl Rooms {
                     Closed::Stranger(_parked) => unreachable!(),
                 },
             },
-            Err(AskFault::RecordFull) => Ok(Some(Answer::Unavailable(owner))),
+            Err(AskFault::RecordFull) => Ok(Some(ActAnswer::Unavailable(owner))),
             Err(AskFault::Memory) => Err(AskStop::Request),
         }
     }
@@ -167,19 +172,19 @@ impl Rooms {
     }
 
     /// Tells the channel at this place what its clock shows, in milliseconds.
-    pub fn clock(&mut self, place: usize, ms: u64) -> Option<Answer>
+    pub fn clock(&mut self, place: usize, ms: u64) -> Option<ActAnswer>
         ensures clocked { (w : World) → self.old ≡ kept_world w → Leads self.new result w (world.clock place ms w) }
     {
         let room = self.rooms.get_mut(place)?;
         if let Err(fault) = room.clock(ms) {
-            return Some(Answer::ClockRefused(fault));
+            return Some(ActAnswer::ClockRefused(fault));
         }
         self.events = self.events.saturating_add(1);
         None
     }
 
     /// Tells the first reply of the channel at this place that is due; none where nothing is due there.
-    pub fn next_due(&mut self, place: usize) -> Option<Answer>
+    pub fn next_due(&mut self, place: usize) -> Option<ActAnswer>
         ensures told { (w : World) → self.old ≡ kept_world w → Leads self.new result w (world.next_reply place w) }
         ensures still { (w : World) → self.old ≡ kept_world w → result ≡ None → world.next_reply place w ≡ w }
     {
@@ -192,7 +197,7 @@ impl Rooms {
             unreachable!();
         };
         match room.collect(parked) {
-            Collected::Got(reply) => Some(Answer::Replied(wait.owner, reply.into_inner())),
+            Collected::Got(reply) => Some(ActAnswer::Replied(wait.owner, reply.into_inner())),
             Collected::Still(_parked) => unreachable!(),
             Collected::Stranger(_parked) => unreachable!(),
         }
@@ -218,11 +223,11 @@ impl Rooms {
 }
 
 /// The answer to an item that is refused; a channel that found no memory has no answer.
-fn refused(fault: PublishFault) -> Result<Answer, AllocError>
-    ensures { IfOk result (λ a. (fault ≢ PublishFault.Memory) × (a ≡ Answer.Refused fault)) }
+fn refused(fault: PublishFault) -> Result<ActAnswer, AllocError>
+    ensures { IfOk result (λ a. (fault ≢ PublishFault.Memory) × (a ≡ ActAnswer.Refused fault)) }
 {
     if fault == PublishFault::Memory {
         return Err(AllocError);
     }
-    Ok(Answer::Refused(fault))
+    Ok(ActAnswer::Refused(fault))
 }

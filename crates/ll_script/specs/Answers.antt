@@ -6,8 +6,8 @@ use Rattle.ll_page.specs.Page.{page_text}
 use Rattle.ll_publish.specs.Refusals.{refusal_line}
 use Rattle.ll_verdict.specs.declared.reply.Reply.{Reply}
 use Rattle.ll_verdict.specs.declared.reply.Reply.TheVariants as reply
-use Rattle.ll_script.specs.declared.ask.AskRefusal.{AskRefusal}
-use Rattle.ll_script.specs.declared.ask.AskRefusal.TheVariants as ask
+use Rattle.ll_verdict.specs.Names.{ask_fault_name}
+use Rattle.ll_verdict.specs.declared.fault.AskFault.{AskFault}
 use Rattle.ll_script.specs.declared.clock.ClockRefusal.{ClockRefusal}
 use Rattle.ll_script.specs.declared.clock.ClockRefusal.TheVariants as clock
 
@@ -49,13 +49,9 @@ reply_lines id reply.Timeout = named_reply id 503 (codes "Timeout")
 abbrev pub fault_line : ℕ → TargetFault → List ℕ
 fault_line id f = named_reply id (status_of f) (fault_name f)
 
-abbrev pub ask_name : AskRefusal → List ℕ
-ask_name ask.RecordFull = codes "RecordFull"
-ask_name ask.Memory = codes "Memory"
-
 -- a request is no event of its channel, which can't take it now
-abbrev pub unasked_line : ℕ → AskRefusal → List ℕ
-unasked_line id r = named_reply id 503 (ask_name r)
+abbrev pub unasked_line : ℕ → AskFault → List ℕ
+unasked_line id fault = named_reply id 503 (ask_fault_name fault)
 
 -- ---- connections
 

@@ -3,7 +3,7 @@ use Rattle.std.specs.Prelude.{◌≡◌, ℕ, ◌+◌, ◌^◌, List, [], ◌∷
 use Rattle.std.specs.Str.{is_utf8}
 use Rattle.ll_attr.specs.Numbers.{number_in}
 use Rattle.ll_attr.specs.Words.{words, after}
-use Rattle.ll_channels.specs.Channels.{channel_of_name}
+use Rattle.ll_item.specs.Channels.{channel_of_name}
 use Rattle.ll_directive.specs.Targets.{WantValue, want_in}
 use Rattle.ll_directive.specs.declared.fault.TargetFault.{TargetFault}
 use Rattle.ll_directive.specs.declared.fault.TargetFault.TheVariants as target

@@ -4,7 +4,6 @@ use Rattle.ll_directive.specs.Targets.{WantValue}
 use Rattle.ll_directive.specs.declared.fault.TargetFault.TheVariants as target
 use Rattle.ll_directive.specs.declared.want.Awaited.{Awaited}
 use Rattle.ll_directive.specs.declared.want.Awaited.TheVariants as awaited
-use Rattle.ll_directive.specs.declared.want.Skip.TheVariants as skip
 use Rattle.ll_item.specs.Settings.{Configuration}
 use Rattle.ll_publish.specs.Refusals.{no_line, ok_line}
 use Rattle.ll_publish.specs.declared.refusal.Refusal.TheVariants as refused
@@ -23,7 +22,7 @@ both = named (codes "cam") ∷ named (codes "two") ∷ []
 
 -- a request of the second channel for a rendition of this name
 abbrev pub of_two : List ℕ → Awaited → WantValue
-of_two rendition what = record { channel = codes "two"; rendition = rendition; awaited = what; skip = skip.No }
+of_two rendition what = record { channel = codes "two"; rendition = rendition; awaited = what; skip = None }
 
 -- what lines mean after the request 6
 pub record WorkedLines : Type 0 where

@@ -2,12 +2,11 @@
 ghost use Rattle.std.specs.Prelude.{◌≡◌, ◌++◌, IfOk, OnOk, decimal, string_bytes};
 ghost use Rattle.ll_script.specs.Answers as spec;
 
-use crate::ask::AskRefusal;
 use crate::clock::ClockRefusal;
 use itoa::Buffer;
 use ll_directive::TargetFault;
 use ll_publish::refusal_line;
-use ll_verdict::Reply;
+use ll_verdict::{AskFault, Reply};
 use std::alloc::{AllocError, Global};
 
 /// A reading of the clock is refused.
@@ -39,10 +38,10 @@ pub fn fault_line(alloc: Global, id: u64, fault: TargetFault) -> Result<String, 
 }
 
 /// A request is no event of its channel, which can't take it now.
-pub fn unasked_line(alloc: Global, id: u64, refusal: AskRefusal) -> Result<String, AllocError>
-    ensures { IfOk result (λ t. string_bytes t ≡ spec.unasked_line id refusal) }
+pub fn unasked_line(alloc: Global, id: u64, fault: AskFault) -> Result<String, AllocError>
+    ensures { IfOk result (λ t. string_bytes t ≡ spec.unasked_line id fault) }
 {
-    named_reply(alloc, id, 503, refusal.name())
+    named_reply(alloc, id, 503, fault.name())
 }
 
 /// An answer of a connection, in two pieces, after the text so far. Where no memory is found, the text may have got some of it.

@@ -3,7 +3,6 @@
 
 mod act;
 mod answers;
-mod ask;
 mod clock;
 mod hex;
 mod laws;
@@ -12,7 +11,6 @@ mod reading;
 
 pub use act::{Act, Acts};
 pub use answers::{clock_line, fault_line, push_sent, push_shut, reply_lines, unasked_line};
-pub use ask::AskRefusal;
 pub use clock::ClockRefusal;
 pub use laws::worked_lines;
 pub use piece::Piece;

@@ -1,7 +1,7 @@
 //! What the lines of a script mean.
 ghost use Rattle.std.specs.Prelude.{◌≡◌, ◌∷◌, [], IfOk, IsErrOf, IsSome, MatchOption, Ok, None, Some, codes, if◌then◌else◌, is_some, ℕ, List, Option};
 ghost use Rattle.ll_attr.specs.Words.{after, words};
-ghost use Rattle.ll_channels.specs.Channels.{channel_of_name};
+ghost use Rattle.ll_item.specs.Channels.{channel_of_name};
 ghost use Rattle.ll_directive.specs.Targets.{WantValue, want_in};
 ghost use Rattle.ll_item.specs.Items.{item_in};
 ghost use Rattle.ll_item.specs.Settings.{Configuration, settings_in};
@@ -13,9 +13,8 @@ ghost use Rattle.ll_script.specs.Reads.{IsRead};
 use crate::act::{Act, Acts};
 use crate::hex::{is_hex, read_hex};
 use ll_attr::{after, cut, parse_number};
-use ll_channels::Channels;
 use ll_directive::{TargetFault, named_channel, read_target};
-use ll_item::{Item, Settings, SettingsFault};
+use ll_item::{Channels, Item, Settings, SettingsFault};
 use ll_publish::{Line, Refusal};
 use std::alloc::Global;
 use std::str;

@@ -18,7 +18,7 @@ use Rattle.ll_item.specs.declared.settings.SettingsFault.{SettingsFault}
 use Rattle.ll_item.proofs.WithinLimits.{within}
 use Rattle.ll_publish.specs.Line as said
 use Rattle.ll_script.specs.Hex.{bytes_in_hex}
-use Rattle.ll_channels.specs.Channels.{channel_of_name}
+use Rattle.ll_item.specs.Channels.{channel_of_name}
 use Rattle.ll_script.specs.Lines.{Kind, acts, acts_by, alone, ask, ask_in, begun, begun_by, bytes_by, bytes_of, clocks_from, close_of, declaration, drop_of, get_by, get_of, is_passed_over, item_act, kinds, offer, offer_by, offer_to, reading, rises, starved}
 use Rattle.ll_script.specs.declared.act.Act.{Act}
 use Rattle.ll_script.specs.declared.act.Act.TheVariants.{Declare, Offer, Refuse, Ask, Answer, Close, Clock, RefuseClock, Bytes, Drop}

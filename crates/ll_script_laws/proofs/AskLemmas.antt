@@ -2,8 +2,8 @@
 use Rattle.std.proofs.Common.{◌≡◌, ℕ, ◌+◌, ◌≤◌, ◌==◌, ◌&&◌, List, [], ◌∷◌, ◌++◌, Bool, true, false, cond, Option, Some, None, refl, ap, ap₂, sym, ◌∙◌, subst, find, fold, length, option_map, slice_get, slice_set, append-nil, append_assoc, filter, arith}
 use Rattle.std.specs.Option.{option_or}
 use Rattle.std.proofs.lemmas.Option.{slice_get-map}
-use Rattle.ll_channels.specs.Channels.{channel_of_name}
-use Rattle.ll_channels.proofs.NameLemmas.{named-within}
+use Rattle.ll_item.specs.Channels.{channel_of_name}
+use Rattle.ll_item.proofs.ChannelLemmas.{named-within}
 use Rattle.ll_connection.specs.Met.{waiting_of}
 use Rattle.ll_connection.specs.Visit as visit
 use Rattle.ll_connection.specs.Visit.{ask_in, asked, first_spoken}
@@ -21,7 +21,7 @@ use Rattle.ll_verdict.specs.declared.reply.Settled.{Settled}
 use Rattle.ll_verdict.proofs.ListLemmas.{Each, each-append, each-map}
 use Rattle.ll_wire.specs.declared.answer.Answer.{Answer}
 use Rattle.ll_wire.specs.declared.answer.Answer.TheVariants as player
-use Rattle.ll_wire.specs.declared.answer.Unavailable.TheVariants as out
+use Rattle.ll_verdict.specs.declared.fault.AskFault.TheVariants as out
 use Rattle.ll_rooms.specs.World.{Channel, World, all_settings, ask_at, asked_if, close, close_at, close_of, first_due, silent, with_event}
 use Rattle.ll_rooms.specs.World as rooms
 use Rattle.ll_rooms.proofs.SettingsLaws.{set_keeps}

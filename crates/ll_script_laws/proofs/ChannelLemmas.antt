@@ -14,8 +14,8 @@ use Rattle.ll_connection.specs.Visit.{Luck}
 use Rattle.ll_rooms.specs.World as rooms
 use Rattle.ll_rooms.proofs.EventLaws as events
 use Rattle.ll_rooms.proofs.TieLemmas.{some_is}
-use Rattle.ll_rooms.specs.declared.answer.Answer as answer
-use Rattle.ll_rooms.specs.declared.answer.Answer.TheVariants as said
+use Rattle.ll_rooms.specs.declared.answer.ActAnswer as answer
+use Rattle.ll_rooms.specs.declared.answer.ActAnswer.TheVariants as said
 use Rattle.ll_replay.specs.Stream.{come_to}
 use Rattle.ll_replay.specs.Script.{Ending, Lot, Marked, Script, act, acted, counted, done, done_as, heard, line, line_by, makes_due, passed_on, plain, read_by, rest, so_many, start, next_reply, with_lots}
 use Rattle.ll_script_laws.proofs.ActLemmas.{AreSound, IsSound, acts-sound, starved-sound}
@@ -72,7 +72,7 @@ act-kept lucks w RefuseClock k s = k
 act-kept lucks w (Bytes n piece) k s = bytes-keeps AreKept asks-kept closes-kept lucks n piece w.connections w.rooms k
 act-kept lucks w (Drop n) k s = end-keeps AreKept asks-kept closes-kept n w.connections w.rooms k
 
-passed_on-kept : (lucks : List Luck) (w : Script) (a : answer.Answer) → AreKept w.rooms → AreKept (passed_on lucks w a).rooms
+passed_on-kept : (lucks : List Luck) (w : Script) (a : answer.ActAnswer) → AreKept w.rooms → AreKept (passed_on lucks w a).rooms
 passed_on-kept lucks w (said.Accepted count) k = k
 passed_on-kept lucks w (said.Refused reason) k = k
 passed_on-kept lucks w (said.ClockRefused reason) k = k
@@ -80,7 +80,7 @@ passed_on-kept lucks w (said.Replied (Get id) r) k = k
 passed_on-kept lucks w (said.Replied (Connection n) r) k = reply-keeps AreKept asks-kept closes-kept lucks n r w.connections w.rooms k
 passed_on-kept lucks w (said.Unavailable owner) k = k
 
-all_passed_on-kept : (lucks : List Luck) (w : Script) (answers : List answer.Answer) → AreKept w.rooms → AreKept (fold (passed_on lucks) w answers).rooms
+all_passed_on-kept : (lucks : List Luck) (w : Script) (answers : List answer.ActAnswer) → AreKept w.rooms → AreKept (fold (passed_on lucks) w answers).rooms
 all_passed_on-kept lucks w [] k = k
 all_passed_on-kept lucks w (a ∷ answers) k = all_passed_on-kept lucks (passed_on lucks w a) answers (passed_on-kept lucks w a k)
 

@@ -19,8 +19,8 @@ use Rattle.ll_verdict.specs.declared.reply.Reply.{Reply}
 use Rattle.ll_verdict.specs.declared.reply.Settled.{Settled}
 use Rattle.ll_rooms.specs.World as rooms
 use Rattle.ll_rooms.specs.World.{Channel, World, first_due, happens, next_reply_at, next_reply_of, told, told_to, waits_less}
-use Rattle.ll_rooms.specs.declared.answer.Answer as answer
-use Rattle.ll_rooms.specs.declared.answer.Answer.TheVariants as said
+use Rattle.ll_rooms.specs.declared.answer.ActAnswer as answer
+use Rattle.ll_rooms.specs.declared.answer.ActAnswer.TheVariants as said
 use Rattle.ll_rooms.proofs.TieLemmas.{none_some, same_test, some_is}
 use Rattle.ll_rooms.proofs.WaitLemmas.{IsOpen, ask-open, clock-open, close-open, declare-open, due_waits, offer-open, opens, next_reply-open, due_told, once_each}
 use Rattle.ll_replay.specs.Script.{Ending, Lot, Marked, Script, act, done, heard, passed_on, start, next_reply, turned}
@@ -209,7 +209,7 @@ next_reply-holds place w lucks h = by (rooms.next_reply place w.rooms) (ticks w.
     by v (Tells c r x s at is found told e) tied =
         let u = told_in w.rooms place c r x s in
         subst (λ (v : World). Holds (fold (passed_on lucks) (heard w v) v.answers)) (sym e)
-        (subst (λ (answers : List answer.Answer). Holds (fold (passed_on lucks) (heard w u) (answers ++ said.Replied x.owner (reply_of s) ∷ []))) (sym h.quiet)
+        (subst (λ (answers : List answer.ActAnswer). Holds (fold (passed_on lucks) (heard w u) (answers ++ said.Replied x.owner (reply_of s) ∷ []))) (sym h.quiet)
         (passed r.ticket x x.owner (reply_of s) u found refl refl (subst IsOpen e tied)))
 
 -- ---- lines

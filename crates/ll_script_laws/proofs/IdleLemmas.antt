@@ -2,7 +2,7 @@
 use Rattle.std.proofs.Common.{◌≡◌, ◌⊎◌, inl, inr, ℕ, zero, suc, ◌+◌, ◌≤◌, ◌==◌, List, [], ◌∷◌, Bool, true, false, Option, Some, None, refl, ap, sym, ◌∙◌, subst, fold, length, arith, if◌then◌else◌}
 use Rattle.ll_connection.specs.Turn as connection
 use Rattle.ll_connection.specs.Turn.{Connections, left, session_of, with_session}
-use Rattle.ll_connection.specs.Visit.{Luck, Visit, arrived, came, enough, hand_all, hand_in, put_out, released, step, step_by}
+use Rattle.ll_connection.specs.Visit.{Luck, Visit, arrived, came, enough, hand_all, submit, put_out, released, step, step_by}
 use Rattle.ll_connection.proofs.MetLemmas.{pulled_none}
 use Rattle.ll_connection.proofs.StepLemmas.{hand_all-is, shrinks, still}
 use Rattle.ll_connection.proofs.TurnLemmas.{found, kept_other}
@@ -17,8 +17,8 @@ use Rattle.ll_verdict.specs.declared.reply.Reply.{Reply}
 use Rattle.ll_wire.specs.declared.answer.Answer.TheVariants as player
 use Rattle.ll_rooms.specs.World as rooms
 use Rattle.ll_rooms.specs.World.{World, repeat}
-use Rattle.ll_rooms.specs.declared.answer.Answer as answer
-use Rattle.ll_rooms.specs.declared.answer.Answer.TheVariants as said
+use Rattle.ll_rooms.specs.declared.answer.ActAnswer as answer
+use Rattle.ll_rooms.specs.declared.answer.ActAnswer.TheVariants as said
 use Rattle.ll_rooms.proofs.TieLemmas.{equal, none_some, some_is}
 use Rattle.ll_replay.specs.Script.{Script, act, heard, passed_on, start, turned}
 use Rattle.ll_script_laws.proofs.ScriptLemmas.{done-keeps, lines-keep}
@@ -69,7 +69,7 @@ module _ (n : ℕ) where
       by (inr h) = λ on out. no_bytes (repeat (step enough n) (length v.session.unread) v).session.unread (omega (arith, h))
 
   -- whatever memory is found at first, it is found in the end
-  pub in-idle : (lucks : List Luck) (v : Visit) → IsIdle (hand_in lucks n v).session
+  pub in-idle : (lucks : List Luck) (v : Visit) → IsIdle (submit lucks n v).session
   in-idle lucks v = handed-idle (fold (λ u luck. step luck n u) v lucks)
 
   released-idle : (lucks : List Luck) (a : Reply) (v : Visit) → IsIdle (released lucks n a v).session
@@ -126,7 +126,7 @@ act-idle lucks w (Bytes n piece) h = bytes-idle lucks n piece w.connections w.ro
 act-idle lucks w (Drop n) h = end-idle n w.connections w.rooms (session_of n w.connections) h
 act-idle lucks w other h = h
 
-passed-idle : (lucks : List Luck) (w : Script) (list : List answer.Answer) → AreIdle w.connections → AreIdle (fold (passed_on lucks) w list).connections
+passed-idle : (lucks : List Luck) (w : Script) (list : List answer.ActAnswer) → AreIdle w.connections → AreIdle (fold (passed_on lucks) w list).connections
 passed-idle lucks w [] h = h
 passed-idle lucks w (said.Replied (Connection n) a ∷ list) h =
     passed-idle lucks (turned w (connection.reply lucks n a w.connections w.rooms)) list (reply-idle lucks n a w.connections w.rooms (session_of n w.connections) h)

@@ -25,8 +25,8 @@ use Rattle.ll_verdict.proofs.ListLemmas.{Each, each-append}
 use Rattle.ll_rooms.specs.Kept.{is_in, ticket_of, tickets_at}
 use Rattle.ll_rooms.specs.World as rooms
 use Rattle.ll_rooms.specs.World.{Channel, World, all_settings, silent, with_event}
-use Rattle.ll_rooms.specs.declared.answer.Answer as answer
-use Rattle.ll_rooms.specs.declared.answer.Answer.TheVariants as said
+use Rattle.ll_rooms.specs.declared.answer.ActAnswer as answer
+use Rattle.ll_rooms.specs.declared.answer.ActAnswer.TheVariants as said
 use Rattle.ll_rooms.proofs.EventLaws as events
 use Rattle.ll_rooms.proofs.TieLemmas.{equal, get_other, get_set, none_some, same_test, some_is}
 use Rattle.ll_rooms.proofs.WaitLemmas.{IsOpen, opens}
@@ -104,7 +104,7 @@ next_reply-calm place k w lucks met h = by (rooms.next_reply place w.rooms) (due
         let calm : IsCalm (at_most place k place) (with_event (event.Collect r.ticket) c) =
         subst (λ n. IsCalm n (with_event (event.Collect r.ticket) c)) (sym (at_place k)) (told-calm k c r is (subst (λ n. IsCalm n c) (at_place (k + 1)) (h place c at))) in
         subst (λ (v : World). AreCalm (at_most place k) (fold (passed_on lucks) (heard w v) v.answers).rooms.channels) (sym e)
-        (subst (λ (answers : List answer.Answer). AreCalm (at_most place k) (fold (passed_on lucks) (heard w u) (answers ++ said.Replied x.owner (reply_of s) ∷ [])).rooms.channels)
+        (subst (λ (answers : List answer.ActAnswer). AreCalm (at_most place k) (fold (passed_on lucks) (heard w u) (answers ++ said.Replied x.owner (reply_of s) ∷ [])).rooms.channels)
         (sym met.quiet)
         (passed (at_most place k) lucks (heard w u) x.owner (reply_of s)
         (one-event (at_most place (k + 1)) (at_most place k) w.rooms.channels place c (event.Collect r.ticket) (λ j f. swap place j (k + 1) k f) calm at h)))

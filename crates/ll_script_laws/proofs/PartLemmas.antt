@@ -6,7 +6,7 @@ use Rattle.std.proofs.lemmas.Grind.{flat_map-append}
 use Rattle.ll_connection.specs.Turn.{shut_text}
 use Rattle.ll_replay.specs.Script.{spelled}
 use Rattle.ll_script.specs.Answers.{sent_line}
-use Rattle.ll_rooms.specs.declared.answer.Answer as answer
+use Rattle.ll_rooms.specs.declared.answer.ActAnswer as answer
 use Rattle.ll_script_laws.specs.Talks.{Part, Said, Sent, Shut, part_text, sent_by}
 
 -- the answers of a turn, and whether the connection has shut
@@ -45,10 +45,10 @@ turn-sent m n b answers shut e =
     flat_map-append (sent_by m) (map (λ bytes. Sent n bytes) answers) (shut_parts shut n)
     ∙ ap₂ (λ x y. x ++ y) (own-sent m n b answers e) (shut-sent m n shut) ∙ append-nil (if b then concat answers else [])
 
-pub said-text : (list : List answer.Answer) → flat_map part_text (map (λ a. Said a) list) ≡ flat_map spelled list
+pub said-text : (list : List answer.ActAnswer) → flat_map part_text (map (λ a. Said a) list) ≡ flat_map spelled list
 said-text [] = refl
 said-text (a ∷ list) = ap (λ t. spelled a ++ t) (said-text list)
 
-pub said-sent : (m : ℕ) (list : List answer.Answer) → flat_map (sent_by m) (map (λ a. Said a) list) ≡ []
+pub said-sent : (m : ℕ) (list : List answer.ActAnswer) → flat_map (sent_by m) (map (λ a. Said a) list) ≡ []
 said-sent m [] = refl
 said-sent m (a ∷ list) = said-sent m list

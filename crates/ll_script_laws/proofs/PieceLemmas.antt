@@ -15,8 +15,8 @@ use Rattle.ll_script.specs.declared.act.Act.{Act}
 use Rattle.ll_script.specs.declared.act.Act.TheVariants.{Declare, Offer, Refuse, Ask, Answer, Close, Clock, RefuseClock, Bytes, Drop}
 use Rattle.ll_rooms.specs.World as rooms
 use Rattle.ll_rooms.specs.World.{all_settings, silent}
-use Rattle.ll_rooms.specs.declared.answer.Answer as answer
-use Rattle.ll_rooms.specs.declared.answer.Answer.TheVariants as said
+use Rattle.ll_rooms.specs.declared.answer.ActAnswer as answer
+use Rattle.ll_rooms.specs.declared.answer.ActAnswer.TheVariants as said
 use Rattle.ll_replay.specs.Stream.{come_to}
 use Rattle.ll_replay.specs.Script.{Ending, Lot, Marked, Script, act, acted, counted, done, done_as, heard, line, line_by, makes_due, passed_on, read_by, rest, so_many, start, next_reply, turned, unmarked, with_lots}
 use Rattle.ll_replay.proofs.ScriptLaws.{line-ended, line-means}
@@ -39,7 +39,7 @@ act-quiet lucks w RefuseClock q = q
 act-quiet lucks w (Bytes n piece) q = refl
 act-quiet lucks w (Drop n) q = refl
 
-passed_on-quiet : (lucks : List Luck) (w : Script) (a : answer.Answer) → IsQuiet w → IsQuiet (passed_on lucks w a)
+passed_on-quiet : (lucks : List Luck) (w : Script) (a : answer.ActAnswer) → IsQuiet w → IsQuiet (passed_on lucks w a)
 passed_on-quiet lucks w (said.Accepted count) q = q
 passed_on-quiet lucks w (said.Refused reason) q = q
 passed_on-quiet lucks w (said.ClockRefused reason) q = q
@@ -47,7 +47,7 @@ passed_on-quiet lucks w (said.Replied (Get id) r) q = q
 passed_on-quiet lucks w (said.Replied (Connection n) r) q = refl
 passed_on-quiet lucks w (said.Unavailable owner) q = q
 
-all-quiet : (lucks : List Luck) (w : Script) (answers : List answer.Answer) → IsQuiet w → IsQuiet (fold (passed_on lucks) w answers)
+all-quiet : (lucks : List Luck) (w : Script) (answers : List answer.ActAnswer) → IsQuiet w → IsQuiet (fold (passed_on lucks) w answers)
 all-quiet lucks w [] q = q
 all-quiet lucks w (a ∷ answers) q = all-quiet lucks (passed_on lucks w a) answers (passed_on-quiet lucks w a q)
 
@@ -122,7 +122,7 @@ act-numbered m lucks w RefuseClock = refl
 act-numbered m lucks w (Bytes n piece) = refl
 act-numbered m lucks w (Drop n) = refl
 
-passed_on-numbered : (m : ℕ) (lucks : List Luck) (w : Script) (a : answer.Answer) → passed_on lucks (numbered m w) a ≡ numbered m (passed_on lucks w a)
+passed_on-numbered : (m : ℕ) (lucks : List Luck) (w : Script) (a : answer.ActAnswer) → passed_on lucks (numbered m w) a ≡ numbered m (passed_on lucks w a)
 passed_on-numbered m lucks w (said.Accepted count) = refl
 passed_on-numbered m lucks w (said.Refused reason) = refl
 passed_on-numbered m lucks w (said.ClockRefused reason) = refl
@@ -130,7 +130,7 @@ passed_on-numbered m lucks w (said.Replied (Get id) r) = refl
 passed_on-numbered m lucks w (said.Replied (Connection n) r) = refl
 passed_on-numbered m lucks w (said.Unavailable owner) = refl
 
-all-numbered : (m : ℕ) (lucks : List Luck) (w : Script) (answers : List answer.Answer)
+all-numbered : (m : ℕ) (lucks : List Luck) (w : Script) (answers : List answer.ActAnswer)
     → fold (passed_on lucks) (numbered m w) answers ≡ numbered m (fold (passed_on lucks) w answers)
 all-numbered m lucks w [] = refl
 all-numbered m lucks w (a ∷ answers) =

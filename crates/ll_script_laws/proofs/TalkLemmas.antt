@@ -26,8 +26,8 @@ use Rattle.ll_wire.specs.declared.answer.Answer.{Answer}
 use Rattle.ll_wire.specs.declared.answer.Answer.TheVariants as player
 use Rattle.ll_rooms.specs.World as rooms
 use Rattle.ll_rooms.specs.World.{Channel, World, first_due}
-use Rattle.ll_rooms.specs.declared.answer.Answer as answer
-use Rattle.ll_rooms.specs.declared.answer.Answer.TheVariants as said
+use Rattle.ll_rooms.specs.declared.answer.ActAnswer as answer
+use Rattle.ll_rooms.specs.declared.answer.ActAnswer.TheVariants as said
 use Rattle.ll_rooms.proofs.TieLemmas.{equal, same_test}
 use Rattle.ll_rooms.proofs.WaitLemmas.{IsOpen, next_reply-open}
 use Rattle.ll_replay.specs.Script.{Script, heard, passed_on, passed_to, next_reply, turned}
@@ -402,6 +402,6 @@ next_reply-holds came un place w lucks met h = by (rooms.next_reply place w.room
     by v (due.Tells c r x s at is found told e) tied =
         subst (λ (v : World). HoldsSome came (fold (passed_on lucks) (heard w v) v.answers)) (sym e)
         (subst
-        (λ (answers : List answer.Answer). HoldsSome came (fold (passed_on lucks) (heard w (due.told_in w.rooms place c r x s)) (answers ++ said.Replied x.owner (reply_of s) ∷ [])))
+        (λ (answers : List answer.ActAnswer). HoldsSome came (fold (passed_on lucks) (heard w (due.told_in w.rooms place c r x s)) (answers ++ said.Replied x.owner (reply_of s) ∷ [])))
         (sym met.quiet)
         (told_by c r x s x.owner at is found told refl (subst IsOpen e tied)))

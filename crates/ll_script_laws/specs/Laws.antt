@@ -7,13 +7,11 @@ use Rattle.ll_item.specs.Told.{end_time}
 use Rattle.ll_window.specs.Segments.{own}
 use Rattle.ll_page.specs.Page.{Paged, page_text}
 use Rattle.ll_page.specs.View.{seen}
-use Rattle.ll_page.specs.declared.form.Form.{Form}
-use Rattle.ll_page.specs.declared.form.Form.TheVariants.{Full, Delta}
-use Rattle.ll_page.specs.declared.skip_kind.SkipKind.{SkipKind}
+use Rattle.ll_item.specs.declared.skip_kind.SkipKind.{SkipKind}
 use Rattle.ll_script.specs.Lines.{acts}
 use Rattle.ll_script.specs.declared.act.Act.{Act}
 use Rattle.ll_script.specs.declared.act.Act.TheVariants.{Bytes}
-use Rattle.ll_room.specs.Home.{AreDistinct}
+use Rattle.ll_room.specs.RoomValue.{AreDistinct}
 use Rattle.ll_rooms.specs.Waits.{under}
 use Rattle.ll_rooms.specs.declared.owner.Owner.{Owner}
 use Rattle.ll_rooms.specs.declared.owner.Owner.TheVariants.{Get, Connection}
@@ -37,8 +35,8 @@ use Rattle.ll_apply.specs.Texts.{applied_text}
 use Rattle.ll_script_laws.specs.Verdicts.{verdict}
 use Rattle.ll_laws.specs.Published.{ArePublished}
 
--- the playlist of a rendition in this form, after these events of its channel
-abbrev pub page_after : Configuration → List Event → ℕ → Form → Paged
+-- the delta update of this kind of a rendition, or its full playlist for none, after these events of its channel
+abbrev pub page_after : Configuration → List Event → ℕ → Option SkipKind → Paged
 page_after c events rendition form = record { seen = seen c (items c events) rendition; form = form }
 
 -- For each channel of a script, after each prefix of its events: the settings are within their limits, and of the accepted items each
@@ -56,8 +54,8 @@ PlayersLaw = (list : List Marked) (place : ℕ) (channel : Channel) (first secon
     → rendition < length channel.settings.renditions
     → end_time (own rendition (items channel.settings (first ++ second)))
     ≤ end_time (own rendition (items channel.settings first)) + skip_limit channel.settings
-    → applied_text (page_text (page_after channel.settings first rendition Full)) (page_text (page_after channel.settings (first ++ second) rendition (Delta kind)))
-    ≡ Ok (page_text (page_after channel.settings (first ++ second) rendition Full))
+    → applied_text (page_text (page_after channel.settings first rendition None)) (page_text (page_after channel.settings (first ++ second) rendition (Some kind)))
+    ≡ Ok (page_text (page_after channel.settings (first ++ second) rendition None))
 
 -- a page is the playlist that is wanted, of a rendition that the channel has, after these events
 pub record IsWanted (c : Configuration) (events : List Event) (a : Wanted) (page : Paged) : Type 0 where

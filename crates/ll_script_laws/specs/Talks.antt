@@ -19,7 +19,7 @@ use Rattle.ll_session.specs.Requests.{Entry, requests}
 use Rattle.ll_session.specs.Talk.{SessionValue, fresh}
 use Rattle.ll_wire.specs.declared.answer.Answer.{Answer}
 use Rattle.ll_rooms.specs.World.{all_settings}
-use Rattle.ll_rooms.specs.declared.answer.Answer as rooms
+use Rattle.ll_rooms.specs.declared.answer.ActAnswer as rooms
 use Rattle.ll_script_laws.specs.Verdicts.{AreAnswered, wants_of}
 
 -- one thing that a script writes
@@ -29,7 +29,7 @@ pub data Part : Type 0 where
   -- the connection of this number has shut
   Shut : ℕ → Part
   -- what the rooms answer to anything else
-  Said : rooms.Answer → Part
+  Said : rooms.ActAnswer → Part
   -- a publisher's line is no item
   Refused : Refusal → Part
   -- the target of a `get` line of this number wants nothing

@@ -2,7 +2,7 @@
 use Rattle.std.specs.Prelude.{◌≡◌, ℕ, ◌+◌, List, [], ◌∷◌, ◌++◌, true, Option, Some, None, flat_map, length, map, option_map, slice_get}
 use Rattle.std.specs.Option.{option_or}
 use Rattle.ll_item.specs.Settings.{Configuration}
-use Rattle.ll_channels.specs.Channels.{channel_of_name}
+use Rattle.ll_item.specs.Channels.{channel_of_name}
 use Rattle.ll_directive.specs.Targets.{WantValue}
 use Rattle.ll_directive.specs.declared.fault.TargetFault.TheVariants.{NotFound}
 use Rattle.ll_verdict.specs.Full.{is_full}
@@ -13,7 +13,7 @@ use Rattle.ll_verdict.specs.declared.reply.Reply.{Reply}
 use Rattle.ll_verdict.specs.declared.wanted.Wanted as asked
 use Rattle.ll_wire.specs.declared.answer.Answer.{Answer}
 use Rattle.ll_wire.specs.declared.answer.Answer.TheVariants as player
-use Rattle.ll_wire.specs.declared.answer.Unavailable.TheVariants as out
+use Rattle.ll_verdict.specs.declared.fault.AskFault.TheVariants as out
 use Rattle.ll_rooms.specs.World.{Channel}
 
 abbrev pub later_by : Configuration → List Event → List Event → Option asked.Wanted → Option Reply

@@ -2,6 +2,7 @@ pub mod Accepted
 pub mod Events
 pub mod Full
 pub mod Laws
+pub mod Names
 pub mod Outcome
 pub mod State
 pub mod Verdict

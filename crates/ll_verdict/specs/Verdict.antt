@@ -9,12 +9,7 @@ use Rattle.ll_verdict.specs.Events.{Event, Publish, Ask, Collect, Close, Clock, 
 use Rattle.ll_directive.specs.Targets.{WantValue}
 use Rattle.ll_directive.specs.declared.want.Awaited.{Awaited}
 use Rattle.ll_directive.specs.declared.want.Awaited.TheVariants.{Nothing, Segment, Part}
-use Rattle.ll_directive.specs.declared.want.Skip.{Skip}
-use Rattle.ll_directive.specs.declared.want.Skip.TheVariants.{No, Yes, V2}
 use Rattle.ll_page.specs.Page.{Paged}
-use Rattle.ll_page.specs.declared.form.Form.{Form}
-use Rattle.ll_page.specs.declared.form.Form.TheVariants.{Full, Delta}
-use Rattle.ll_page.specs.declared.skip_kind.SkipKind.TheVariants as kind
 use Rattle.ll_window.specs.Wants.{holds_segment, holds_part}
 use Rattle.ll_window.specs.Wants as wants
 use Rattle.ll_verdict.specs.declared.wanted.Wanted.{Wanted}
@@ -24,14 +19,8 @@ use Rattle.ll_verdict.specs.declared.reply.Reply.TheVariants as now
 use Rattle.ll_verdict.specs.declared.reply.Settled.{Settled}
 use Rattle.ll_verdict.specs.declared.reply.Settled.TheVariants.{Text, Timeout}
 
--- the playlist that is asked for
-abbrev pub form_of : Skip → Form
-form_of No = Full
-form_of Yes = Delta kind.Yes
-form_of V2 = Delta kind.V2
-
 abbrev pub wanted_at : WantValue → ℕ → Wanted
-wanted_at want rendition = record { rendition = rendition; awaited = want.awaited; form = form_of want.skip }
+wanted_at want rendition = record { rendition = rendition; awaited = want.awaited; form = want.skip }
 
 -- what a request asks of a rendition of the channel; none where the channel has no rendition of that name
 abbrev pub wanted_of : Configuration → WantValue → Option Wanted

@@ -4,12 +4,14 @@
 
 mod awaited;
 mod entry;
+mod fault;
 mod laws;
 mod reply;
 mod wanted;
 
 pub use awaited::{is_far, is_there};
 pub use entry::{Entry, Slot};
+pub use fault::AskFault;
 pub use laws::{first_state_law, newer_text_law, one_verdict_law, open_tickets_law, state_law};
 pub use ll_rendition::PublishFault;
 pub use reply::{Outcome, Reply, Settled};

@@ -1,6 +1,7 @@
 ghost use Rattle.std.specs.Prelude.{◌≡◌};
 ghost use Rattle.ll_verdict.specs.Outcome.{outcome_of};
 
+use ll_item::SkipKind;
 use ll_page::Page;
 
 /// What a request that had to wait gets, unless it is given up before.
@@ -44,8 +45,8 @@ impl From<Settled> for Reply {
 /// What a reply comes to, without the playlist itself.
 #[derive(Clone, Copy, PartialEq, Eq)]
 pub enum Outcome {
-    /// A playlist or delta update after so many items of the channel.
-    Text(u64),
+    /// A playlist after so many items of the channel: a delta update of this kind, or a full one for none.
+    Text(u64, Option<SkipKind>),
     /// The channel has no rendition of that name.
     NotFound,
     /// What it awaits is too far ahead.
@@ -62,7 +63,7 @@ impl Reply {
         ensures { result ≡ outcome_of self.now }
     {
         match self {
-            Reply::Text(page) => Outcome::Text(page.number()),
+            Reply::Text(page) => Outcome::Text(page.number(), page.update()),
             Reply::NotFound => Outcome::NotFound,
             Reply::TooFar => Outcome::TooFar,
             Reply::Busy => Outcome::Busy,

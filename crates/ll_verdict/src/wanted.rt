@@ -1,5 +1,5 @@
 use ll_directive::Awaited;
-use ll_page::Form;
+use ll_item::SkipKind;
 
 /// What a request asks of one rendition of a channel.
 #[derive(Clone, Copy, PartialEq, Eq)]
@@ -8,6 +8,6 @@ pub struct Wanted {
     pub rendition: usize,
     /// What it waits for.
     pub awaited: Awaited,
-    /// Which playlist it is for.
-    pub form: Form,
+    /// Which delta update it is for; none for the full playlist.
+    pub form: Option<SkipKind>,
 }

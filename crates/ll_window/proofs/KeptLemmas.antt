@@ -5,7 +5,7 @@ use Rattle.ll_attr.specs.YearEnd.{last_micro}
 use Rattle.ll_item.specs.Settings.{Configuration, number_end}
 use Rattle.ll_window.specs.declared.finished.Finished.{Finished}
 use Rattle.ll_item.specs.declared.part.Part.{Part}
-use Rattle.ll_window.specs.declared.place.Place.{Place}
+use Rattle.ll_window.specs.declared.part_position.PartPosition.{PartPosition}
 use Rattle.ll_window.specs.declared.progress.Progress.{Progress}
 use Rattle.ll_window.specs.declared.segment.Segment.{Segment}
 use Rattle.ll_window.specs.Compact.{Compact}
@@ -41,7 +41,7 @@ abbrev pub kept : Configuration → Finished → List Part → Progress → Comp
 kept c f ps p = told c f.rows.items ps f.discontinuity p
 
 -- one more part of the open segment
-pub told_open : (c : Configuration) (f : Finished) (ps qs : List Part) (p q : Progress) (part : Part) (place : Place) (k : Compact) → kept c f ps p ≡ k
+pub told_open : (c : Configuration) (f : Finished) (ps qs : List Part) (p q : Progress) (part : Part) (place : PartPosition) (k : Compact) → kept c f ps p ≡ k
     → place ≡ next_place k → qs ≡ ps ++ part ∷ [] → q ≡ grown p part.duration place → kept c f qs q ≡ grown_by k part
 told_open c f ps qs p q part place k is here more grows =
     ap₂ (λ xs x. kept c f xs x) more (grows ∙ ap (grown p part.duration) (here ∙ ap next_place (sym is))) ∙ ap (λ x. grown_by x part) is
@@ -115,7 +115,7 @@ spare-snoc : (ps : List Part) (p : Part) → spare (ps ++ p ∷ []) ≡ 0
 spare-snoc [] p = refl
 spare-snoc (q ∷ ps) p = refl
 
-pub kept_open : (c : Configuration) (f : Finished) (ps qs : List Part) (p : Progress) (part : Part) (place : Place) → IsKept c f ps p
+pub kept_open : (c : Configuration) (f : Finished) (ps qs : List Part) (p : Progress) (part : Part) (place : PartPosition) → IsKept c f ps p
     → part_refusal c p.next_number (duration ps) p.end_time part.duration ≡ None → qs ≡ ps ++ part ∷ [] → IsKept c f qs (grown p part.duration place)
 kept_open c f ps qs p part place k allowed more =
     let d = duration-snoc ps part in
@@ -189,7 +189,7 @@ open_number c f (x ∷ xs) p k some = let n = k.numbers in omega (arith, n)
 
 -- the two calls that finish a segment, with what they kept by its name
 
-pub kept_finished : (c : Configuration) (w : ℕ) (f g : Finished) (ps qs os : List Part) (p q r : Progress) (part : Part) (place : Place) (s : Segment) → IsKept c f ps p
+pub kept_finished : (c : Configuration) (w : ℕ) (f g : Finished) (ps qs os : List Part) (p q r : Progress) (part : Part) (place : PartPosition) (s : Segment) → IsKept c f ps p
     → part_refusal c p.next_number (duration ps) p.end_time part.duration ≡ None → qs ≡ ps ++ part ∷ [] → q ≡ grown p part.duration place → r ≡ after q s
     → os ≡ [] → s ≡ (closing qs q).segment → g.rows.items ≡ window (w * 1000000) (f.rows.items ++ closing qs q ∷ [])
     → g.discontinuity ≡ f.discontinuity + broken_in (gone (w * 1000000) (f.rows.items ++ closing qs q ∷ []))
@@ -200,7 +200,7 @@ kept_finished c w f g ps qs os p q r part place s k allowed more grows goes none
     subst (λ x. IsKept c g os x) (sym goes)
     (kept_closed c w f g qs os q s (subst (λ x. IsKept c f qs x) (sym grows) (kept_open c f ps qs p part place k allowed more)) (omega (arith, l.0, n)) none same items left sum hides goes_far)
 
-pub told_finished : (c : Configuration) (w : ℕ) (f g : Finished) (ps qs os : List Part) (p q r : Progress) (part : Part) (place : Place) (s : Segment) (k : Compact) → kept c f ps p ≡ k
+pub told_finished : (c : Configuration) (w : ℕ) (f g : Finished) (ps qs os : List Part) (p q r : Progress) (part : Part) (place : PartPosition) (s : Segment) (k : Compact) → kept c f ps p ≡ k
     → w ≡ c.window → place ≡ next_place k → qs ≡ ps ++ part ∷ [] → q ≡ grown p part.duration place → r ≡ after q s
     → os ≡ [] → s ≡ (closing qs q).segment → g.rows.items ≡ window (w * 1000000) (f.rows.items ++ closing qs q ∷ [])
     → g.discontinuity ≡ f.discontinuity + broken_in (gone (w * 1000000) (f.rows.items ++ closing qs q ∷ []))

@@ -1,12 +1,12 @@
 -- Parts numbered one by one have the numbers of their segments and their places in them.
 use Rattle.std.proofs.Common.{◌≡◌, ℕ, ◌+◌, List, [], ◌∷◌, ◌++◌, Bool, true, false, refl, ap, sym, ◌∙◌, cond, length, append-nil, arith, Some}
 use Rattle.ll_item.specs.declared.part.Part.{Part}
-use Rattle.ll_window.specs.declared.place.Place.{Place}
+use Rattle.ll_window.specs.declared.part_position.PartPosition.{PartPosition}
 use Rattle.ll_window.specs.Numbers.{NumberedPart, numbered_parts, placed, placed_rows, number_after, last_place, NumbersLaw}
 use Rattle.ll_window.specs.Rows.{rows, one_if, is_broken}
 use Rattle.ll_window.specs.Segments.{Split, split, put_by, closed, finished_by, unfinished_by, duration}
 
-abbrev the_place : ℕ → ℕ → Place
+abbrev the_place : ℕ → ℕ → PartPosition
 the_place n i = record { number = n; index = i }
 
 same_place : (n m i j : ℕ) → n ≡ m → i ≡ j → (record { number = n; index = i }) ≡ the_place m j
@@ -56,7 +56,7 @@ numbers-law first maps time e ps =
 
 -- the last of the parts
 
-last-cons : (x : NumberedPart) (xs : List NumberedPart) (l : Place) → last_place xs ≡ Some l → last_place (x ∷ xs) ≡ Some l
+last-cons : (x : NumberedPart) (xs : List NumberedPart) (l : PartPosition) → last_place xs ≡ Some l → last_place (x ∷ xs) ≡ Some l
 last-cons x [] l e = absurd (grind (arith, e))
 last-cons x (y ∷ ys) l e = e
 
@@ -65,7 +65,7 @@ abbrev index_after : ℕ → List (List Part) → List Part → ℕ
 index_after index [] ps = index + length ps
 index_after index (g ∷ gs) ps = length ps
 
-abbrev after : ℕ → ℕ → Split → Place
+abbrev after : ℕ → ℕ → Split → PartPosition
 after number index s = record { number = number + length s.finished; index = index_after index s.finished s.unfinished }
 
 after_by : (b : Bool) (number index : ℕ) (q : Part) (gs : List (List Part)) (ps : List Part)
@@ -76,7 +76,7 @@ after_by true number index q (g ∷ gs) ps = same_place _ _ _ _ (omega arith) re
 after_by false number index q [] ps = same_place _ _ _ _ (omega arith) (omega arith)
 after_by false number index q (g ∷ gs) ps = same_place _ _ _ _ (omega arith) refl
 
-last_by : (b : Bool) (x : NumberedPart) (xs ys : List NumberedPart) (l m : Place) → last_place xs ≡ Some l → last_place ys ≡ Some m
+last_by : (b : Bool) (x : NumberedPart) (xs ys : List NumberedPart) (l m : PartPosition) → last_place xs ≡ Some l → last_place ys ≡ Some m
     → last_place (x ∷ cond b xs ys) ≡ Some (cond b l m)
 last_by true x xs ys l m e f = last-cons x xs l e
 last_by false x xs ys l m e f = last-cons x ys m f

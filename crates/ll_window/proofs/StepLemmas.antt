@@ -7,7 +7,7 @@ use Rattle.ll_item.specs.declared.item.Item.{Item}
 use Rattle.ll_item.specs.declared.item.Item.TheVariants as item
 use Rattle.ll_item.specs.declared.part.Part.{Part}
 use Rattle.ll_window.specs.declared.window.PushFault.{PushFault}
-use Rattle.ll_window.specs.declared.place.Place.{Place}
+use Rattle.ll_window.specs.declared.part_position.PartPosition.{PartPosition}
 use Rattle.ll_window.specs.Numbers.{numbered_parts, last_place}
 use Rattle.ll_window.specs.Compact.{Compact, compact}
 use Rattle.ll_window.specs.Rows.{Row, row, rows, one_if, is_broken, lasting, broken_in}
@@ -40,7 +40,7 @@ pub duration-snoc : (ps : List Part) (p : Part) → duration (ps ++ p ∷ []) �
 duration-snoc ps p = let e = sum_by-append (λ (q : Part). q.duration) ps (p ∷ []) in omega (arith, e)
 
 -- what is kept of these rows of segments
-abbrev told_rows : Configuration → List Row → List Part → ℕ → ℕ → Bool → Option Place → Bool → Compact
+abbrev told_rows : Configuration → List Row → List Part → ℕ → ℕ → Bool → Option PartPosition → Bool → Compact
 told_rows c rs ps next time pending last e = record {
   settings = c;
   window = listed (near_limit c) (duration ps) (window (window_limit c) rs);
@@ -59,12 +59,12 @@ abbrev rows_of : Configuration → List (List Part) → List Row
 rows_of c gs = rows c.first 0 (c.start * 1000) gs
 
 -- what is kept of parts in segments that end at a time
-abbrev kept : Configuration → Bool → Split → ℕ → Bool → Option Place → Compact
+abbrev kept : Configuration → Bool → Split → ℕ → Bool → Option PartPosition → Compact
 kept c e s time pending last =
     told_rows c (rows_of c (finished_by e s)) (unfinished_by e s) (c.first + length (finished_by e s)) time pending last e
 
 -- the open segment is finished
-told-segment : (c : Configuration) (rs : List Row) (ps : List Part) (next time : ℕ) (pending : Bool) (last : Option Place) (e : Bool)
+told-segment : (c : Configuration) (rs : List Row) (ps : List Part) (next time : ℕ) (pending : Bool) (last : Option PartPosition) (e : Bool)
     → told_rows c (rs ++ row next (broken_in rs) (c.start * 1000 + lasting rs) ps ∷ []) [] (next + 1) time pending last e
     ≡ after_segment (told_rows c rs ps next time pending last e)
 told-segment c rs ps next time pending last e =
@@ -97,14 +97,14 @@ next_number : (c : Configuration) (gs : List (List Part)) (g : List Part) → c.
 next_number c gs g = let n = length-append gs (g ∷ []) in omega (arith, n)
 
 -- segments of which the last was open
-kept-closed : (c : Configuration) (gs : List (List Part)) (ps : List Part) (time : ℕ) (pending : Bool) (last : Option Place) (e : Bool)
+kept-closed : (c : Configuration) (gs : List (List Part)) (ps : List Part) (time : ℕ) (pending : Bool) (last : Option PartPosition) (e : Bool)
     → told_rows c (rows_of c (gs ++ ps ∷ [])) [] (c.first + length (gs ++ ps ∷ [])) time pending last e
     ≡ after_segment (told_rows c (rows_of c gs) ps (c.first + length gs) time pending last e)
 kept-closed c gs ps time pending last e =
     ap₂ (λ rs next. told_rows c rs [] next time pending last e) (added-row c gs ps) (next_number c gs ps)
     ∙ told-segment c (rows_of c gs) ps (c.first + length gs) time pending last e
 
-kept-open : (c : Configuration) (s : Split) (time : ℕ) (pending : Bool) (old : Option Place) (p : Part)
+kept-open : (c : Configuration) (s : Split) (time : ℕ) (pending : Bool) (old : Option PartPosition) (p : Part)
     → kept c false (added_by false s p) (time + p.duration) false (Some (next_place (kept c false s time pending old)))
     ≡ with_open (kept c false s time pending old) p
 kept-open c s time pending old p =
@@ -112,7 +112,7 @@ kept-open c s time pending old p =
     ap (λ v. record (with_open (kept c false s time pending old) p) { window = v })
     (again (near_limit c) (duration s.unfinished) (duration (s.unfinished ++ p ∷ [])) (window (window_limit c) (rows_of c s.finished)) (omega (arith, d)))
 
-kept-added : (c : Configuration) (b : Bool) (s : Split) (time : ℕ) (pending : Bool) (old : Option Place) (p : Part)
+kept-added : (c : Configuration) (b : Bool) (s : Split) (time : ℕ) (pending : Bool) (old : Option PartPosition) (p : Part)
     → kept c false (added_by b s p) (time + p.duration) false (Some (next_place (kept c false s time pending old)))
     ≡ with_part_by b (kept c false s time pending old) p
 kept-added c true s time pending old p =
@@ -121,12 +121,12 @@ kept-added c true s time pending old p =
 kept-added c false s time pending old p = kept-open c s time pending old p
 
 -- the end closes the open segment
-kept-ended : (c : Configuration) (gs : List (List Part)) (ps : List Part) (time : ℕ) (pending : Bool) (last : Option Place)
+kept-ended : (c : Configuration) (gs : List (List Part)) (ps : List Part) (time : ℕ) (pending : Bool) (last : Option PartPosition)
     → kept c true (record { finished = gs; unfinished = ps }) time pending last ≡ with_end (kept c false (record { finished = gs; unfinished = ps }) time pending last)
 kept-ended c gs [] time pending last = ap (λ xs. told_rows c (rows_of c xs) [] (c.first + length xs) time pending last true) (append-nil gs)
 kept-ended c gs (p ∷ ps) time pending last = kept-closed c gs (p ∷ ps) time pending last true
 
-abbrev last_of : Configuration → List Part → Option Place
+abbrev last_of : Configuration → List Part → Option PartPosition
 last_of c ps = last_place (numbered_parts c.first 0 ps)
 
 -- what is kept of what items tell

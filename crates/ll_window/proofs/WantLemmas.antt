@@ -9,7 +9,7 @@ use Rattle.ll_item.specs.Settings.{Configuration}
 use Rattle.ll_item.specs.declared.item.Item.{Item}
 use Rattle.ll_item.specs.declared.item.Item.TheVariants as item
 use Rattle.ll_item.specs.declared.part.Part.{Part}
-use Rattle.ll_window.specs.declared.place.Place.{Place}
+use Rattle.ll_window.specs.declared.part_position.PartPosition.{PartPosition}
 use Rattle.ll_window.specs.Compact.{Compact, compact}
 use Rattle.ll_window.specs.Numbers.{NumberedPart, numbered_parts, last_place, placed}
 use Rattle.ll_window.specs.Rows.{Row, rows, one_if, is_broken}
@@ -24,11 +24,11 @@ use Rattle.ll_window.proofs.SplitLemmas.{added_by, split-snoc}
 abbrev held : ℕ → ℕ → List NumberedPart → Bool
 held msn part xs = list_any (λ p. reaches msn part (place_of p)) xs
 
-abbrev pub held_by : ℕ → ℕ → Option Place → Bool
+abbrev pub held_by : ℕ → ℕ → Option PartPosition → Bool
 held_by msn part None = false
 held_by msn part (Some last) = reaches msn part last
 
-abbrev place : ℕ → ℕ → Place
+abbrev place : ℕ → ℕ → PartPosition
 place number index = record { number = number; index = index }
 
 abbrev numbered : ℕ → ℕ → Part → NumberedPart

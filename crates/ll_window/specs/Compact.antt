@@ -4,7 +4,7 @@ use Rattle.ll_item.specs.Items.{is_about_ranges}
 use Rattle.ll_item.specs.Settings.{Configuration, skip_limit}
 use Rattle.ll_item.specs.declared.item.Item.{Item}
 use Rattle.ll_item.specs.declared.part.Part.{Part}
-use Rattle.ll_window.specs.declared.place.Place.{Place}
+use Rattle.ll_window.specs.declared.part_position.PartPosition.{PartPosition}
 use Rattle.ll_window.specs.Numbers.{numbered_parts, last_place}
 use Rattle.ll_window.specs.Rows.{Row, row, rows, lasting, broken_in}
 use Rattle.ll_item.specs.Told.{end_time, told}
@@ -29,7 +29,7 @@ pub record Compact : Type 0 where
   -- how many broken segments have left the window (section 4.4.3.3)
   pub discontinuity : ℕ
   -- where the last part stands, where there is one
-  pub last : Option Place
+  pub last : Option PartPosition
   -- whether the rendition has ended
   pub ended : Bool
 

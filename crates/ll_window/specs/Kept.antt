@@ -5,7 +5,7 @@ use Rattle.ll_item.specs.Settings.{Configuration, number_end}
 use Rattle.ll_item.specs.declared.part.Part.{Part}
 use Rattle.ll_window.specs.declared.progress.Progress.{Progress}
 use Rattle.ll_window.specs.declared.finished.Finished.{Finished}
-use Rattle.ll_window.specs.declared.place.Place.{Place}
+use Rattle.ll_window.specs.declared.part_position.PartPosition.{PartPosition}
 use Rattle.ll_window.specs.declared.segment.Segment.{Segment}
 use Rattle.ll_window.specs.Hidden.{AreHidden}
 use Rattle.ll_window.specs.Rows.{Row, lasting, broken_in}
@@ -18,7 +18,7 @@ AreTimed [] time = Unit
 AreTimed (r ∷ rs) time = (r.segment.time + r.segment.duration + lasting rs ≡ time) × AreTimed rs time
 
 -- with one more part of so many microseconds, which stands here
-abbrev pub grown : Progress → ℕ → Place → Progress
+abbrev pub grown : Progress → ℕ → PartPosition → Progress
 grown p micros place = record p {
   open_duration = p.open_duration + micros;
   end_time = p.end_time + micros;

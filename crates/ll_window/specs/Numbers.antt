@@ -1,7 +1,7 @@
 -- Media sequence numbers and part indexes of all parts, one part after another (section 4.4.4.9).
 use Rattle.std.specs.Prelude.{◌≡◌, ℕ, ◌+◌, List, [], ◌∷◌, ◌++◌, Bool, Option, Some, None, if◌then◌else◌}
 use Rattle.ll_item.specs.declared.part.Part.{Part}
-use Rattle.ll_window.specs.declared.place.Place.{Place}
+use Rattle.ll_window.specs.declared.part_position.PartPosition.{PartPosition}
 use Rattle.ll_window.specs.Rows.{Row, rows}
 use Rattle.ll_window.specs.Segments.{split, finished_by, unfinished_by}
 
@@ -39,7 +39,7 @@ NumbersLaw = (first maps time : ℕ) (has_ended : Bool) (ps : List Part)
     ≡ numbered_parts first 0 ps
 
 -- the media sequence number and the index of the last of these parts, where there is one
-abbrev pub last_place : List NumberedPart → Option Place
+abbrev pub last_place : List NumberedPart → Option PartPosition
 last_place [] = None
 last_place (p ∷ []) = Some (record { number = p.number; index = p.index })
 last_place (p ∷ q ∷ more) = last_place (q ∷ more)

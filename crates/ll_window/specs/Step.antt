@@ -3,7 +3,7 @@ use Rattle.std.specs.Prelude.{◌+◌, List, [], ◌∷◌, ◌++◌, Bool, true
 use Rattle.ll_item.specs.declared.item.Item.{Item}
 use Rattle.ll_item.specs.declared.item.Item.TheVariants as item
 use Rattle.ll_item.specs.declared.part.Part.{Part}
-use Rattle.ll_window.specs.declared.place.Place.{Place}
+use Rattle.ll_window.specs.declared.part_position.PartPosition.{PartPosition}
 use Rattle.ll_window.specs.Compact.{Compact}
 use Rattle.ll_window.specs.Refusal.{part_refusal, break_refusal, refusal_by}
 use Rattle.ll_window.specs.Rows.{Row, row, one_if, is_broken, broken_in}
@@ -12,7 +12,7 @@ use Rattle.ll_window.specs.Window.{window_limit, near_limit, gone, window, liste
 use Rattle.ll_window.specs.declared.window.PushFault.{PushFault}
 
 -- where the next part stands
-abbrev pub next_place : Compact → Place
+abbrev pub next_place : Compact → PartPosition
 next_place k = record { number = k.next_number; index = length k.open_parts }
 
 -- the parts that are listed, now that the open segment lasts so long

@@ -5,17 +5,17 @@ use Rattle.ll_item.specs.Items.{is_about_ranges}
 use Rattle.ll_item.specs.Settings.{Configuration}
 use Rattle.ll_item.specs.declared.item.Item.{Item}
 use Rattle.ll_item.specs.declared.part.Part.{Part}
-use Rattle.ll_window.specs.declared.place.Place.{Place}
+use Rattle.ll_window.specs.declared.part_position.PartPosition.{PartPosition}
 use Rattle.ll_window.specs.Compact.{all_rows}
 use Rattle.ll_window.specs.Numbers.{NumberedPart, numbered_parts, last_place}
 use Rattle.ll_window.specs.Segments.{parts, segments, open_segment}
 
 -- where a part stands
-abbrev pub place_of : NumberedPart → Place
+abbrev pub place_of : NumberedPart → PartPosition
 place_of p = record { number = p.number; index = p.index }
 
 -- whether a part that stands here is the wanted one or comes after it
-abbrev pub reaches : ℕ → ℕ → Place → Bool
+abbrev pub reaches : ℕ → ℕ → PartPosition → Bool
 reaches msn part here = nat_lt msn here.number || (msn == here.number && nat_le part here.index)
 
 -- Whether the wanted part or a later one is among those of these items of a rendition. All parts that were ever published count,
@@ -29,7 +29,7 @@ abbrev pub holds_segment : Configuration → List Item → ℕ → Bool
 holds_segment c items msn = list_any (λ row. nat_le msn row.segment.number) (all_rows c items)
 
 -- the number after that of the last segment that has a part, finished or open; before the first part, the first number
-abbrev pub number_after_last : Configuration → Option Place → ℕ
+abbrev pub number_after_last : Configuration → Option PartPosition → ℕ
 number_after_last c None = c.first
 number_after_last c (Some last) = last.number + 1
 
@@ -47,7 +47,7 @@ abbrev pub far_part : Configuration → ℕ → List Part → ℕ → Option ℕ
 far_part c number open_parts msn None = false
 far_part c number open_parts msn (Some part) = msn == number && is_past (advance_limit c) open_parts part
 
-abbrev pub far_by : Configuration → Option Place → ℕ → List Part → ℕ → Option ℕ → Bool
+abbrev pub far_by : Configuration → Option PartPosition → ℕ → List Part → ℕ → Option ℕ → Bool
 far_by c last number open_parts msn part = nat_lt (number_after_last c last + 1) msn || far_part c number open_parts msn part
 
 -- Whether what is wanted is so far ahead that its request may be refused: a segment more than two after the last one that has a

@@ -19,13 +19,13 @@ use std::sync::Arc;
 
 /// A finished segment with the parts that it lists, which copies share.
 #[derive(Debug, Drop)]
-pub(crate) struct Kept {
+pub(crate) struct FinishedSegment {
     pub(crate) segment: Segment,
     /// None, once no playlist lists them any more.
     parts: Option<Arc<Vec<Part>>>,
 }
 
-impl Model for Kept {
+impl Model for FinishedSegment {
     ghost use Rattle.std.specs.Arc.{arc_value};
     ghost use Rattle.ll_window.specs.Rows.{Row, parts_in};
 
@@ -34,22 +34,22 @@ impl Model for Kept {
     ghost view = { λ k. record { segment = k.segment; parts = parts_in k.parts (λ kept. (arc_value kept).items) } };
 }
 
-impl Clone for Kept {
+impl Clone for FinishedSegment {
     ghost is_clone = { λ k l. l ≡ k };
 
-    fn clone(&self) -> Result<Kept, AllocError> {
+    fn clone(&self) -> Result<FinishedSegment, AllocError> {
         let parts = match &self.parts {
             Some(parts) => Some(Arc::try_clone(parts)?),
             None => None,
         };
-        Ok(Kept {
+        Ok(FinishedSegment {
             segment: self.segment,
             parts,
         })
     }
 }
 
-impl Kept {
+impl FinishedSegment {
     /// The parts that it lists.
     pub(crate) fn parts(&self) -> &[Part]
         ensures { result.now ≡ self.now.parts }
@@ -71,7 +71,7 @@ impl Kept {
 /// The finished segments of the window.
 #[derive(Debug, Drop)]
 pub(crate) struct Finished {
-    pub(crate) rows: VecDeque<Kept>,
+    pub(crate) rows: VecDeque<FinishedSegment>,
     /// How long they last together, in microseconds.
     pub(crate) lasting: u64,
     /// How many broken ones have left.
@@ -140,7 +140,7 @@ impl Finished {
         self.rows.reserve(1)?;
         let segment = progress.segment(open_parts.as_slice());
         let parts = Some(shared(alloc, open_parts)?);
-        self.rows.push_back(Kept { segment, parts })?;
+        self.rows.push_back(FinishedSegment { segment, parts })?;
         self.lasting += segment.duration;
         self.near_lasting += segment.duration;
         self.shrink(least);
@@ -188,7 +188,7 @@ impl Finished {
     }
 
     /// The segment at this place with its parts, 0 being the first.
-    pub(crate) fn row(&self, place: usize) -> Option<&Kept>
+    pub(crate) fn row(&self, place: usize) -> Option<&FinishedSegment>
         ensures { option_copied result ≡ slice_get self.now.rows.items place }
     {
         self.rows.get(place)

@@ -4,13 +4,13 @@
 
 mod finished;
 mod laws;
-mod place;
+mod part_position;
 mod progress;
 mod segment;
 mod wants;
 mod window;
 
 pub use laws::{numbers_law, ranges_law, wants_law, window_law};
-pub use place::Place;
+pub use part_position::PartPosition;
 pub use segment::Segment;
 pub use window::{PushFault, Window};

@@ -6,7 +6,7 @@ ghost use Rattle.ll_window.specs.Rows as spec;
 ghost use Rattle.ll_window.specs.Kept.{grown};
 ghost use Rattle.ll_window.specs.Kept as kept;
 
-use crate::place::Place;
+use crate::part_position::PartPosition;
 use crate::segment::Segment;
 use ll_item::Part;
 
@@ -26,7 +26,7 @@ pub(crate) struct Progress {
     /// Whether a break stands after the last part.
     pub(crate) pending: bool,
     /// Where the last part stands, where there is one.
-    pub(crate) last: Option<Place>,
+    pub(crate) last: Option<PartPosition>,
     /// Whether the rendition has ended.
     pub(crate) ended: bool,
 }
@@ -49,7 +49,7 @@ impl Progress {
     }
 
     /// With one more part of so many microseconds, which stands here.
-    pub(crate) fn with_part(self, micros: u64, place: Place) -> Progress
+    pub(crate) fn with_part(self, micros: u64, place: PartPosition) -> Progress
         requires open { self.open_duration + micros < 2 ^ 64 }
         requires end { self.end_time + micros < 2 ^ 64 }
         ensures { result ≡ grown self micros place }

@@ -5,11 +5,11 @@ ghost use Rattle.ll_window.specs.Compact.{compact};
 ghost use Rattle.ll_window.specs.Wants.{number_after_last, is_past};
 ghost use Rattle.ll_window.specs.Wants as spec;
 
-use crate::place::Place;
+use crate::part_position::PartPosition;
 use crate::window::Window;
 use ll_item::Settings;
 
-impl Place {
+impl PartPosition {
     /// Whether a part that stands here is the wanted one or comes after it.
     pub(crate) fn reaches(self, msn: u64, part: u64) -> bool
         ensures { result ≡ spec.reaches msn part self }

@@ -12,7 +12,7 @@ ghost use Rattle.ll_window.specs.Step as step;
 ghost use Rattle.ll_window.specs.Window.{segment_at, parts_at};
 
 use crate::finished::Finished;
-use crate::place::Place;
+use crate::part_position::PartPosition;
 use crate::progress::Progress;
 use crate::segment::Segment;
 use ll_item::{Item, Part, Settings};
@@ -229,7 +229,7 @@ impl Window {
     }
 
     /// Where the last part stands, where there is one: its segment is finished or open.
-    pub fn last(&self) -> Option<Place>
+    pub fn last(&self) -> Option<PartPosition>
         ensures { result ≡ self.now.last }
     {
         self.progress.last
@@ -400,10 +400,10 @@ impl Window {
     }
 
     /// Where the next part stands.
-    fn next_place(&self) -> Place
+    fn next_place(&self) -> PartPosition
         ensures { result ≡ step.next_place self.now }
     {
-        Place {
+        PartPosition {
             number: self.progress.next_number,
             index: self.open_parts.len() as u64,
         }

@@ -3,12 +3,11 @@ use Rattle.std.specs.Prelude.{ℕ, List, [], ◌∷◌, ◌++◌, Bool, true, fa
 use Rattle.ll_page.specs.Page.{page_text}
 use Rattle.ll_directive.specs.Targets.{fault_name}
 use Rattle.ll_directive.specs.Targets as target
+use Rattle.ll_verdict.specs.Names.{ask_fault_name}
 use Rattle.ll_verdict.specs.declared.reply.Reply.{Reply}
 use Rattle.ll_verdict.specs.declared.reply.Reply.TheVariants.{Text, NotFound, TooFar, Busy, Timeout}
 use Rattle.ll_wire.specs.declared.fault.HeadFault.{HeadFault}
 use Rattle.ll_wire.specs.declared.fault.HeadFault.TheVariants.{BadHead, HeadTooLarge, BadHost, BadMethod, BadBody}
-use Rattle.ll_wire.specs.declared.answer.Unavailable.{Unavailable}
-use Rattle.ll_wire.specs.declared.answer.Unavailable.TheVariants.{RecordFull, Memory}
 use Rattle.ll_wire.specs.declared.answer.Answer.{Answer}
 use Rattle.ll_wire.specs.declared.answer.Answer.TheVariants as answer
 
@@ -33,10 +32,6 @@ reply_status TooFar = 400
 reply_status Busy = 503
 reply_status Timeout = 503
 
-abbrev pub unavailable_name : Unavailable → List ℕ
-unavailable_name RecordFull = codes "RecordFull"
-unavailable_name Memory = codes "Memory"
-
 -- ---- what an answer is made of
 
 abbrev pub status_of : Answer → ℕ
@@ -59,7 +54,7 @@ reply_body Timeout = named (codes "Timeout")
 -- the playlist, or the name of the refusal and LF
 abbrev pub body_of : Answer → List ℕ
 body_of (answer.Reply reply) = reply_body reply
-body_of (answer.Unavailable reason) = named (unavailable_name reason)
+body_of (answer.Unavailable reason) = named (ask_fault_name reason)
 body_of (answer.Target fault) = named (fault_name fault)
 body_of (answer.Head fault) = named (head_fault_name fault)
 

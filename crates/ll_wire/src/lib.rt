@@ -10,7 +10,7 @@ mod laws;
 mod message;
 mod place;
 
-pub use answer::{Answer, Unavailable};
+pub use answer::Answer;
 pub use body::{Body, Message};
 pub use fault::HeadFault;
 pub use head::{Head, Request, next_head};

@@ -1,6 +1,6 @@
 //! A playlist.
 use ll_item::{Item, Settings};
-use ll_page::{Form, Page, Rendition, Shown};
+use ll_page::{Page, Rendition, Shown};
 use ll_range::Ranges;
 use ll_window::Window;
 use std::alloc::{AllocError, Global};
@@ -18,7 +18,7 @@ fn page_of(alloc: Global, settings: &Settings) -> Result<Option<Page>, AllocErro
     let mut renditions = Vec::new(alloc);
     renditions.push(rendition(alloc, settings)?)?;
     let shown = Shown::of(alloc, settings, &renditions, 1)?;
-    Page::make(alloc, &shown, 0, Form::Full)
+    Page::make(alloc, &shown, 0, None)
 }
 
 fn rendition(alloc: Global, settings: &Settings) -> Result<Rendition, AllocError> {

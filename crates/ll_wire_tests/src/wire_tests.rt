@@ -2,8 +2,8 @@ use crate::pages::page_of_one_part;
 use crate::rows::{bytes, column, number};
 use ll_directive::TargetFault;
 use ll_page::Page;
-use ll_verdict::Reply;
-use ll_wire::{Answer, HeadFault, Unavailable, next_head, response};
+use ll_verdict::{AskFault, Reply};
+use ll_wire::{Answer, HeadFault, next_head, response};
 use std::alloc::{AllocError, Global};
 
 pub(crate) fn add_answer(
@@ -126,7 +126,7 @@ fn answer(name: &str) -> Answer {
         "target NotFound" => Answer::Target(TargetFault::NotFound),
         "NotFound" => Answer::Reply(Reply::NotFound),
         "Busy" => Answer::Reply(Reply::Busy),
-        _ => Answer::Unavailable(Unavailable::RecordFull),
+        _ => Answer::Unavailable(AskFault::RecordFull),
     }
 }
 

@@ -4,7 +4,7 @@ use Rattle.std.proofs.lemmas.Fn.{always_returns_same}
 use Rattle.std.specs.List.Sorted.{IsBinarySearchResult}
 use Rattle.std.specs.Ordering.{nat_cmp}
 use Rattle.std.specs.Result.{result_ok}
-use Rattle.ll_room.specs.Home.{Home}
+use Rattle.ll_room.specs.RoomValue.{RoomValue}
 use Rattle.ll_room.specs.Ticket.{Ticket}
 use Rattle.ll_verdict.specs.Waiting.{IsRising}
 use Rattle.ll_locked.specs.Channel.{is_of}
@@ -19,5 +19,5 @@ returns c =
     let searched = c.binary_search_by_key.ensures.position (λ (p : Ticket). p.ticket) (always_returns_same _ _ _ (λ a r f' k. search rules)) in
     c.ok.ensures.value
     ∙ subst (λ ps. result_ok r ≡ position (is_of t) ps) (sym c.requires.each)
-    (place-found room.channel t room.slots r (subst (λ (h : Home). IsRising 0 h.slots) c.room.ensures c.open_requests-open.ensures.rising)
+    (place-found room.channel t room.slots r (subst (λ (h : RoomValue). IsRising 0 h.slots) c.room.ensures c.open_requests-open.ensures.rising)
     (subst (λ ps. IsBinarySearchResult (λ (p : Ticket). nat_cmp p.ticket t) ps r) c.requires.each searched))

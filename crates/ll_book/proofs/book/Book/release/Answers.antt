@@ -3,7 +3,7 @@ use Rattle.std.proofs.Common.{◌^◌, ◌∙◌, ap, filter, find, length, opti
 use Rattle.ll_order.specs.Numbers.{AreRising}
 use Rattle.ll_verdict.specs.Waiting.{has_ticket, ticket_in}
 use Rattle.ll_verdict.specs.declared.reply.Settled.TheVariants.{Text}
-use Rattle.ll_book.specs.Release.{Held, takes}
+use Rattle.ll_book.specs.Release.{HoldersValue, takes}
 use Rattle.ll_book.proofs.BookLemmas.{few_pass, rising_changed}
 use Rattle.ll_book.proofs.PageLemmas.{HasPages, all_released, have_pages, page_given, paged, pages_left, released_found, takes_fewer}
 use Rattle.ll_book.proofs.book.Book.release.Goals as goal
@@ -12,8 +12,8 @@ pub loop-entry-init : goal.loop-entry-init
 loop-entry-init c =
     let rising = subst (AreRising ticket_in 0) c.self.view_is c.self.invariant.rising in
     record {
-      rest = λ t. ap (λ (h : Held). option_map (paged c.args.which h.holders) (find (has_ticket t) c.args.self.now)) c.holders.view_is ∙ released_found c.args.which c.args.holders.holders c.args.self.now rising c.requires.those t;
-      pages = subst (λ (h : Held). HasPages c.args.which h.holders c.args.self.now) (sym c.holders.view_is) (have_pages c.args.which c.args.holders.holders c.args.self.now c.requires.those);
+      rest = λ t. ap (λ (h : HoldersValue). option_map (paged c.args.which h.holders) (find (has_ticket t) c.args.self.now)) c.holders.view_is ∙ released_found c.args.which c.args.holders.holders c.args.self.now rising c.requires.those t;
+      pages = subst (λ (h : HoldersValue). HasPages c.args.which h.holders c.args.self.now) (sym c.holders.view_is) (have_pages c.args.which c.args.holders.holders c.args.self.now c.requires.those);
       left = omega arith;
       as_many = refl;
       rising = rising;

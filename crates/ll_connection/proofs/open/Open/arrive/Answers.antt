@@ -8,4 +8,4 @@ returns-clause-arrived c w e d =
     let n = c.args.self.now.number in
     let i = c.in_ok-come.ensures.came w e in
     rw (c.in_ok-come.ensures.number, i.session) at
-    (c.in_ok-hand_in.ensures.handed_in (came n c.args.piece.now v).rooms i.rooms (came_has c.args.declared.now n c.args.piece.now v d))
+    (c.in_ok-submit.ensures.handed_in (came n c.args.piece.now v).rooms i.rooms (came_has c.args.declared.now n c.args.piece.now v d))

@@ -1,5 +1,5 @@
 use Rattle.std.proofs.Common.{Err, ap, sym, true, false, ◌∙◌}
-use Rattle.ll_channels.specs.Channels.{channel_of_name}
+use Rattle.ll_item.specs.Channels.{channel_of_name}
 use Rattle.ll_rooms.specs.World.{silent}
 use Rattle.ll_connection.proofs.OpenLemmas.{is_asked, is_starved, is_unknown}
 use Rattle.ll_connection.proofs.open.Open.ask.Goals as goal

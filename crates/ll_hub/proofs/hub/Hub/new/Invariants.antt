@@ -3,4 +3,4 @@ use Rattle.ll_ledger.specs.Ledgers.{IsRest}
 use Rattle.ll_hub.proofs.hub.Hub.new.Given as goal
 
 abbrev pub invariant-loop-settings : goal.invariant-loop-settings
-invariant-loop-settings g l = (l.slots ≡ l.yielded) × IsRest l.rest (length l.yielded)
+invariant-loop-settings g l = (l.locks ≡ l.yielded) × IsRest l.rest (length l.yielded)

@@ -4,12 +4,12 @@ use Rattle.ll_verdict.specs.Waiting.{found}
 use Rattle.ll_verdict.specs.Events.{Clock, Event}
 use Rattle.ll_record.specs.Recording.{IsRecorded, of_channel}
 use Rattle.ll_room.specs.Answers.{new_tickets}
-use Rattle.ll_room.specs.Home.{tickets}
+use Rattle.ll_room.specs.RoomValue.{tickets}
 use Rattle.ll_room.specs.Ticket.{Ticket}
 use Rattle.ll_room.specs.declared.asked.Asked.TheVariants.{Held}
 use Rattle.ll_locked.specs.Channel.{IsChannel}
 use Rattle.ll_locked.specs.Section.{HasAsked, IsAsCounted, IsMadeBy, IsMet, IsRequestFault, IsUnasked}
-use Rattle.ll_locked.specs.declared.channel.Answer.TheVariants as told
+use Rattle.ll_locked.specs.declared.channel.AtOnce.TheVariants as told
 use Rattle.ll_locked.proofs.AskLemmas.{IsClocked, made-by}
 use Rattle.ll_locked.proofs.CountLemmas.{as-counted, has-asked}
 use Rattle.ll_locked.proofs.FaultLemmas.{ask-refused, filled, request-fault}

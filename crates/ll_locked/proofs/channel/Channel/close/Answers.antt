@@ -1,7 +1,7 @@
 use Rattle.std.proofs.Common.{◌≡◌, ◌∙◌, ◌++◌, ◌∷◌, [], true, refl, ap, subst, sym, true≢false}
 use Rattle.ll_record.specs.Recording.{IsRecorded}
 use Rattle.ll_room.specs.Answers as room
-use Rattle.ll_room.specs.Home.{among, less, tickets}
+use Rattle.ll_room.specs.RoomValue.{among, less, tickets}
 use Rattle.ll_room.specs.Ticket.{Ticket}
 use Rattle.ll_room.specs.declared.asked.Closed.TheVariants as given_up
 use Rattle.ll_locked.proofs.ToldLemmas.{among-open, closes, left-beside, none-missing, the-value}

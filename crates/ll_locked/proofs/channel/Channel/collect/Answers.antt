@@ -4,8 +4,8 @@ use Rattle.ll_room.specs.declared.stamped.Stamp.TheVariants as stamp
 use Rattle.ll_verdict.specs.Events.{Event, Collect}
 use Rattle.ll_verdict.specs.declared.reply.Reply.{Reply}
 use Rattle.ll_room.specs.Answers as room
-use Rattle.ll_room.specs.Home.{less, tickets}
-use Rattle.ll_room.specs.Mark.{Mark}
+use Rattle.ll_room.specs.RoomValue.{less, tickets}
+use Rattle.ll_room.specs.StampedValue.{StampedValue}
 use Rattle.ll_room.specs.Ticket.{Ticket}
 use Rattle.ll_room.specs.declared.asked.Collected.TheVariants.{Got}
 use Rattle.ll_locked.proofs.CountLemmas.{as-counted}
@@ -53,7 +53,7 @@ invariant_of-self c =
     c.in-Some.ensures.left
 
 -- what is told of it by any events that are recorded
-told : (c : After-collect) (m : Mark Reply) → Got m ≡ c.collect.result → (es : List Event) → IsRecorded c.self.inside.recorder es
+told : (c : After-collect) (m : StampedValue Reply) → Got m ≡ c.collect.result → (es : List Event) → IsRecorded c.self.inside.recorder es
     → (m.room ≡ c.args.known.place) × (m.stamp ≡ stamp.Collect c.args.entry.ticket) × IsDecidedIn c.args.known.settings.now es c.args.entry m.value
 told c m is es k =
     let here = c.if-not-is_here.ensures.0 refl in

@@ -1,5 +1,5 @@
 use Rattle.std.specs.Prelude.{◌≡◌, length}
-use Rattle.ll_room.specs.Home.{AreDistinct, tickets}
+use Rattle.ll_room.specs.RoomValue.{AreDistinct, tickets}
 use Rattle.ll_locked.specs.Channel.{parked_for}
 use Rattle.ll_locked.proofs.channel.Channel.finish.Given as goal
 

@@ -1,7 +1,7 @@
 -- One more item, told by what is kept.
 use Rattle.std.proofs.Common.{ap, subst, ◌∙◌, ◌≤◌}
 use Rattle.ll_room.specs.Freed.{new_pages, releases}
-use Rattle.ll_room.specs.Home.{Home, tickets}
+use Rattle.ll_room.specs.RoomValue.{RoomValue, tickets}
 use Rattle.ll_room.specs.contracts.room.Room.{the_view}
 use Rattle.ll_room.proofs.AcceptLemmas.{publish-stands}
 use Rattle.ll_room.proofs.AskLemmas.{low}
@@ -12,7 +12,7 @@ pub returns-clause-accepted : goal.returns-clause-accepted
 returns-clause-accepted c es stands =
     let h = c.args.self.now in
     publish-stands h c.take_in.new.self es c.args.item c.take_in.new.self.renditions stands
-    (subst (λ (x : Home). 1 ≤ x.settings.target) c.in_ok-take_in.ensures.accepted (low c.take_in.new.self (the_view c.self.inside) c.self.view_is c.self.invariant.target))
+    (subst (λ (x : RoomValue). 1 ≤ x.settings.target) c.in_ok-take_in.ensures.accepted (low c.take_in.new.self (the_view c.self.inside) c.self.view_is c.self.invariant.target))
     c.requires
     c.in_ok-take_in.ensures.goes_on c.in_ok-take_in.ensures.accepted
 

@@ -1,7 +1,7 @@
 -- What was made is the room with the item.
 use Rattle.std.proofs.Common.{ap, sym, subst, ◌∙◌}
 use Rattle.ll_room.specs.Freed.{AreApart, with_item}
-use Rattle.ll_room.specs.Home.{Home}
+use Rattle.ll_room.specs.RoomValue.{RoomValue}
 use Rattle.ll_room.proofs.PublishLemmas.{apart, released-item}
 use Rattle.ll_room.proofs.room.Room.accept_and_release.Goals as goal
 
@@ -13,4 +13,4 @@ returns-clause-accepted c =
     let h = c.args.self.now in
     c.change.ensures
     ∙ released-item h c.args.item c.args.first c.args.second c.in_ok-coming.coming c.requires.releases c.in_ok-coming.ensures.rendition c.in_ok-coming.ensures.coming
-    ∙ ap (λ ks. with_item h ks c.args.item) (sym (ap (λ (x : Home). x.renditions) c.change.ensures))
+    ∙ ap (λ ks. with_item h ks c.args.item) (sym (ap (λ (x : RoomValue). x.renditions) c.change.ensures))

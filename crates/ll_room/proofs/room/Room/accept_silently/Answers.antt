@@ -1,6 +1,6 @@
 -- The releases take no request, so the open requests stay as they are.
 use Rattle.std.proofs.Common.{ap, length, subst, sym, ◌∙◌}
-use Rattle.ll_room.specs.Home.{Home}
+use Rattle.ll_room.specs.RoomValue.{RoomValue}
 use Rattle.ll_room.specs.Kept.{IsKept}
 use Rattle.ll_room.specs.Stored.{AreFew}
 use Rattle.ll_room.specs.contracts.room.Room.{the_view}

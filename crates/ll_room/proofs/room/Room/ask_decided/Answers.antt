@@ -1,6 +1,6 @@
 -- What was decided comes of the request, and the room goes on by it.
 use Rattle.std.proofs.Common.{ap, subst, ◌∙◌}
-use Rattle.ll_room.specs.Home.{less, tickets}
+use Rattle.ll_room.specs.RoomValue.{less, tickets}
 use Rattle.ll_room.specs.Decided.{IsDecided, page_now, reply_in}
 use Rattle.ll_room.specs.Kept.{with_answer}
 use Rattle.ll_room.specs.contracts.room.Room.{the_view}

@@ -1,6 +1,6 @@
 -- The holders are those of just the requests that each release takes, and each of these gets its page.
 use Rattle.std.proofs.Common.{ap, length, subst, sym, ◌∙◌}
-use Rattle.ll_room.specs.Home.{Home}
+use Rattle.ll_room.specs.RoomValue.{RoomValue}
 use Rattle.ll_room.specs.Kept.{IsKept}
 use Rattle.ll_room.specs.contracts.room.Room.{the_view}
 use Rattle.ll_room.specs.Stored.{AreFew}
@@ -36,7 +36,7 @@ pub invariant_of-self : goal.invariant_of-self
 invariant_of-self c =
     let h = the_view c.self.inside in
     let is = coming-of h c.args.self.now c.args.first c.args.second c.args.coming c.self.view_is c.requires.coming in
-    subst (λ (x : Home). IsKept x c.renew.new.self) (sym (shown-item c.args.coming.shown c.release_with-2.new.book h is.shown))
+    subst (λ (x : RoomValue). IsKept x c.renew.new.self) (sym (shown-item c.args.coming.shown c.release_with-2.new.book h is.shown))
     (kept-change h c.self.inside.written c.renew.new.self c.args.first c.args.second c.args.coming c.release_with.new.book c.release_with-2.new.book
     (few-events h c.args.self.now c.self.view_is c.requires.few) c.self.invariant c.renew.ensures.pages (subst (AreFew _) c.renditions.ensures c.renew.ensures.pieces) c.requires.apart
     is c.release_with.ensures c.release_with-2.ensures)

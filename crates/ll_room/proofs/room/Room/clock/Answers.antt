@@ -1,6 +1,6 @@
 use Rattle.std.proofs.Common.{◌∙◌, ap, sym, subst, map, arith}
 use Rattle.ll_verdict.specs.Waiting.{ticket_in}
-use Rattle.ll_room.specs.Home.{Stands}
+use Rattle.ll_room.specs.RoomValue.{Stands}
 use Rattle.ll_room.proofs.KeptLemmas.{clock-kept}
 use Rattle.ll_room.proofs.SettleLemmas.{clock-stands, clock-tickets}
 use Rattle.ll_room.proofs.room.Room.clock.Goals as goal

@@ -1,6 +1,6 @@
 use Rattle.std.proofs.Common.{◌∙◌, ap, sym, subst, map, is_some}
 use Rattle.ll_verdict.specs.Waiting.{ticket_in}
-use Rattle.ll_room.specs.Home.{Stands, less}
+use Rattle.ll_room.specs.RoomValue.{Stands, less}
 use Rattle.ll_room.proofs.KeptLemmas.{leave-kept}
 use Rattle.ll_verdict.proofs.WaitingLemmas.{open-found}
 use Rattle.ll_room.proofs.SettleLemmas.{close-stands, done, fewer, not_done}

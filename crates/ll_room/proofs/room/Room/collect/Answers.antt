@@ -1,9 +1,9 @@
 use Rattle.std.proofs.Common.{◌≡◌, ◌∙◌, ap, sym, subst, map, is_some, true, None}
 use Rattle.ll_verdict.specs.Waiting.{found, reply_at, ticket_in}
-use Rattle.ll_room.specs.Home.{Stands, less}
+use Rattle.ll_room.specs.RoomValue.{Stands, less}
 use Rattle.ll_room.proofs.KeptLemmas.{leave-kept, same-kept}
 use Rattle.ll_verdict.proofs.WaitingLemmas.{open-found, open-ready, unready}
-use Rattle.ll_room.proofs.SettleLemmas.{collect-stands, fewer, same-home, still, stranger}
+use Rattle.ll_room.proofs.SettleLemmas.{collect-stands, fewer, same-room, still, stranger}
 use Rattle.ll_room.proofs.room.Room.collect.Goals.{in-Some-find, in-None}
 use Rattle.ll_room.proofs.room.Room.collect.Goals as goal
 
@@ -41,4 +41,4 @@ returns-clause-answer c =
 
 pub returns-clause-nothing : goal.returns-clause-nothing
 returns-clause-nothing c = λ nothing.
-    same-home _ c.take.new.self (c.take.ensures.left ∙ unready c.ticket-ticket.result c.self.inside.book (sym c.take.ensures.reply ∙ c.in_default.is)) ∙ c.self.view_is
+    same-room _ c.take.new.self (c.take.ensures.left ∙ unready c.ticket-ticket.result c.self.inside.book (sym c.take.ensures.reply ∙ c.in_default.is)) ∙ c.self.view_is

@@ -1,7 +1,7 @@
 -- The room goes on by the request, whatever its reply is.
 use Rattle.std.proofs.Common.{ap, subst}
 use Rattle.ll_room.specs.Decided.{IsDecided}
-use Rattle.ll_room.specs.Home.{Home}
+use Rattle.ll_room.specs.RoomValue.{RoomValue}
 use Rattle.ll_room.specs.contracts.room.Room.{the_view}
 use Rattle.ll_room.proofs.AskLemmas.{low}
 use Rattle.ll_room.proofs.DecideLemmas.{decided-counts, decided-holds}
@@ -17,6 +17,6 @@ returns-in_default c =
     let h = c.args.self.now in
     record {
       asked = λ es want k. decided-counts h c.count_ask.new.self want c.args.decision c.in_default.not-Waits k (low h (the_view c.self.inside) c.self.view_is c.self.invariant.target) c.count_ask.ensures es;
-      same = record { channel = ap (λ (x : Home). x.channel) c.count_ask.ensures; settings = ap (λ (x : Home). x.settings) c.count_ask.ensures };
+      same = record { channel = ap (λ (x : RoomValue). x.channel) c.count_ask.ensures; settings = ap (λ (x : RoomValue). x.settings) c.count_ask.ensures };
       unchanged = tt;
     }

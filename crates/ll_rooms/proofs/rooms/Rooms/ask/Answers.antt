@@ -1,11 +1,11 @@
 use Rattle.std.proofs.Common.{◌∙◌, ◌++◌, Err, Some, ap, refl, slice_set, subst, sym}
 use Rattle.std.proofs.lemmas.Option.{slice_get_read}
 use Rattle.ll_room.specs.Answers.{is_done, new_tickets, others}
-use Rattle.ll_room.specs.Home.{tickets}
+use Rattle.ll_room.specs.RoomValue.{tickets}
 use Rattle.ll_verdict.specs.Events.{Ask}
 use Rattle.ll_rooms.specs.Kept.{Leads}
 use Rattle.ll_rooms.specs.World.{ask}
-use Rattle.ll_rooms.specs.declared.answer.Answer.TheVariants.{Replied}
+use Rattle.ll_rooms.specs.declared.answer.ActAnswer.TheVariants.{Replied}
 use Rattle.ll_rooms.proofs.ActLemmas.{ask_nowhere, asked_full, asked_now}
 use Rattle.ll_rooms.proofs.StandLemmas.{still_same}
 use Rattle.ll_rooms.proofs.CallLemmas.{held_leads, kept_of, newest_closes, none_read, tied_back, tied_held}

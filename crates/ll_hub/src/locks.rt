@@ -1,0 +1,322 @@
+//! The channels of a hub, under a lock each.
+ghost use Rattle.std.specs.Prelude.{◌≡◌, ◌+◌, ◌<◌, ◌≤◌, ◌++◌, ◌∷◌, [], None, Some, IfErr, IfOk, IfSome, IsTrue, MatchOption, OnErr, OnOk, false, length, map, slice_get, sum, vec_capacity};
+ghost use Rattle.ll_item.specs.Channels.{channel_of_name};
+ghost use Rattle.ll_hub.specs.Calls as calls;
+ghost use Rattle.ll_ledger.specs.Ledgers.{blank};
+ghost use Rattle.ll_item.specs.Settings.{Configuration};
+ghost use Rattle.ll_locked.specs.Section.{IsAt};
+ghost use Rattle.ll_locked.specs.Told.{IsDecided, IsReadingRefused, IsTotal};
+ghost use Rattle.ll_room.specs.declared.stamped.Stamp.TheVariants as stamp;
+
+use crate::counted::Counted;
+use ll_item::{Channels, Settings};
+use ll_ledger::{ChannelCounts, Ledgers};
+use ll_locked::{HubFault, Known, Total, Tried};
+use ll_record::ReadingFault;
+use ll_room::Stamped;
+use ll_verdict::{Entry, Reply};
+use std::alloc::{AllocError, Global};
+use std::marker::Model;
+use std::sync::{Condvar, Mutex, MutexGuard, Wait};
+use std::time::{Clock, Duration, Instant};
+
+/// One channel's lock, and what wakes those who wait for replies.
+pub(crate) struct ChannelLock<L: Ledgers> {
+    state: Mutex<Counted<L>>,
+    changed: Condvar,
+}
+
+/// Channels under a lock each, found by their names and their places.
+pub(crate) struct ChannelLocks<L: Ledgers> {
+    alloc: Global,
+    channels: Channels,
+    locks: Vec<ChannelLock<L>>,
+}
+
+impl<L: Ledgers> Model for ChannelLocks<L> {
+    ghost use Rattle.std.specs.Prelude.{◌≡◌, List, length, vec_len};
+    ghost use Rattle.ll_item.specs.Settings.{Configuration};
+
+    ghost Value = { List Configuration };
+
+    ghost view = { λ s. s.channels };
+
+    ghost invariant = { λ s. vec_len s.locks ≡ length s.channels };
+}
+
+/// Only none may be let go: a leak is a failed proof.
+impl<L: Ledgers> Drop for ChannelLocks<L> {
+    ghost use Rattle.std.specs.Prelude.{◌≡◌, []};
+
+    fn drop(self)
+        requires { self ≡ [] }
+    {
+        let ChannelLocks {
+            alloc: _,
+            channels: _declared,
+            locks,
+        } = self;
+        locks.destroy_empty();
+    }
+}
+
+impl<L: Ledgers> ChannelLocks<L> {
+    /// No channels.
+    pub(crate) fn new(alloc: Global) -> ChannelLocks<L>
+        ensures { result ≡ [] }
+    {
+        ChannelLocks {
+            alloc,
+            channels: Channels::new(alloc),
+            locks: Vec::new(alloc),
+        }
+    }
+
+    /// What they are kept in.
+    pub(crate) fn alloc(&self) -> Global {
+        self.alloc
+    }
+
+    /// How many there are.
+    pub(crate) fn len(&self) -> usize
+        ensures { result ≡ length self.now }
+    {
+        self.locks.len()
+    }
+
+    /// Adds a channel after the others.
+    pub(crate) fn add(
+        &mut self,
+        settings: Settings,
+        counts: ChannelCounts<L>,
+    ) -> Result<(), AllocError>
+        requires { counts ≡ blank 1 }
+        ensures added { OnOk result (self.new ≡ self.old ++ settings ∷ []) }
+        ensures unchanged { OnErr result (self.new ≡ self.old) }
+    {
+        let own = settings.copy(self.alloc)?;
+        self.locks.reserve(1)?;
+        let channel = Counted::new(self.alloc, self.locks.len(), own, counts)?;
+        match self.channels.add(self.alloc, settings) {
+            Ok(()) => {}
+            Err(AllocError) => {
+                channel.finish();
+                return Err(AllocError);
+            }
+        }
+        self.locks.push_reserved(ChannelLock::new(channel));
+        Ok(())
+    }
+
+    /// The channel of this name, and its settings.
+    pub(crate) fn find(&self, name: &str) -> Option<(usize, &Settings)>
+        ensures { MatchOption result (channel_of_name self.now 0 name.now ≡ None)
+            (λ f. channel_of_name self.now 0 name.now ≡ Some (f.0, f.1.now)) }
+    {
+        self.channels.find(name)
+    }
+
+    /// The channel at this place as the caller knows it, with its lock.
+    pub(crate) fn reach(
+        &self,
+        channel: usize,
+        seen: Option<u64>,
+    ) -> Result<(&ChannelLock<L>, Known<'_>), HubFault>
+        ensures known { IfOk result (λ k. (k.1.place ≡ channel) × (slice_get self.now channel ≡ Some k.1.settings.now) × (seen ≡ Some k.1.seen)) }
+        ensures unknown { IfErr result (λ f. calls.IsUnreached self.now channel seen f) }
+    {
+        let (Some(channel_lock), Some(settings)) = (
+            self.locks.get(channel),
+            self.channels.get(channel),
+        ) else {
+            return Err(HubFault::UnknownChannel);
+        };
+        let Some(seen) = seen else {
+            return Err(HubFault::Stranger);
+        };
+        Ok((
+            channel_lock,
+            Known {
+                place: channel,
+                settings,
+                seen,
+            },
+        ))
+    }
+
+    /// Tells the channel at this place what the clock shows, in milliseconds.
+    pub(crate) fn tick<R: Wait>(&self, rt: &R, channel: usize, ms: u64) -> Result<(), ReadingFault>
+        requires { channel < length self.now }
+        ensures { IfErr result (λ f. IsReadingRefused ms f) }
+    {
+        self.locks[channel].tick(rt, ms)
+    }
+
+    /// Closes what is held, tells what each channel has come to, and takes their shares in. It takes no memory. Answers whether each
+    /// channel was found at its place, as it always is: no proof sees what lies under a lock, so this is looked at.
+    pub(crate) fn finish(self, found: &mut Vec<Total>, all: &mut ChannelCounts<L>) -> bool
+        requires none { found.old.items ≡ [] }
+        requires room { length self ≤ vec_capacity found.old }
+        ensures totals { IsTrue result → calls.AreTotals self found.new.items }
+        ensures each { length found.new.items ≡ length self }
+        ensures parts { all.new.parts ≡ all.old.parts + length self }
+        ensures publishes { all.new.publishes ≡ all.old.publishes + sum (map (λ t. t.publishes) found.new.items) }
+        ensures asks { all.new.asks ≡ all.old.asks + sum (map (λ t. t.asks) found.new.items) }
+    {
+        let ChannelLocks {
+            alloc: _,
+            channels,
+            locks: mut left,
+        } = self;
+        left.reverse();
+        let mut at_home = true;
+        while let Some(channel_lock) = left.pop() {
+            let (total, counts) = channel_lock.finish(&channels, found.len(), &mut at_home);
+            found.push_reserved(total);
+            all.merge(counts);
+        }
+        left.destroy_empty();
+        at_home
+    }
+
+    /// Closes what is held.
+    pub(crate) fn end(self) {
+        let ChannelLocks {
+            alloc: _,
+            channels: _declared,
+            locks: mut left,
+        } = self;
+        while let Some(channel_lock) = left.pop() {
+            channel_lock.end();
+        }
+        left.destroy_empty();
+    }
+}
+
+impl<L: Ledgers> ChannelLock<L> {
+    fn new(channel: Counted<L>) -> ChannelLock<L> {
+        ChannelLock {
+            state: Mutex::new(channel),
+            changed: Condvar::new(),
+        }
+    }
+
+    /// Takes the lock.
+    pub(crate) fn lock<R: Wait>(&self, rt: &R) -> MutexGuard<'_, Counted<L>> {
+        self.state.lock(rt)
+    }
+
+    /// Lets the lock go, and wakes those who wait where more replies are there than before.
+    pub(crate) fn leave(&self, state: MutexGuard<'_, Counted<L>>, ready: usize) {
+        let wakes = ready < state.ready();
+        drop(state);
+        if wakes {
+            self.changed.notify_all();
+        }
+    }
+
+    /// Tells the channel what the clock shows, in milliseconds.
+    fn tick<R: Wait>(&self, rt: &R, ms: u64) -> Result<(), ReadingFault>
+        ensures { IfErr result (λ f. IsReadingRefused ms f) }
+    {
+        let mut state = self.state.lock(rt);
+        let ready = state.ready();
+        let told = state.tick(ms);
+        self.leave(state, ready);
+        told
+    }
+
+    /// Waits until the reply of a held request is there.
+    pub(crate) fn wait<R: Wait>(
+        &self,
+        rt: &R,
+        known: Known<'_>,
+        entry: Entry,
+    ) -> Result<Stamped<Reply>, HubFault>
+        ensures replied { IfOk result (λ r. (r.room ≡ known.entry.place) × (r.stamp ≡ stamp.Collect entry.ticket)) }
+        ensures decided { IfOk result (λ r. IsDecided known.entry.settings.now entry r.value) }
+        ensures stranger { IfErr result (λ f. f ≡ HubFault.Stranger) }
+    {
+        let mut state = self.state.lock(rt);
+        for _ in rt.forever() {
+            match state.collect(known, entry) {
+                Tried::Got(reply) => return Ok(reply),
+                Tried::Stranger => return Err(HubFault::Stranger),
+                Tried::Still => {}
+            }
+            state = self.changed.wait(rt, state);
+        }
+        unreachable!()
+    }
+
+    /// Waits until the reply of a held request is there, or so much time has gone by: then there is none.
+    pub(crate) fn wait_within<R: Wait + Clock>(
+        &self,
+        rt: &R,
+        known: Known<'_>,
+        entry: Entry,
+        limit: Duration,
+    ) -> Result<Option<Stamped<Reply>>, HubFault>
+        ensures replied { IfOk result (λ o. IfSome o (λ r. (r.room ≡ known.entry.place) × (r.stamp ≡ stamp.Collect entry.ticket))) }
+        ensures decided { IfOk result (λ o. IfSome o (λ r. IsDecided known.entry.settings.now entry r.value)) }
+        ensures stranger { IfErr result (λ f. f ≡ HubFault.Stranger) }
+    {
+        let start = Instant::now(rt).ok();
+        let mut state = self.state.lock(rt);
+        for _ in rt.forever() {
+            match state.collect(known, entry) {
+                Tried::Got(reply) => return Ok(Some(reply)),
+                Tried::Stranger => return Err(HubFault::Stranger),
+                Tried::Still => {}
+            }
+            let Some(left) = left(rt, start, limit) else {
+                return Ok(None);
+            };
+            state = self.changed.wait_timeout(rt, state, left).0;
+        }
+        unreachable!()
+    }
+
+    /// Closes what is held, tells what the channel has come to, and gives its shares. Notes where it isn't the channel of this place.
+    fn finish(
+        self,
+        channels: &Channels,
+        place: usize,
+        at_home: &mut bool,
+    ) -> (Total, ChannelCounts<L>)
+        ensures shares { result.1 ≡ record { parts = 1; publishes = result.0.publishes; asks = result.0.asks } }
+        ensures total { (settings : Configuration) → IsTrue at_home.new → slice_get channels.now place ≡ Some settings → IsTotal place settings result.0 }
+        ensures noted { IsTrue at_home.new → IsTrue at_home.old }
+    {
+        let ChannelLock { state, changed: _ } = self;
+        let channel = state.into_inner();
+        *at_home &= is_at(&channel, channels, place);
+        channel.finish()
+    }
+
+    /// Closes what is held.
+    fn end(self) {
+        let ChannelLock { state, changed: _ } = self;
+        state.into_inner().finish();
+    }
+}
+
+/// What is left of a limit that runs from `start`: nothing, where it is over or the clock can't be read.
+fn left<R: Clock>(rt: &R, start: Option<Instant>, limit: Duration) -> Option<Duration> {
+    let left = limit.checked_sub(start?.elapsed(rt).ok()?)?;
+    if left.is_zero() { None } else { Some(left) }
+}
+
+/// Whether this is the channel at this place.
+fn is_at<L: Ledgers>(channel: &Counted<L>, channels: &Channels, place: usize) -> bool
+    ensures { (settings : Configuration) → IsTrue result → slice_get channels.now place ≡ Some settings → IsAt channel.now place settings }
+{
+    match channels.get(place) {
+        Some(settings) => channel.is_met(Known {
+            place,
+            settings,
+            seen: 0,
+        }),
+        None => false,
+    }
+}

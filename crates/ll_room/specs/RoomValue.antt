@@ -1,0 +1,71 @@
+-- What is kept of a channel in place of its events.
+use Rattle.std.specs.Prelude.{◌≡◌, ℕ, List, [], ◌∷◌, Bool, false, filter, length, map, not, ◌==◌}
+use Rattle.std.specs.List.{list_any}
+use Rattle.ll_item.specs.Settings.{Configuration}
+use Rattle.ll_page.specs.Page.{Moment}
+use Rattle.ll_page.specs.View.{renditions}
+use Rattle.ll_rendition.specs.declared.rendition.Rendition.{Rendition}
+use Rattle.ll_verdict.specs.Waiting.{ticket_in}
+use Rattle.ll_verdict.specs.Events.{Event}
+use Rattle.ll_verdict.specs.State.{State, state_of}
+use Rattle.ll_verdict.specs.declared.entry.Slot.{Slot}
+
+pub record RoomValue : Type 0 where
+  -- the number of the room
+  pub channel : ℕ
+  pub settings : Configuration
+  -- what is kept of each rendition, in the order of the settings
+  pub renditions : List Rendition
+  -- how many items were accepted
+  pub count : ℕ
+  -- milliseconds
+  pub time : ℕ
+  -- how many requests there were
+  pub asks : ℕ
+  -- the open requests, in order of asking
+  pub slots : List Slot
+  -- how many events there were
+  pub events : ℕ
+
+-- the room of this number for this state
+abbrev pub room_value : ℕ → Configuration → State → RoomValue
+room_value channel c s = record {
+  channel = channel;
+  settings = c;
+  renditions = renditions c s.items;
+  count = length s.items;
+  time = s.time;
+  asks = s.asks;
+  slots = s.slots;
+  events = s.events;
+}
+
+-- the channel at this moment
+abbrev pub moment : RoomValue → Moment
+moment h = record { settings = h.settings; renditions = h.renditions; count = h.count }
+
+-- a room stands for these events of its channel
+abbrev pub Stands : RoomValue → List Event → Type 0
+Stands h events = h ≡ room_value h.channel h.settings (state_of h.settings events)
+
+-- a room keeps its number and its settings
+pub record IsSame (old new : RoomValue) : Type 0 where
+  pub channel : new.channel ≡ old.channel
+  pub settings : new.settings ≡ old.settings
+
+-- the tickets of the open requests, in order of asking
+abbrev pub tickets : RoomValue → List ℕ
+tickets h = map ticket_in h.slots
+
+-- without this ticket
+abbrev pub less : ℕ → List ℕ → List ℕ
+less ticket list = filter (λ n. not (n == ticket)) list
+
+-- whether this ticket is among these
+abbrev pub among : ℕ → List ℕ → Bool
+among ticket list = list_any (λ n. n == ticket) list
+
+-- no number stands twice
+abbrev pub AreDistinct : List ℕ → Type 0
+AreDistinct [] = Unit
+AreDistinct (n ∷ more) = (among n more ≡ false) × AreDistinct more
