@@ -9,9 +9,10 @@ use Rattle.ll_entry.specs.Entered.{event_of, fault_in, is_open_after, same_answe
 use Rattle.ll_entry.specs.declared.entry.Recorded.{Recorded}
 use Rattle.ll_entry.specs.declared.entry.Recorded.TheVariants as recorded
 use Rattle.ll_item.specs.Settings.{Configuration}
-use Rattle.ll_entry.proofs.ToldLemmas.{answered, both, same_answers, told-right}
-use Rattle.ll_entry.specs.Told.{entry_of}
-use Rattle.ll_room.proofs.KeptLemmas.{short-filter}
+use Rattle.ll_entry.proofs.ToldLemmas.{both, same_answers, told-right}
+use Rattle.ll_entry.specs.Told.{as_told}
+use Rattle.ll_entry.specs.Replies.{told_in}
+use Rattle.ll_entry.specs.declared.version.Version.{Version}
 use Rattle.ll_verdict.specs.Full.{full_by, is_full}
 use Rattle.ll_verdict.proofs.StateLemmas.{state-snoc}
 use Rattle.ll_verdict.specs.Accepted.{refusal}
@@ -19,11 +20,14 @@ use Rattle.ll_rendition.specs.Refusal.{first_refusal}
 use Rattle.ll_verdict.specs.Events.{Event, Publish, Ask, Collect, Close, Clock, asks, items, later, steps_from, taken, time}
 use Rattle.ll_verdict.specs.Outcome.{outcome_of}
 use Rattle.ll_verdict.specs.State.{State, answer_of, new_slots, settle, slot_by, state_of, stays}
-use Rattle.ll_verdict.specs.Verdict.{at_once, held, wanted_of}
+use Rattle.ll_verdict.specs.Verdict.{at_once, held, reply_of, wanted_of}
 use Rattle.ll_verdict.specs.declared.entry.Slot.{Slot}
 use Rattle.ll_rendition.specs.declared.fault.PublishFault.{PublishFault}
+use Rattle.ll_verdict.specs.declared.reply.Outcome.{Outcome}
 use Rattle.ll_verdict.specs.declared.reply.Reply.{Reply}
+use Rattle.ll_verdict.specs.declared.reply.Settled.{Settled}
 use Rattle.ll_verdict.specs.declared.wanted.Wanted.{Wanted}
+use Rattle.ll_check.specs.Records.{AreToldBy}
 
 abbrev open_after : Configuration → List Event → List Slot
 open_after c events = (state_of c events).slots
@@ -34,6 +38,14 @@ record AreFew (c : Configuration) (events : List Event) : Type 0 where
   few : length events + length (open_after c events) ≤ 2 ^ 61
 
 -- ---- the open requests after one more event
+
+kept_short : (s : Slot) (xs ys : List Slot) (b : Bool) → length xs ≤ length ys → length (cond b (s ∷ xs) xs) ≤ length (s ∷ ys)
+kept_short s xs ys true h = omega (arith, h)
+kept_short s xs ys false h = omega (arith, h)
+
+short-filter : (p : Slot → Bool) (ss : List Slot) → length (filter p ss) ≤ length ss
+short-filter p [] = omega arith
+short-filter p (s ∷ ss) = kept_short s (filter p ss) ss (p s) (short-filter p ss)
 
 one_slot : (c : Configuration) (o : Option Reply) (s : State) (w : Option Wanted) → length (slot_by c o s w) ≤ 1
 one_slot c None s (Some a) = omega arith
@@ -111,37 +123,45 @@ unfull_by None true h = cc
 unfull_by None false h = refl
 unfull_by (Some fault) full h = cc
 
-few-after : (c : Configuration) (events : List Event) (entry : Recorded) → fault_in c events entry ≡ None → AreFew c events → AreFew c (events ++ event_of entry ∷ [])
-few-after c events (recorded.Publish item) h f =
+-- a reply that is told is there
+there_by : (v : Version) (o : Option Settled) (reply : Outcome) → Some reply ≡ option_map (told_in v) (option_map (λ (s : Settled). outcome_of (reply_of s)) o) → is_some o ≡ true
+there_by v None reply h = cc
+there_by v (Some s) reply h = refl
+
+few-after : (v : Version) (c : Configuration) (events : List Event) (entry : Recorded) → fault_in v c events entry ≡ None → AreFew c events
+    → AreFew c (events ++ event_of entry ∷ [])
+few-after v c events (recorded.Publish item) h f =
     not-full c events (Publish item) (unfull_by (refusal c (items c events) item) (is_full (length events)) h) f
-few-after c events (recorded.Ask ask want reply) h f =
-    let can = both (ask == asks events + 1 && not (is_full (length events))) (same_answer reply (option_map outcome_of (at_once c (held c events) events want))) h in
+few-after v c events (recorded.Ask ask want reply) h f =
+    let now = option_map (λ r. told_in v (outcome_of r)) (at_once c (held c events) events want) in
+    let can = both (ask == asks events + 1 && not (is_full (length events))) (same_answer reply now) h in
     not-full c events (Ask want) (not-true (is_full (length events)) (and_parts (ask == asks events + 1) (not (is_full (length events))) can.0).1) f
-few-after c events (recorded.Clock ms) h f =
+few-after v c events (recorded.Clock ms) h f =
     let can = both (nat_le ms (2 ^ 60) && not (is_full (length events))) true h in
     not-full c events (Clock ms) (not-true (is_full (length events)) (and_parts (nat_le ms (2 ^ 60)) (not (is_full (length events))) can.0).1) f
-few-after c events (recorded.Collect ask reply) h f =
-    let can = both (is_open_after c events ask) (same_answer (Some reply) (settled_after c events ask)) h in
-    let there = answered (reply_at ask (open_after c events)) reply (sym (same_answers (Some reply) (settled_after c events ask) can.1)) in
+few-after v c events (recorded.Collect ask reply) h f =
+    let now = option_map (told_in v) (settled_after c events ask) in
+    let can = both (is_open_after c events ask) (same_answer (Some reply) now) h in
+    let there = there_by v (reply_at ask (open_after c events)) reply (same_answers (Some reply) now can.1) in
     one-less c events (Collect ask) (lost (is_ready_at ask) (open_after c events) (found_any (is_ready_at ask) (open_after c events) there)) refl f
-few-after c events (recorded.Close ask) h f =
+few-after v c events (recorded.Close ask) h f =
     one-less c events (Close ask) (lost (has_ticket ask) (open_after c events) (both (is_open_after c events ask) true h).0) refl f
 
 -- ---- all events
 
-few_from : (c : Configuration) (before events : List Event) (entries : List Recorded) → map (entry_of c) (steps_from before events) ≡ map Some entries
-    → AreFew c before → AreFew c (before ++ events)
-few_from c before [] entries told f = subst (AreFew c) (sym (append-nil before)) f
-few_from c before (e ∷ events) [] told f = cc
-few_from c before (e ∷ events) (entry ∷ entries) told f =
-    let is : entry_of c (record { before = before; event = e }) ≡ Some entry = cc in
-    let others : map (entry_of c) (steps_from (before ++ e ∷ []) events) ≡ map Some entries = cc in
-    let right = told-right c before e entry is in
+few_from : (c : Configuration) (lines : List (Version × List ℕ)) (before events : List Event) → AreToldBy c lines (steps_from before events) → AreFew c before
+    → AreFew c (before ++ events)
+few_from c lines before [] told f = subst (AreFew c) (sym (append-nil before)) f
+few_from c [] before (e ∷ events) told f = absurd told
+few_from c (line ∷ lines) before (e ∷ events) told f =
+    let entry = as_told line.0 told.0.entry in
+    let right = told-right line.0 c before e told.0.entry told.0.happens in
     subst (AreFew c) (append_assoc before (e ∷ []) events)
-    (few_from c (before ++ e ∷ []) events entries others (subst (λ e. AreFew c (before ++ e ∷ [])) right.1 (few-after c before entry right.0 f)))
+    (few_from c lines (before ++ e ∷ []) events told.1
+    (subst (λ e. AreFew c (before ++ e ∷ [])) right.1 (few-after line.0 c before entry right.0 f)))
 
 -- as many events as this are told of
-pub few : (c : Configuration) (events : List Event) (entries : List Recorded) → map (entry_of c) (steps_from [] events) ≡ map Some entries → length events ≤ 2 ^ 61
-few c events entries told =
-    let f = few_from c [] events entries told (record { open_few = omega arith; few = omega arith }) in
+pub few : (c : Configuration) (lines : List (Version × List ℕ)) (events : List Event) → AreToldBy c lines (steps_from [] events) → length events ≤ 2 ^ 61
+few c lines events told =
+    let f = few_from c lines [] events told (record { open_few = omega arith; few = omega arith }) in
     let all = f.few in omega (arith, all)

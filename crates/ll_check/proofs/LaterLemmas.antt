@@ -1,86 +1,144 @@
--- Nothing is found wrong at an entry that was passed: what lines come to is told at the entry after the events so far, or later.
-use Rattle.std.proofs.Common.{◌≡◌, ℕ, ◌+◌, ◌≤◌, List, [], ◌∷◌, ◌++◌, Bool, true, false, cond, Option, Some, None, Result, Ok, Err, IfErr, refl, ap, sym, subst, ◌∙◌, true≢false, length, nat_le, bytes_eq, codes, arith}
+-- Nothing is found wrong at an entry that was passed: what lines come to is told at the entry after those so far, or later.
+use Rattle.std.proofs.Common.{◌≡◌, ℕ, ◌+◌, ◌==◌, ◌≤◌, List, [], ◌∷◌, ◌++◌, Bool, true, false, cond, Option, Some, None, Result, Ok, Err, IfErr, refl, ap, sym, subst, ◌∙◌, true≢false, not, length, nat_le, bytes_eq, arith}
 use Rattle.std.proofs.lemmas.Bool.Decides.{nat_tests}
 use Rattle.std.proofs.lemmas.List.{length-append}
+use Rattle.ll_attr.specs.Words.{pieces_at}
+use Rattle.ll_check.specs.Found.{ChainValue, IsAt}
+use Rattle.ll_entry.specs.Chain.{Between, Chain, Inside, Position, another, begun, begun_by, checked_from, continued, counted, ended_line, entries, entry_at, go_on, is_channel, joined, joined_at, joined_by, not_before, place_in, text_in, wrong}
+use Rattle.ll_entry.specs.Entered.{event_of, fault_in}
+use Rattle.ll_entry.specs.Versions.{is_older, last_line, version}
 use Rattle.ll_entry.specs.declared.entry.EntryFault.{EntryFault}
 use Rattle.ll_entry.specs.declared.entry.Recorded.{Recorded}
-use Rattle.ll_item.specs.Settings.{Configuration}
-use Rattle.ll_verdict.specs.Events.{Event}
-use Rattle.ll_entry.specs.Chain.{Between, Chain, Inside, Place, begun, chain_of, checked_from, counted, ended_line, entry_at, go_on, joined, joined_by, not_before, start, text_in, wrong}
-use Rattle.ll_attr.specs.Words.{pieces_at}
-use Rattle.ll_room.specs.Home.{Home}
-use Rattle.ll_check.specs.Found.{IsAt}
-use Rattle.ll_entry.specs.Entered.{event_of, fault_in}
 use Rattle.ll_entry.specs.declared.fault.CheckFault.{CheckFault}
 use Rattle.ll_entry.specs.declared.fault.CheckKind.{CheckKind}
 use Rattle.ll_entry.specs.declared.fault.CheckKind.TheVariants.{BadChunk, Memory}
+use Rattle.ll_entry.specs.declared.version.Version.{Version}
+use Rattle.ll_item.specs.Same.{same_settings}
+use Rattle.ll_item.specs.Settings.{Configuration, settings_in}
+use Rattle.ll_item.specs.declared.settings.SettingsFault.{SettingsFault}
+use Rattle.ll_verdict.specs.Events.{Event}
 
 own : (n : ℕ) → nat_le n n ≡ true
 own n = grind (arith, nat_tests)
 
-lower : (m n : ℕ) (r : Result Chain CheckFault) → m ≤ n → not_before n r ≡ true → not_before m r ≡ true
-lower m n (Ok ch) le h = refl
+lower : (m n : ℕ) (r : Result (Option Chain) CheckFault) → m ≤ n → not_before n r ≡ true → not_before m r ≡ true
+lower m n (Ok now) le h = refl
 lower m n (Err f) le h = grind (arith, nat_tests, le, h)
 
-ended-later : (lines : List (List ℕ)) (ch : Chain) (r : Result Chain CheckFault) → not_before (length ch.events + 1) r ≡ true
-    → not_before (length ch.events + 1) (ended_line lines ch r) ≡ true
-ended-later [] ch r h = own (length ch.events + 1)
-ended-later (line ∷ lines) ch r h = h
+-- where nothing is found wrong before the entry after those of some chains
+abbrev Later : Option Chain → Result (Option Chain) CheckFault → Type 0
+Later before r = not_before (entries before + 1) r ≡ true
 
-last-later : (ch : Chain) (kind : CheckKind) (b : Bool) → not_before (length ch.events + 1) (cond b (Ok ch) (wrong ch.events kind)) ≡ true
-last-later ch kind true = refl
-last-later ch kind false = own (length ch.events + 1)
+ended-later : (lines : List (List ℕ)) (before : Option Chain) (r : Result (Option Chain) CheckFault) → Later before r → Later before (ended_line lines before r)
+ended-later [] before r h = own (entries before + 1)
+ended-later (line ∷ lines) before r h = h
 
-go-later : {A : Type 0} (events : List Event) (r : Result A CheckKind) (from : A → Result Chain CheckFault) → ((x : A) → not_before (length events + 1) (from x) ≡ true)
-    → not_before (length events + 1) (go_on events r from) ≡ true
-go-later events (Ok x) from h = h x
-go-later events (Err kind) from h = own (length events + 1)
+last-later : (before : Option Chain) (kind : CheckKind) (b : Bool) → Later before (cond b (Ok before) (wrong before kind))
+last-later before kind true = refl
+last-later before kind false = own (entries before + 1)
 
-line-later : (events : List Event) (o : Option CheckKind) (e : Event) (from : List Event → Result Chain CheckFault)
-    → ((es : List Event) → not_before (length es + 1) (from es) ≡ true) → not_before (length events + 1) (go_on events (joined_by o events e) from) ≡ true
-line-later events (Some kind) e from h = own (length events + 1)
-line-later events None e from h =
-    lower (length events + 1) (length (events ++ e ∷ []) + 1) (from (events ++ e ∷ [])) (omega (arith, length-append events (e ∷ []))) (h (events ++ e ∷ []))
+-- ---- the first three lines
 
-entry-later : (c : Configuration) (events : List Event) (r : Result Recorded EntryFault) (from : List Event → Result Chain CheckFault)
-    → ((es : List Event) → not_before (length es + 1) (from es) ≡ true) → not_before (length events + 1) (go_on events (joined c events r) from) ≡ true
-entry-later c events (Ok e) from h = line-later events (fault_in c events e) (event_of e) from h
-entry-later c events (Err fault) from h = own (length events + 1)
+-- a chunk's chain has as many entries, with those before it, as the chains before the chunk
+abbrev Keeps : Option Chain → Result Chain CheckKind → Type 0
+Keeps before (Ok ch) = entries (Some ch) ≡ entries before
+Keeps before (Err kind) = Unit
 
-either-later : (n : ℕ) (b : Bool) (x y : Result Chain CheckFault) → not_before n x ≡ true → not_before n y ≡ true → not_before n (cond b x y) ≡ true
+keeps_if : (before : Option Chain) (b : Bool) (x y : Result Chain CheckKind) → Keeps before x → Keeps before y → Keeps before (cond b x y)
+keeps_if before true x y h k = h
+keeps_if before false x y h k = k
+
+no_more : (n : ℕ) → n + 0 ≡ n
+no_more n = omega arith
+
+keeps_another : (before : Option Chain) (v : Version) (c : Configuration) → Keeps before (another before v c)
+keeps_another before v c =
+    keeps_if before (is_channel before c) (Ok (record { settings = c; version = v; earlier = entries before; events = [] })) (Err _) (no_more (entries before)) tt
+
+keeps_continued : (before : Option Chain) (v : Version) (c : Configuration) (at : ℕ) → Keeps before (continued before v c at)
+keeps_continued None v c at = tt
+keeps_continued (Some ch) v c at =
+    keeps_if (Some ch) (is_older v ch.version) (Err BadChunk) _ tt
+    (keeps_if (Some ch) (not (at == length ch.events)) (Err _) _ tt
+    (keeps_if (Some ch) (same_settings ch.settings c) (Ok (record ch { version = v })) (Err _) refl tt))
+
+keeps_joined : (before : Option Chain) (v : Version) (c : Configuration) (at : ℕ) → Keeps before (joined_at before v c at)
+keeps_joined before v c at =
+    keeps_if before (at == 0) (another before v c) (continued before v c at) (keeps_another before v c) (keeps_continued before v c at)
+
+keeps_by : (before : Option Chain) (v : Option Version) (s : Result Configuration SettingsFault) (at : Option ℕ) → Keeps before (begun_by before v s at)
+keeps_by before (Some v) (Ok c) (Some at) = keeps_joined before v c at
+keeps_by before (Some v) (Ok c) None = tt
+keeps_by before (Some v) (Err fault) at = tt
+keeps_by before None s at = tt
+
+keeps_begun : (before : Option Chain) (first settings at : Option (List ℕ)) → Keeps before (begun before first settings at)
+keeps_begun before (Some first) (Some settings) (Some at) = keeps_by before (version.read first) (settings_in settings) (place_in at)
+keeps_begun before (Some first) (Some settings) None = tt
+keeps_begun before (Some first) None at = tt
+keeps_begun before None settings at = tt
+
+begun-later : (before : Option Chain) (r : Result Chain CheckKind) (from : Chain → Result (Option Chain) CheckFault) → Keeps before r
+    → ((ch : Chain) → Later (Some ch) (from ch)) → Later before (go_on before r from)
+begun-later before (Ok ch) from keeps h = subst (λ n. not_before (n + 1) (from ch) ≡ true) keeps (h ch)
+begun-later before (Err kind) from keeps h = own (entries before + 1)
+
+-- ---- each further line
+
+one_more : (earlier : ℕ) (events : List Event) (e : Event) → earlier + length events + 1 ≤ earlier + length (events ++ e ∷ []) + 1
+one_more earlier events e = omega (arith, length-append events (e ∷ []))
+
+line-later : (ch : Chain) (o : Option CheckKind) (e : Event) (from : Chain → Result (Option Chain) CheckFault) → ((now : Chain) → Later (Some now) (from now))
+    → Later (Some ch) (go_on (Some ch) (joined_by o ch e) from)
+line-later ch (Some kind) e from h = own (entries (Some ch) + 1)
+line-later ch None e from h =
+    let now : Chain = record ch { events = ch.events ++ e ∷ [] } in
+    lower (entries (Some ch) + 1) (entries (Some now) + 1) (from now) (one_more ch.earlier ch.events e) (h now)
+
+entry-later : (ch : Chain) (r : Result Recorded EntryFault) (from : Chain → Result (Option Chain) CheckFault) → ((now : Chain) → Later (Some now) (from now))
+    → Later (Some ch) (go_on (Some ch) (joined ch r) from)
+entry-later ch (Ok e) from h = line-later ch (fault_in ch.version ch.settings ch.events e) (event_of e) from h
+entry-later ch (Err fault) from h = own (entries (Some ch) + 1)
+
+either-later : (n : ℕ) (b : Bool) (x y : Result (Option Chain) CheckFault) → not_before n x ≡ true → not_before n y ≡ true → not_before n (cond b x y) ≡ true
 either-later n true x y h k = h
 either-later n false x y h k = k
 
-pub later : (p : Place) (ch : Chain) (lines : List (List ℕ)) → not_before (length ch.events + 1) (checked_from p ch lines) ≡ true
-later Between ch [] = own (length ch.events + 1)
-later Between ch (rest ∷ []) = last-later ch BadChunk (bytes_eq rest [])
-later Between ch (first ∷ settings ∷ []) = own (length ch.events + 1)
-later Between ch (first ∷ settings ∷ at ∷ more) =
-    ended-later more ch _ (go-later ch.events (begun ch (text_in first) (text_in settings) (text_in at)) (λ c. checked_from (Inside c) (chain_of c ch.events) more)
-    (λ c. later (Inside c) (chain_of c ch.events) more))
-later (Inside c) ch [] = own (length ch.events + 1)
-later (Inside c) ch (line ∷ more) =
-    ended-later more ch _ (either-later (length ch.events + 1) (bytes_eq line (codes "#END")) _ _ (later Between ch more)
-    (entry-later c ch.events (entry_at c (text_in line)) (λ events. checked_from (Inside c) (chain_of c events) more)
-    (λ events. later (Inside c) (chain_of c events) more)))
+-- ---- all lines
+
+abbrev so_far : Position → Option Chain
+so_far (Between before) = before
+so_far (Inside ch) = Some ch
+
+pub later : (p : Position) (lines : List (List ℕ)) → Later (so_far p) (checked_from p lines)
+later (Between before) [] = own (entries before + 1)
+later (Between before) (rest ∷ []) = last-later before BadChunk (bytes_eq rest [])
+later (Between before) (first ∷ settings ∷ []) = own (entries before + 1)
+later (Between before) (first ∷ settings ∷ at ∷ more) =
+    ended-later more before _ (begun-later before (begun before (text_in first) (text_in settings) (text_in at)) (λ ch. checked_from (Inside ch) more)
+    (keeps_begun before (text_in first) (text_in settings) (text_in at)) (λ ch. later (Inside ch) more))
+later (Inside ch) [] = own (entries (Some ch) + 1)
+later (Inside ch) (line ∷ more) =
+    ended-later more (Some ch) _ (either-later (entries (Some ch) + 1) (bytes_eq line last_line) _ _ (later (Between (Some ch)) more)
+    (entry-later ch (entry_at ch.version ch.settings (text_in line)) (λ now. checked_from (Inside now) more) (λ now. later (Inside now) more)))
 
 -- the same of what comes to lines further on
-pub later-as : (n : ℕ) (p : Place) (ch : Chain) (lines : List (List ℕ)) (r : Result Chain CheckFault) → r ≡ checked_from p ch lines → n ≡ length ch.events + 1
+pub later-as : (n : ℕ) (p : Position) (lines : List (List ℕ)) (r : Result (Option Chain) CheckFault) → r ≡ checked_from p lines → n ≡ entries (so_far p) + 1
     → not_before n r ≡ true
-later-as n p ch lines r e is = ap (not_before n) e ∙ ap (λ n. not_before n (checked_from p ch lines)) is ∙ later p ch lines
+later-as n p lines r e is = ap (not_before n) e ∙ ap (λ n. not_before n (checked_from p lines)) is ∙ later p lines
 
 -- counting entries wants no memory
 abbrev no_memory : CheckKind → Bool
 no_memory Memory = false
 no_memory other = true
 
-counts : (P : CheckFault → Type 0) (ch : Chain) (k : Option Configuration) → ch.known ≡ k → IfErr (counted (Ok ch)) (λ f. f.kind ≡ Memory → P f)
-counts P ch None e = rw e (λ kind. absurd (true≢false (ap no_memory kind)))
-counts P ch (Some c) e = rw e tt
+counts : (P : CheckFault → Type 0) (before : Option Chain) → IfErr (counted (Ok before)) (λ f. f.kind ≡ Memory → P f)
+counts P None = λ kind. absurd (true≢false (ap no_memory kind))
+counts P (Some ch) = tt
 
-pub wants-none : (P : CheckFault → Type 0) (first kept : Option Home) (bytes : List ℕ) (r : Result ℕ CheckFault) → first ≡ None
-    → ((ch : Chain) → IsAt first ch → (now : Chain) × IsAt kept now × (checked_from Between ch (pieces_at 10 bytes) ≡ Ok now))
-    → ((ch : Chain) → IsAt kept ch → r ≡ counted (Ok ch)) → IfErr r (λ f. f.kind ≡ Memory → P f)
+pub wants-none : (P : CheckFault → Type 0) (first kept : Option ChainValue) (bytes : List ℕ) (r : Result ℕ CheckFault) → first ≡ None
+    → ((before : Option Chain) → IsAt first before → (now : Option Chain) × IsAt kept now × (checked_from (Between before) (pieces_at 10 bytes) ≡ Ok now))
+    → ((before : Option Chain) → IsAt kept before → r ≡ counted (Ok before)) → IfErr r (λ f. f.kind ≡ Memory → P f)
 wants-none P first kept bytes r e read count =
-    let got = read start (subst (λ k. IsAt k start) (sym e) refl) in
-    subst (λ r. IfErr r (λ f. f.kind ≡ Memory → P f)) (sym (count got.0 got.1)) (counts P got.0 got.0.known refl)
+    let got = read None (subst (λ k. IsAt k None) (sym e) tt) in
+    subst (λ r. IfErr r (λ f. f.kind ≡ Memory → P f)) (sym (count got.0 got.1)) (counts P got.0)

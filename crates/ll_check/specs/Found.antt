@@ -1,42 +1,68 @@
--- What a checker keeps of a chain.
-use Rattle.std.specs.Prelude.{◌≡◌, ℕ, List, Option, Some, None, Result, Ok, Err}
-use Rattle.ll_item.specs.Settings.{Configuration}
-use Rattle.ll_room.specs.Home.{Home, Stands}
-use Rattle.ll_verdict.specs.Events.{Event}
-use Rattle.ll_entry.specs.Chain.{Between, Chain, Inside, chain_of, checked_from, start}
+-- What a checker keeps of the chains of a record.
+use Rattle.std.specs.Prelude.{◌≡◌, ℕ, suc, zero, List, Option, Some, None, Result, Ok, Err, if◌then◌else◌}
+use Rattle.ll_entry.specs.Chain.{Between, Chain, Inside, another, checked_from}
 use Rattle.ll_entry.specs.declared.fault.CheckKind.{CheckKind}
+use Rattle.ll_entry.specs.declared.fault.CheckKind.TheVariants.{Gap, OtherChannel}
+use Rattle.ll_entry.specs.declared.version.Version.{Version}
+use Rattle.ll_item.specs.Same.{same_settings}
+use Rattle.ll_item.specs.Settings.{Configuration}
+use Rattle.ll_room.specs.RoomValue.{RoomValue, Stands}
+use Rattle.ll_verdict.specs.Events.{Event}
 
--- a room stands for the events of a chain
-abbrev pub IsAt : Option Home → Chain → Type 0
-IsAt None ch = ch ≡ start
-IsAt (Some h) ch = (ch.known ≡ Some h.settings) × Stands h ch.events
+pub record ChainValue : Type 0 where
+  -- what is kept of its channel
+  pub room : RoomValue
+  -- the format of its last chunk
+  pub version : Version
+  -- how many entries the chains before it have
+  pub earlier : ℕ
 
--- a room of settings of which P holds stands for these events
-abbrev pub IsInside : Option Home → List Event → (Configuration → Type 0) → Type 0
-IsInside None events P = ⊥
-IsInside (Some h) events P = P h.settings × Stands h events
+-- it is what is kept of a chain
+pub record IsOf (k : ChainValue) (ch : Chain) : Type 0 where
+  pub chain : ch ≡ record { settings = k.room.settings; version = k.version; earlier = k.earlier; events = ch.events }
+  pub stands : Stands k.room ch.events
 
--- a room stands for the events that these were joined to
-abbrev pub IsJoined : Home → Result (List Event) CheckKind → Type 0
-IsJoined h (Ok events) = Stands h events
-IsJoined h (Err kind) = ⊥
+-- it is what is kept of the chains so far
+abbrev pub IsAt : Option ChainValue → Option Chain → Type 0
+IsAt None None = Unit
+IsAt (Some k) (Some ch) = IsOf k ch
+IsAt kept before = ⊥
 
--- lines of a chunk of these settings, after these events, come to what the rest of them comes to after the chunk
-pub record GoesOn (h : Home) (c : Configuration) (events : List Event) (lines rest : List (List ℕ)) : Type 0 where
-  pub more : List Event
-  pub settings : h.settings ≡ c
-  pub stands : Stands h more
-  pub same : checked_from (Inside c) (chain_of c events) lines ≡ checked_from Between (chain_of c more) rest
+-- it is what is kept of a chain of which P holds
+abbrev pub IsInside : Option ChainValue → (Chain → Type 0) → Type 0
+IsInside None P = ⊥
+IsInside (Some k) P = (ch : Chain) × IsOf k ch × P ch
 
--- lines of a chunk of these settings, after these events, come to what the rest of them comes to after more events
-pub record SoFar (h : Home) (c : Configuration) (events : List Event) (lines rest : List (List ℕ)) : Type 0 where
-  pub more : List Event
-  pub settings : h.settings ≡ c
-  pub stands : Stands h more
-  pub same : checked_from (Inside c) (chain_of c events) lines ≡ checked_from (Inside c) (chain_of c more) rest
+-- it is what is kept of the chain that a chunk begins or goes on with
+abbrev pub IsBegun : Option ChainValue → Result Chain CheckKind → Type 0
+IsBegun (Some k) (Ok ch) = IsOf k ch
+IsBegun kept joined = ⊥
 
--- lines of a chain after a chunk come to what the rest of them comes to from another such place on
-pub record Leads (kept : Option Home) (ch : Chain) (lines rest : List (List ℕ)) : Type 0 where
-  pub now : Chain
+-- it is what is kept of a chain with one more entry
+abbrev pub IsJoined : ChainValue → Result Chain CheckKind → Type 0
+IsJoined k (Ok ch) = IsOf k ch
+IsJoined k (Err kind) = ⊥
+
+-- the chain of a chunk in this format, of a channel of these settings, that can come where it stands: after no entries of its chain, or after so many
+abbrev pub met : Option Chain → Version → Configuration → ℕ → Result Chain CheckKind
+met before v c zero = another before v c
+met None v c (suc at) = Err Gap
+met (Some ch) v c (suc at) = if same_settings ch.settings c then Ok (record ch { version = v }) else Err OtherChannel
+
+-- lines of a chunk come to what the rest of them comes to after the chunk
+pub record GoesOn (k : ChainValue) (ch : Chain) (lines rest : List (List ℕ)) : Type 0 where
+  pub more : Chain
+  pub of : IsOf k more
+  pub same : checked_from (Inside ch) lines ≡ checked_from (Between (Some more)) rest
+
+-- lines of a chunk come to what the rest of them comes to after more events
+pub record SoFar (k : ChainValue) (ch : Chain) (lines rest : List (List ℕ)) : Type 0 where
+  pub more : Chain
+  pub of : IsOf k more
+  pub same : checked_from (Inside ch) lines ≡ checked_from (Inside more) rest
+
+-- lines that come after chunks come to what the rest of them comes to after more chunks
+pub record Leads (kept : Option ChainValue) (before : Option Chain) (lines rest : List (List ℕ)) : Type 0 where
+  pub now : Option Chain
   pub at : IsAt kept now
-  pub same : checked_from Between ch lines ≡ checked_from Between now rest
+  pub same : checked_from (Between before) lines ≡ checked_from (Between now) rest

@@ -2,35 +2,42 @@
 ghost use Rattle.std.specs.Prelude.{◌≡◌, ◌≢◌, ◌+◌, ◌==◌, ◌++◌, ◌∷◌, [], List, IfErr, IsErrOf, OnOk, None, Some, option_map};
 ghost use Rattle.ll_entry.specs.Entered as spec;
 ghost use Rattle.ll_entry.specs.Entered.{event_of, fault_in};
+ghost use Rattle.ll_entry.specs.Replies.{told_in};
+ghost use Rattle.ll_entry.specs.declared.version.Version.TheVariants.{Two};
 ghost use Rattle.ll_entry.specs.declared.entry.Recorded.TheVariants as recorded;
-ghost use Rattle.ll_room.specs.Home.{Stands};
-ghost use Rattle.ll_room.specs.Mark.{Mark};
+ghost use Rattle.ll_room.specs.RoomValue.{Stands};
+ghost use Rattle.ll_room.specs.StampedValue.{StampedValue};
 ghost use Rattle.ll_verdict.specs.Events as event;
 ghost use Rattle.ll_verdict.specs.Events.{Event};
 ghost use Rattle.ll_verdict.specs.Outcome.{outcome_of};
 ghost use Rattle.ll_verdict.specs.declared.reply.Reply as verdict;
 
 use ll_directive::Want;
-use ll_entry::{CheckKind, Recorded};
-use ll_item::Item;
+use ll_entry::{CheckKind, Recorded, Version};
+use ll_item::{Item, SkipKind};
 use ll_room::{Replayer, Stamped};
 use ll_verdict::{Outcome, PublishFault, Reply};
 use std::alloc::AllocError;
 
-/// Takes the event of an entry, where the entry is right.
-pub(crate) fn enter(replayer: &mut Replayer, entry: Recorded) -> Result<(), CheckKind>
+/// Takes the event of an entry of a record in this format, where the entry is right. (Items, readings and requests that are given up are told alike in
+/// both formats, so what is said of them below is said of one.)
+pub(crate) fn enter(
+    replayer: &mut Replayer,
+    version: Version,
+    entry: Recorded,
+) -> Result<(), CheckKind>
     ensures right { (events : List Event) → Stands replayer.old events → OnOk result
-        ((fault_in replayer.old.settings events entry ≡ None) × Stands replayer.new (events ++ event_of entry ∷ [])) }
+        ((fault_in version replayer.old.settings events entry ≡ None) × Stands replayer.new (events ++ event_of entry ∷ [])) }
     ensures wrong { (events : List Event) → Stands replayer.old events
-        → IfErr result (λ k. k ≢ CheckKind.Memory → fault_in replayer.old.settings events entry ≡ Some k) }
-    ensures memory { (events : List Event) → Stands replayer.old events → IsErrOf result CheckKind.Memory → fault_in replayer.old.settings events entry ≡ None }
+        → IfErr result (λ k. k ≢ CheckKind.Memory → fault_in version replayer.old.settings events entry ≡ Some k) }
+    ensures memory { (events : List Event) → Stands replayer.old events → IsErrOf result CheckKind.Memory → fault_in version replayer.old.settings events entry ≡ None }
     ensures settings { replayer.new.settings ≡ replayer.old.settings }
 {
     match entry {
         Recorded::Publish(item) => publish(replayer, item),
-        Recorded::Ask(ask, want, outcome) => make_request(replayer, ask, want, outcome),
+        Recorded::Ask(ask, want, outcome) => make_request(replayer, version, ask, want, outcome),
         Recorded::Clock(ms) => read_clock(replayer, ms),
-        Recorded::Collect(ask, outcome) => collect(replayer, ask, outcome),
+        Recorded::Collect(ask, outcome) => collect(replayer, version, ask, outcome),
         Recorded::Close(ask) => close(replayer, ask),
     }
 }
@@ -38,11 +45,11 @@ pub(crate) fn enter(replayer: &mut Replayer, entry: Recorded) -> Result<(), Chec
 /// Takes an item, where no rule refuses it.
 fn publish(replayer: &mut Replayer, item: Item) -> Result<(), CheckKind>
     ensures right { (events : List Event) → Stands replayer.old events → OnOk result
-        ((fault_in replayer.old.settings events (recorded.Publish item) ≡ None) × Stands replayer.new (events ++ event.Publish item ∷ [])) }
+        ((fault_in Two replayer.old.settings events (recorded.Publish item) ≡ None) × Stands replayer.new (events ++ event.Publish item ∷ [])) }
     ensures wrong { (events : List Event) → Stands replayer.old events
-        → IfErr result (λ k. k ≢ CheckKind.Memory → fault_in replayer.old.settings events (recorded.Publish item) ≡ Some k) }
+        → IfErr result (λ k. k ≢ CheckKind.Memory → fault_in Two replayer.old.settings events (recorded.Publish item) ≡ Some k) }
     ensures memory { (events : List Event) → Stands replayer.old events
-        → IsErrOf result CheckKind.Memory → fault_in replayer.old.settings events (recorded.Publish item) ≡ None }
+        → IsErrOf result CheckKind.Memory → fault_in Two replayer.old.settings events (recorded.Publish item) ≡ None }
     ensures settings { replayer.new.settings ≡ replayer.old.settings }
 {
     match replayer.publish(item) {
@@ -55,16 +62,17 @@ fn publish(replayer: &mut Replayer, item: Item) -> Result<(), CheckKind>
 /// Makes a request, where it is the next one and this is what it gets at once.
 fn make_request(
     replayer: &mut Replayer,
+    version: Version,
     ask: u64,
     want: Want,
     outcome: Option<Outcome>,
 ) -> Result<(), CheckKind>
     ensures right { (events : List Event) → Stands replayer.old events → OnOk result
-        ((fault_in replayer.old.settings events (recorded.Ask ask want outcome) ≡ None) × Stands replayer.new (events ++ event.Ask want ∷ [])) }
+        ((fault_in version replayer.old.settings events (recorded.Ask ask want outcome) ≡ None) × Stands replayer.new (events ++ event.Ask want ∷ [])) }
     ensures wrong { (events : List Event) → Stands replayer.old events
-        → IfErr result (λ k. k ≢ CheckKind.Memory → fault_in replayer.old.settings events (recorded.Ask ask want outcome) ≡ Some k) }
+        → IfErr result (λ k. k ≢ CheckKind.Memory → fault_in version replayer.old.settings events (recorded.Ask ask want outcome) ≡ Some k) }
     ensures memory { (events : List Event) → Stands replayer.old events
-        → IsErrOf result CheckKind.Memory → fault_in replayer.old.settings events (recorded.Ask ask want outcome) ≡ None }
+        → IsErrOf result CheckKind.Memory → fault_in version replayer.old.settings events (recorded.Ask ask want outcome) ≡ None }
     ensures settings { replayer.new.settings ≡ replayer.old.settings }
 {
     let room = replayer.room();
@@ -72,7 +80,7 @@ fn make_request(
         return Err(CheckKind::Refused);
     }
     let decision = room.decide(&want);
-    if !is_same(outcome, decision.outcome(room.count())) {
+    if !is_same(outcome, told(version, decision.outcome(room))) {
         return Err(CheckKind::WrongReply);
     }
     match replayer.pass(decision) {
@@ -84,8 +92,8 @@ fn make_request(
 /// Takes a reading of the clock, where it can be one.
 fn read_clock(replayer: &mut Replayer, ms: u64) -> Result<(), CheckKind>
     ensures right { (events : List Event) → Stands replayer.old events → OnOk result
-        ((fault_in replayer.old.settings events (recorded.Clock ms) ≡ None) × Stands replayer.new (events ++ event.Clock ms ∷ [])) }
-    ensures wrong { (events : List Event) → Stands replayer.old events → IfErr result (λ k. fault_in replayer.old.settings events (recorded.Clock ms) ≡ Some k) }
+        ((fault_in Two replayer.old.settings events (recorded.Clock ms) ≡ None) × Stands replayer.new (events ++ event.Clock ms ∷ [])) }
+    ensures wrong { (events : List Event) → Stands replayer.old events → IfErr result (λ k. fault_in Two replayer.old.settings events (recorded.Clock ms) ≡ Some k) }
     ensures settings { replayer.new.settings ≡ replayer.old.settings }
 {
     match replayer.clock(ms) {
@@ -95,18 +103,23 @@ fn read_clock(replayer: &mut Replayer, ms: u64) -> Result<(), CheckKind>
 }
 
 /// Hands out the reply to a request, where it is open and this is its reply.
-fn collect(replayer: &mut Replayer, ask: u64, outcome: Outcome) -> Result<(), CheckKind>
+fn collect(
+    replayer: &mut Replayer,
+    version: Version,
+    ask: u64,
+    outcome: Outcome,
+) -> Result<(), CheckKind>
     ensures right { (events : List Event) → Stands replayer.old events → OnOk result
-        ((fault_in replayer.old.settings events (recorded.Collect ask outcome) ≡ None) × Stands replayer.new (events ++ event.Collect ask ∷ [])) }
+        ((fault_in version replayer.old.settings events (recorded.Collect ask outcome) ≡ None) × Stands replayer.new (events ++ event.Collect ask ∷ [])) }
     ensures wrong { (events : List Event) → Stands replayer.old events
-        → IfErr result (λ k. fault_in replayer.old.settings events (recorded.Collect ask outcome) ≡ Some k) }
+        → IfErr result (λ k. fault_in version replayer.old.settings events (recorded.Collect ask outcome) ≡ Some k) }
     ensures settings { replayer.new.settings ≡ replayer.old.settings }
 {
     if !replayer.room().is_open(ask) {
         return Err(CheckKind::Refused);
     }
-    let told = outcome_in(&replayer.collect(ask));
-    if is_same(Some(outcome), told) {
+    let reply = outcome_in(&replayer.collect(ask));
+    if is_same(Some(outcome), told(version, reply)) {
         Ok(())
     } else {
         Err(CheckKind::WrongReply)
@@ -116,8 +129,8 @@ fn collect(replayer: &mut Replayer, ask: u64, outcome: Outcome) -> Result<(), Ch
 /// Gives a request up, where it is open.
 fn close(replayer: &mut Replayer, ask: u64) -> Result<(), CheckKind>
     ensures right { (events : List Event) → Stands replayer.old events → OnOk result
-        ((fault_in replayer.old.settings events (recorded.Close ask) ≡ None) × Stands replayer.new (events ++ event.Close ask ∷ [])) }
-    ensures wrong { (events : List Event) → Stands replayer.old events → IfErr result (λ k. fault_in replayer.old.settings events (recorded.Close ask) ≡ Some k) }
+        ((fault_in Two replayer.old.settings events (recorded.Close ask) ≡ None) × Stands replayer.new (events ++ event.Close ask ∷ [])) }
+    ensures wrong { (events : List Event) → Stands replayer.old events → IfErr result (λ k. fault_in Two replayer.old.settings events (recorded.Close ask) ≡ Some k) }
     ensures settings { replayer.new.settings ≡ replayer.old.settings }
 {
     if replayer.close(ask) {
@@ -136,10 +149,20 @@ fn is_after(ask: u64, asks: u64) -> bool
 
 /// What a reply comes to, where there is one.
 fn outcome_in(reply: &Option<Stamped<Reply>>) -> Option<Outcome>
-    ensures { result ≡ option_map (λ (m : Mark verdict.Reply). outcome_of m.value) reply.now }
+    ensures { result ≡ option_map (λ (m : StampedValue verdict.Reply). outcome_of m.value) reply.now }
 {
     match reply {
         Some(reply) => Some(reply.get().outcome()),
+        None => None,
+    }
+}
+
+/// What a record of this format tells of what a reply comes to, where there is one.
+fn told(version: Version, outcome: Option<Outcome>) -> Option<Outcome>
+    ensures { result ≡ option_map (told_in version) outcome }
+{
+    match outcome {
+        Some(outcome) => Some(version.told(outcome)),
         None => None,
     }
 }
@@ -160,11 +183,24 @@ fn is_same_outcome(a: Outcome, b: Outcome) -> bool
     ensures { result ≡ spec.same_outcome a b }
 {
     match (a, b) {
-        (Outcome::Text(a), Outcome::Text(b)) => a == b,
+        (Outcome::Text(a, update), Outcome::Text(b, other)) => a == b
+            && is_same_update(update, other),
         (Outcome::NotFound, Outcome::NotFound) => true,
         (Outcome::TooFar, Outcome::TooFar) => true,
         (Outcome::Busy, Outcome::Busy) => true,
         (Outcome::Timeout, Outcome::Timeout) => true,
+        _ => false,
+    }
+}
+
+/// Whether two playlists are the same delta update, or both full.
+fn is_same_update(a: Option<SkipKind>, b: Option<SkipKind>) -> bool
+    ensures { result ≡ spec.same_update a b }
+{
+    match (a, b) {
+        (None, None) => true,
+        (Some(SkipKind::Yes), Some(SkipKind::Yes)) => true,
+        (Some(SkipKind::V2), Some(SkipKind::V2)) => true,
         _ => false,
     }
 }

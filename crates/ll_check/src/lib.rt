@@ -2,6 +2,8 @@
 #![tactic(auto)]
 
 mod answer;
+mod begin;
+mod chain;
 mod checker;
 mod chunk;
 mod entry;

@@ -1,5 +1,5 @@
--- A chunk, line by line: its first three lines go on with the chain, the lines of entries lead on, and the last one ends it.
-use Rattle.std.proofs.Common.{◌≡◌, ℕ, ◌≤◌, ◌<◌, ◌^◌, ◌==◌, List, [], ◌∷◌, ◌++◌, Bool, true, Option, Some, None, Result, Ok, Err, refl, ap, ◌∙◌, append_assoc, length, codes, decimal, arith, nat_lt, if◌then◌else◌}
+-- A chunk, line by line: its first three lines begin a chain or go on with one, the lines of entries lead on, and the last one ends it.
+use Rattle.std.proofs.Common.{◌≡◌, ℕ, ◌≤◌, ◌<◌, ◌^◌, ◌==◌, List, [], ◌∷◌, ◌++◌, Bool, true, false, not, Option, Some, None, Result, Ok, Err, refl, ap, ◌∙◌, append_assoc, length, codes, decimal, arith, nat_lt, if◌then◌else◌}
 use Rattle.std.proofs.lemmas.Bool.{and_parts}
 use Rattle.std.proofs.lemmas.Bool.Decides.{nat_tests}
 use Rattle.std.proofs.lemmas.Fmt.{IsAscii-decimal}
@@ -14,38 +14,37 @@ use Rattle.ll_format.proofs.WordLaws.{number-laws}
 use Rattle.ll_format.specs.Format.{◌>>=◌}
 use Rattle.ll_format.specs.Words.{is_one_line}
 use Rattle.ll_entry.proofs.ChainLemmas.{header-is, three}
-use Rattle.ll_entry.specs.Chain.{Between, Chain, begun, begun_at, checked_from, known_by, place_in, text_in}
+use Rattle.ll_entry.specs.Chain.{Between, Chain, another, begun, begun_by, checked_from, continued, entries, is_channel, joined_at, place_in, text_in}
 use Rattle.ll_entry.specs.declared.fault.CheckKind.{CheckKind}
-use Rattle.ll_entry.specs.declared.fault.CheckKind.TheVariants.{Gap, OtherChannel}
+use Rattle.ll_entry.specs.declared.fault.CheckKind.TheVariants.{BadChunk, Gap, OtherChannel}
 use Rattle.ll_entry.specs.Replies.{count, most}
 use Rattle.ll_item.proofs.SameLemmas.{settings_decided}
 use Rattle.ll_item.specs.Same.{same_settings}
-use Rattle.ll_item.specs.Settings.{Configuration, settings_in}
+use Rattle.ll_item.specs.Settings.{Configuration, limit_broken, settings_in}
 use Rattle.ll_entry.specs.ItemLines.{settings_line}
-use Rattle.ll_entry.specs.Leads.{ChunkLaw, IsOf, chunk_text}
+use Rattle.ll_entry.specs.Leads.{ChunkLaw, FirstChunkLaw, IsChunkOf, IsLed, chain_of, chunk_text}
+use Rattle.ll_entry.specs.Versions.{first_line, is_older, last_line, version}
+use Rattle.ll_entry.specs.declared.version.Version.{Version}
+use Rattle.ll_entry.specs.declared.version.Version.TheVariants.{One, Two}
+use Rattle.ll_verdict.specs.Events.{Event}
 use Rattle.ll_entry.proofs.LeadLemmas.{cut-line, one-line}
+use Rattle.ll_entry.proofs.SettingsBack.{settings_back}
 
 -- ---- its lines
-
-abbrev pub first_line : List ℕ
-first_line = codes "#LLHLS-CHUNK 1"
 
 abbrev pub at_line : ℕ → List ℕ
 at_line n = codes "at " ++ decimal n
 
-abbrev last_line : List ℕ
-last_line = codes "#END"
-
 text_is : (settings number lines rest : List ℕ)
-    → (codes "#LLHLS-CHUNK 1\n" ++ (settings ++ (codes "\nat " ++ (number ++ (codes "\n" ++ (lines ++ codes "#END\n")))))) ++ rest
-    ≡ first_line ++ 10 ∷ (settings ++ 10 ∷ ((codes "at " ++ number) ++ 10 ∷ (lines ++ (last_line ++ 10 ∷ rest))))
+    → (codes "#LLHLS-CHUNK 2\n" ++ (settings ++ (codes "\nat " ++ (number ++ (codes "\n" ++ (lines ++ codes "#END\n")))))) ++ rest
+    ≡ first_line Two ++ 10 ∷ (settings ++ 10 ∷ ((codes "at " ++ number) ++ 10 ∷ (lines ++ (last_line ++ 10 ∷ rest))))
 text_is settings number lines rest =
-    ap (λ t. first_line ++ 10 ∷ t) (append_assoc settings (codes "\nat " ++ (number ++ (codes "\n" ++ (lines ++ codes "#END\n")))) rest
+    ap (λ t. first_line Two ++ 10 ∷ t) (append_assoc settings (codes "\nat " ++ (number ++ (codes "\n" ++ (lines ++ codes "#END\n")))) rest
     ∙ ap (λ t. settings ++ 10 ∷ (codes "at " ++ t)) (append_assoc number (codes "\n" ++ (lines ++ codes "#END\n")) rest
     ∙ ap (λ t. number ++ 10 ∷ t) (append_assoc lines (codes "#END\n") rest)))
 
 chunk_is : (c : Configuration) (n : ℕ) (lines rest : List ℕ)
-    → chunk_text c n lines ++ rest ≡ first_line ++ 10 ∷ (settings_line c ++ 10 ∷ (at_line n ++ 10 ∷ (lines ++ (last_line ++ 10 ∷ rest))))
+    → chunk_text c n lines ++ rest ≡ first_line Two ++ 10 ∷ (settings_line c ++ 10 ∷ (at_line n ++ 10 ∷ (lines ++ (last_line ++ 10 ∷ rest))))
 unfolding chunk_text
 chunk_is c n lines rest = text_is (settings_line c) (decimal n) lines rest
 
@@ -78,8 +77,13 @@ ascii_text text h = is_utf8-from_IsUtf8 text (IsUtf8-from_ascii text h)
 pub plain : (text : List ℕ) → list_all is_low text ≡ true → is_utf8 text ≡ true
 plain text h = ascii_text text (ascii text h)
 
-first_utf8 : is_utf8 first_line ≡ true
-first_utf8 = plain first_line refl
+pub first_utf8 : (v : Version) → is_utf8 (first_line v) ≡ true
+first_utf8 One = plain (first_line One) refl
+first_utf8 Two = plain (first_line Two) refl
+
+pub version_again : (v : Version) → version.read (first_line v) ≡ Some v
+version_again One = refl
+version_again Two = refl
 
 at_utf8 : (n : ℕ) → n ≤ most → is_utf8 (at_line n) ≡ true
 at_utf8 n small = ascii_text (at_line n) (IsAscii-append (codes "at ") (decimal n) (ascii (codes "at ") refl) (IsAscii-decimal n (omega arith)))
@@ -90,45 +94,69 @@ place_is n small = ap (λ o. o >>= count.read) (key_again (codes "at ") (decimal
 same_self : (c : Configuration) → same_settings c c ≡ true
 same_self c = (settings_decided c c (same_settings c c) refl).1 refl
 
-known_is : (c : Configuration) (known : Option Configuration) → IsOf c known → known_by known c ≡ Ok c
-known_is c None h = refl
-known_is c (Some d) h =
-    ap (λ d. let r : Result Configuration CheckKind = known_by (Some d) c in r) h
-    ∙ ap (λ b. let r : Result Configuration CheckKind = if b then Ok c else Err OtherChannel in r) (same_self c)
-
 self : (n : ℕ) → (n == n) ≡ true
 self n = grind (arith, nat_tests)
 
 text_of : (line : List ℕ) → is_utf8 line ≡ true → text_in line ≡ Some line
 text_of line h = ap (λ b. let o : Option (List ℕ) = if b then Some line else None in o) h
 
-pub begun_is : (c : Configuration) (ch : Chain) (settings : List ℕ) → settings_in settings ≡ Ok c → is_utf8 settings ≡ true → length ch.events ≤ most → IsOf c ch.known
-    → begun ch (text_in first_line) (text_in settings) (text_in (at_line (length ch.events))) ≡ Ok c
-begun_is c ch settings read text few of =
+-- the first three lines of a chunk tell its format, its settings and its place
+pub begun_is : (before : Option Chain) (v : Version) (c : Configuration) (settings : List ℕ) (n : ℕ) → settings_in settings ≡ Ok c → is_utf8 settings ≡ true → n ≤ most
+    → begun before (text_in (first_line v)) (text_in settings) (text_in (at_line n)) ≡ joined_at before v c n
+begun_is before v c settings n read text few =
+    ap (λ o. begun before o (text_in settings) (text_in (at_line n))) (text_of (first_line v) (first_utf8 v))
+    ∙ ap (λ o. begun before (Some (first_line v)) o (text_in (at_line n))) (text_of settings text)
+    ∙ ap (begun before (Some (first_line v)) (Some settings)) (text_of (at_line n) (at_utf8 n few))
+    ∙ ap (λ o. begun_by before o (settings_in settings) (place_in (at_line n))) (version_again v)
+    ∙ ap (λ r. begun_by before (Some v) r (place_in (at_line n))) read
+    ∙ ap (begun_by before (Some v) (Ok c)) (place_is n few)
+
+-- a chunk at its beginning, of the channel of the chains so far, begins another
+pub another_is : (before : Option Chain) (v : Version) (c : Configuration) → is_channel before c ≡ true
+    → joined_at before v c 0 ≡ Ok (record { settings = c; version = v; earlier = entries before; events = [] })
+another_is before v c is =
+    ap (λ b. let r : Result Chain CheckKind = if b then Ok (record { settings = c; version = v; earlier = entries before; events = [] }) else Err OtherChannel in r) is
+
+not_first : (n : ℕ) → 1 ≤ n → (n == 0) ≡ false
+not_first n h = grind (arith, nat_tests, h)
+
+-- a chunk after the entries of a chain, of its settings and of no older format, goes on with it
+pub continued_is : (ch : Chain) (v : Version) (c : Configuration) → 1 ≤ length ch.events → is_older v ch.version ≡ false → ch.settings ≡ c
+    → joined_at (Some ch) v c (length ch.events) ≡ Ok (record { settings = c; version = v; earlier = ch.earlier; events = ch.events })
+continued_is ch v c some older is =
     let n = length ch.events in
-    ap (λ o. begun ch o (text_in settings) (text_in (at_line n))) (text_of first_line first_utf8)
-    ∙ ap (λ o. begun ch (Some first_line) o (text_in (at_line n))) (text_of settings text)
-    ∙ ap (begun ch (Some first_line) (Some settings)) (text_of (at_line n) (at_utf8 n few))
-    ∙ ap (λ r. begun_at ch r (place_in (at_line n))) read
-    ∙ ap (begun_at ch (Ok c)) (place_is n few)
-    ∙ ap (λ b. let r : Result Configuration CheckKind = if b then known_by ch.known c else Err Gap in r) (self n)
-    ∙ known_is c ch.known of
+    let at : Configuration → Chain = λ d. record { settings = d; version = v; earlier = ch.earlier; events = ch.events } in
+    let same : Configuration → Bool → Result Chain CheckKind = λ d b. if b then Ok (at d) else Err OtherChannel in
+    ap (λ b. let r : Result Chain CheckKind = if b then another (Some ch) v c else continued (Some ch) v c n in r) (not_first n some)
+    ∙ ap (λ b. let r : Result Chain CheckKind = if b then Err BadChunk else if not (n == n) then Err Gap else same ch.settings (same_settings ch.settings c) in r) older
+    ∙ ap (λ b. let r : Result Chain CheckKind = if not b then Err Gap else same ch.settings (same_settings ch.settings c) in r) (self n)
+    ∙ ap (λ d. same d (same_settings d c)) is
+    ∙ ap (same c) (same_self c)
 
 -- ---- the whole
 
-pub chunk : ChunkLaw
-chunk law c ch after lines rest within utf8 few led of =
-    let s = law c within in
-    let n = length ch.events in
+-- a chunk of lines that lead on, after its first three lines came to this
+whole : (before : Option Chain) (c : Configuration) (n earlier : ℕ) (events after : List Event) (lines : List ℕ) → limit_broken c ≡ None
+    → is_utf8 (settings_line c) ≡ true → n ≤ most → IsLed c events lines after → joined_at before Two c n ≡ Ok (chain_of c earlier events)
+    → IsChunkOf before (chunk_text c n lines) (chain_of c earlier after)
+whole before c n earlier events after lines within utf8 few led begin rest =
+    let s = settings_back c within in
     let end : List ℕ = last_line ++ 10 ∷ rest in
     let inner : List ℕ = lines ++ end in
     let third : List ℕ = at_line n ++ 10 ∷ inner in
     let second : List ℕ = settings_line c ++ 10 ∷ third in
-    let text : List ℕ = first_line ++ 10 ∷ second in
-    ap (λ t. checked_from Between ch (pieces_at 10 t)) (chunk_is c n lines rest)
-    ∙ header-is ch (pieces_at 10 text) first_line (settings_line c) (at_line n) inner (Ok c)
-    (three text second third first_line (settings_line c) (at_line n) inner
-    (cut-line first_line second refl) (cut-line (settings_line c) third s.1) (cut-line (at_line n) inner (at_one n few)))
-    (begun_is c ch (settings_line c) s.0 utf8 few of)
-    ∙ led end
-    ∙ one-line c after last_line rest true refl refl
+    let text : List ℕ = first_line Two ++ 10 ∷ second in
+    ap (λ t. checked_from (Between before) (pieces_at 10 t)) (chunk_is c n lines rest)
+    ∙ header-is before (pieces_at 10 text) (first_line Two) (settings_line c) (at_line n) inner (Ok (chain_of c earlier events))
+    (three text second third (first_line Two) (settings_line c) (at_line n) inner
+    (cut-line (first_line Two) second refl) (cut-line (settings_line c) third s.1) (cut-line (at_line n) inner (at_one n few)))
+    (begun_is before Two c (settings_line c) n s.0 utf8 few ∙ begin)
+    ∙ led earlier end
+    ∙ one-line (chain_of c earlier after) last_line rest true refl refl
+
+pub chunk : ChunkLaw
+chunk c ch after lines within utf8 few some led is =
+    whole (Some ch) c (length ch.events) ch.earlier ch.events after lines within utf8 few led (continued_is ch Two c some refl is)
+
+pub first-chunk : FirstChunkLaw
+first-chunk c before after lines within utf8 is led = whole before c 0 (entries before) [] after lines within utf8 (omega arith) led (another_is before Two c is)

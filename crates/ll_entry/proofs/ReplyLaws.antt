@@ -4,16 +4,18 @@ use Rattle.std.proofs.lemmas.Bool.{and_parts}
 use Rattle.std.proofs.lemmas.Slice.Eq.{bytes_eq-Decides}
 use Rattle.std.specs.List.{list_all}
 use Rattle.ll_attr.specs.Words.{after}
-use Rattle.ll_directive.specs.declared.want.Skip.{Skip}
-use Rattle.ll_directive.specs.declared.want.Skip.TheVariants.{No, Yes, V2}
-use Rattle.ll_format.specs.Format.{◌>>=◌, Word}
+use Rattle.ll_format.specs.Format.{Format, ◌>>=◌, Word, to_end, up_to}
 use Rattle.ll_format.specs.Words.{is_line_byte}
-use Rattle.ll_format.proofs.FormatLaws.{WordLaws, bind_some, some_is, lacks, inside_both, key_takes, key_again, one_of-laws}
+use Rattle.ll_format.proofs.FormatLaws.{FormatLaws, WordLaws, after_key-laws, beside-laws, bind_some, some_is, lacks, inside_both, key_takes, key_again, one_of-laws, to_end-laws, up_to-laws, whole-laws}
 use Rattle.ll_format.proofs.WordLaws.{number-laws, number-lacks, text_if-laws, lacks_from, inside_from}
 use Rattle.ll_item.specs.Names.{is_name, is_name_byte}
 use Rattle.ll_verdict.specs.declared.reply.Outcome.{Outcome}
 use Rattle.ll_verdict.specs.declared.reply.Outcome.TheVariants.{Text, NotFound, TooFar, Busy, Timeout}
-use Rattle.ll_entry.specs.Replies.{most, count, name, or_dash, or_dash_text, WithinDash, skip, skip_name, outcome, outcome_text, OutcomeWithin, or_held, or_held_text, HeldWithin}
+use Rattle.ll_item.specs.declared.skip_kind.SkipKind.{SkipKind}
+use Rattle.ll_item.specs.declared.skip_kind.SkipKind.TheVariants.{Yes, V2}
+use Rattle.ll_entry.specs.Replies.{most, count, count_alone, name, or_dash, or_dash_text, WithinDash, kind, kind_name, update, playlist, spaced, outcome, outcome_text, OutcomeWithin, or_held, or_held_text, HeldWithin}
+use Rattle.ll_entry.specs.declared.version.Version.{Version}
+use Rattle.ll_entry.specs.declared.version.Version.TheVariants.{One, Two}
 
 in_word : most < 2 ^ 64
 in_word = omega arith
@@ -88,97 +90,122 @@ or_dash-lacks (Some n) h = count-lacks n h.0
 
 -- ---- delta updates
 
-skip_found : (s : Skip) → skip.read (skip_name s) ≡ Some s
-skip_found No = refl
-skip_found Yes = refl
-skip_found V2 = refl
+kind_found : (k : SkipKind) → kind.read (kind_name k) ≡ Some k
+kind_found Yes = refl
+kind_found V2 = refl
 
-skip_inside : (s : Skip) → list_all is_line_byte (skip_name s) ≡ true
-skip_inside No = refl
-skip_inside Yes = refl
-skip_inside V2 = refl
+kind_inside : (k : SkipKind) → list_all is_line_byte (kind_name k) ≡ true
+kind_inside Yes = refl
+kind_inside V2 = refl
 
-pub skip-laws : WordLaws skip
-skip-laws = one_of-laws skip_name (No ∷ Yes ∷ V2 ∷ []) skip_found skip_inside
+pub update-laws : WordLaws update
+update-laws = or_dash-laws (one_of-laws kind_name (Yes ∷ V2 ∷ []) kind_found kind_inside)
 
-pub skip-lacks : (s : Skip) → lacks 32 (skip_name s) ≡ true
-skip-lacks No = refl
-skip-lacks Yes = refl
-skip-lacks V2 = refl
+pub update-lacks : (u : Option SkipKind) → lacks 32 (update.print u) ≡ true
+update-lacks None = refl
+update-lacks (Some Yes) = refl
+update-lacks (Some V2) = refl
+
+pub update-within : (u : Option SkipKind) → WithinDash kind u
+update-within None = tt
+update-within (Some Yes) = (tt, refl)
+update-within (Some V2) = (tt, refl)
+
+-- ---- playlists
+
+pub spaced-laws : {A B : Type 0} {f : Format A} {g : Format B} → FormatLaws f → FormatLaws g → FormatLaws (spaced f g)
+spaced-laws l m = beside-laws l (after_key-laws (codes " ") refl m)
+
+count_alone-laws : WordLaws count_alone
+count_alone-laws = record {
+  takes = λ text p e.
+      let a = bind_some (count.read text) (λ n. Some (n, None)) p e in
+      let t = count-laws.takes text a.0 a.1 in
+      subst (λ (p : ℕ × Option SkipKind). (text ≡ count.print p.0) × (count.Within p.0 × (p.1 ≡ None))) (some_is (a.0, None) p a.2) (t.0, (t.1, refl));
+  again = λ p h.
+      ap (λ r. r >>= λ n. Some (n, None)) (count-laws.again p.0 h.0) ∙ ap (λ u. Some (p.0, u)) (sym h.1);
+  inside = λ p h. count-laws.inside p.0 h.0;
+}
+
+playlist-laws : (v : Version) → WordLaws (playlist v)
+playlist-laws One = count_alone-laws
+playlist-laws Two = whole-laws (spaced-laws (up_to-laws 32 count-laws count-lacks) (to_end-laws update-laws)) (λ p. refl)
 
 -- ---- what a reply comes to
 
-abbrev IsTold : List ℕ → Outcome → Type 0
-IsTold text o = (text ≡ outcome_text o) × OutcomeWithin o
+abbrev IsTold : Version → List ℕ → Outcome → Type 0
+IsTold v text o = (text ≡ outcome_text v o) × OutcomeWithin v o
 
-is_told : (text key : List ℕ) (first : Outcome) (other : Option Outcome) (o : Outcome) → key ≡ outcome_text first → OutcomeWithin first
-    → (other ≡ Some o → IsTold text o) → (if bytes_eq text key then Some first else other) ≡ Some o → IsTold text o
-is_told text key first other o is within more e =
-    tested_by (IsTold text) (bytes_eq text key) first other o (λ same. ((bytes_eq-Decides text key).0 same ∙ is, within)) (λ none rest. more rest) e
+is_told : (v : Version) (text key : List ℕ) (first : Outcome) (other : Option Outcome) (o : Outcome) → key ≡ outcome_text v first → OutcomeWithin v first
+    → (other ≡ Some o → IsTold v text o) → (if bytes_eq text key then Some first else other) ≡ Some o → IsTold v text o
+is_told v text key first other o is within more e =
+    tested_by (IsTold v text) (bytes_eq text key) first other o (λ same. ((bytes_eq-Decides text key).0 same ∙ is, within)) (λ none rest. more rest) e
 
-text_told : (text : List ℕ) (o : Outcome) → (after (codes "text ") text >>= count.read >>= λ n. Some (Text n)) ≡ Some o → IsTold text o
-text_told text o e =
-    let b = bind_some (after (codes "text ") text >>= count.read) (λ n. Some (Text n)) o e in
-    let a = bind_some (after (codes "text ") text) count.read b.0 b.1 in
-    let t = count-laws.takes a.0 b.0 a.2 in
-    subst (IsTold text) (some_is (Text b.0) o b.2) (key_takes (codes "text ") text a.0 a.1 ∙ ap (λ t. codes "text " ++ t) t.0, t.1)
+text_told : (v : Version) (text : List ℕ) (o : Outcome) → (after (codes "text ") text >>= (playlist v).read >>= λ p. Some (Text p.0 p.1)) ≡ Some o
+    → IsTold v text o
+text_told v text o e =
+    let b = bind_some (after (codes "text ") text >>= (playlist v).read) (λ p. Some (Text p.0 p.1)) o e in
+    let a = bind_some (after (codes "text ") text) (playlist v).read b.0 b.1 in
+    let t = (playlist-laws v).takes a.0 b.0 a.2 in
+    subst (IsTold v text) (some_is (Text b.0.0 b.0.1) o b.2) (key_takes (codes "text ") text a.0 a.1 ∙ ap (λ t. codes "text " ++ t) t.0, t.1)
 
-outcome_again : (o : Outcome) → OutcomeWithin o → outcome.read (outcome_text o) ≡ Some o
-outcome_again (Text n) h =
-    ap (λ r. r >>= count.read >>= λ n. Some (Text n)) (key_again (codes "text ") (decimal n))
-    ∙ ap (λ r. r >>= λ n. Some (Text n)) (count-laws.again n h)
-outcome_again NotFound h = refl
-outcome_again TooFar h = refl
-outcome_again Busy h = refl
-outcome_again Timeout h = refl
+outcome_again : (v : Version) (o : Outcome) → OutcomeWithin v o → (outcome v).read (outcome_text v o) ≡ Some o
+outcome_again v (Text n u) h =
+    ap (λ r. r >>= (playlist v).read >>= λ p. Some (Text p.0 p.1)) (key_again (codes "text ") ((playlist v).print (n, u)))
+    ∙ ap (λ r. r >>= λ p. Some (Text p.0 p.1)) ((playlist-laws v).again (n, u) h)
+outcome_again v NotFound h = refl
+outcome_again v TooFar h = refl
+outcome_again v Busy h = refl
+outcome_again v Timeout h = refl
 
-outcome_inside : (o : Outcome) → OutcomeWithin o → list_all is_line_byte (outcome_text o) ≡ true
-outcome_inside (Text n) h = inside_both (codes "text ") (decimal n) refl (count-laws.inside n h)
-outcome_inside NotFound h = refl
-outcome_inside TooFar h = refl
-outcome_inside Busy h = refl
-outcome_inside Timeout h = refl
+outcome_inside : (v : Version) (o : Outcome) → OutcomeWithin v o → list_all is_line_byte (outcome_text v o) ≡ true
+outcome_inside v (Text n u) h = inside_both (codes "text ") ((playlist v).print (n, u)) refl ((playlist-laws v).inside (n, u) h)
+outcome_inside v NotFound h = refl
+outcome_inside v TooFar h = refl
+outcome_inside v Busy h = refl
+outcome_inside v Timeout h = refl
 
-pub outcome-laws : WordLaws outcome
-outcome-laws = record {
+pub outcome-laws : (v : Version) → WordLaws (outcome v)
+outcome-laws v = record {
   takes = λ text o e.
-      is_told text (codes "notfound") NotFound _ o refl tt
-      (is_told text (codes "bad TooFar") TooFar _ o refl tt
-      (is_told text (codes "busy") Busy _ o refl tt
-      (is_told text (codes "timeout") Timeout _ o refl tt (text_told text o)))) e;
-  again = λ o h. outcome_again o h;
-  inside = λ o h. outcome_inside o h;
+      is_told v text (codes "notfound") NotFound _ o refl tt
+      (is_told v text (codes "bad TooFar") TooFar _ o refl tt
+      (is_told v text (codes "busy") Busy _ o refl tt
+      (is_told v text (codes "timeout") Timeout _ o refl tt (text_told v text o)))) e;
+  again = λ o h. outcome_again v o h;
+  inside = λ o h. outcome_inside v o h;
 }
 
 -- ---- what a request got at once
 
-not_held : (o : Outcome) → bytes_eq (outcome_text o) (codes "held") ≡ false
-not_held (Text n) = refl
-not_held NotFound = refl
-not_held TooFar = refl
-not_held Busy = refl
-not_held Timeout = refl
+not_held : (v : Version) (o : Outcome) → bytes_eq (outcome_text v o) (codes "held") ≡ false
+not_held v (Text n u) = refl
+not_held v NotFound = refl
+not_held v TooFar = refl
+not_held v Busy = refl
+not_held v Timeout = refl
 
-held_takes : (text : List ℕ) (x : Option Outcome) → (outcome.read text >>= λ o. Some (Some o)) ≡ Some x → (text ≡ or_held_text x) × HeldWithin x
-held_takes text x e =
-    let a = bind_some (outcome.read text) (λ o. Some (Some o)) x e in
-    subst (λ x. (text ≡ or_held_text x) × HeldWithin x) (some_is (Some a.0) x a.2) (outcome-laws.takes text a.0 a.1)
+held_takes : (v : Version) (text : List ℕ) (x : Option Outcome) → ((outcome v).read text >>= λ o. Some (Some o)) ≡ Some x
+    → (text ≡ or_held_text v x) × HeldWithin v x
+held_takes v text x e =
+    let a = bind_some ((outcome v).read text) (λ o. Some (Some o)) x e in
+    subst (λ x. (text ≡ or_held_text v x) × HeldWithin v x) (some_is (Some a.0) x a.2) ((outcome-laws v).takes text a.0 a.1)
 
-held_again : (x : Option Outcome) → HeldWithin x → or_held.read (or_held_text x) ≡ Some x
-held_again None h = refl
-held_again (Some o) h =
-    ap (λ b. if b then Some None else (outcome.read (outcome_text o) >>= λ o. Some (Some o))) (not_held o)
-    ∙ ap (λ r. r >>= λ o. Some (Some o)) (outcome_again o h)
+held_again : (v : Version) (x : Option Outcome) → HeldWithin v x → (or_held v).read (or_held_text v x) ≡ Some x
+held_again v None h = refl
+held_again v (Some o) h =
+    ap (λ b. if b then Some None else ((outcome v).read (outcome_text v o) >>= λ o. Some (Some o))) (not_held v o)
+    ∙ ap (λ r. r >>= λ o. Some (Some o)) (outcome_again v o h)
 
-held_inside : (x : Option Outcome) → HeldWithin x → list_all is_line_byte (or_held_text x) ≡ true
-held_inside None h = refl
-held_inside (Some o) h = outcome_inside o h
+held_inside : (v : Version) (x : Option Outcome) → HeldWithin v x → list_all is_line_byte (or_held_text v x) ≡ true
+held_inside v None h = refl
+held_inside v (Some o) h = outcome_inside v o h
 
-pub or_held-laws : WordLaws or_held
-or_held-laws = record {
+pub or_held-laws : (v : Version) → WordLaws (or_held v)
+or_held-laws v = record {
   takes = λ text x e.
-      tested_by (λ x. (text ≡ or_held_text x) × HeldWithin x) (bytes_eq text (codes "held")) None (outcome.read text >>= λ o. Some (Some o)) x
-      (λ is. ((bytes_eq-Decides text (codes "held")).0 is, tt)) (λ none rest. held_takes text x rest) e;
-  again = λ x h. held_again x h;
-  inside = λ x h. held_inside x h;
+      tested_by (λ x. (text ≡ or_held_text v x) × HeldWithin v x) (bytes_eq text (codes "held")) None ((outcome v).read text >>= λ o. Some (Some o)) x
+      (λ is. ((bytes_eq-Decides text (codes "held")).0 is, tt)) (λ none rest. held_takes v text x rest) e;
+  again = λ x h. held_again v x h;
+  inside = λ x h. held_inside v x h;
 }

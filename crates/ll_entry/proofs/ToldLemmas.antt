@@ -1,14 +1,20 @@
--- An entry in which nothing is wrong after some events is the one of its event; and in the entry of an event nothing is wrong.
-use Rattle.std.proofs.Common.{◌≡◌, ℕ, ◌+◌, ◌^◌, ◌==◌, ◌&&◌, ◌||◌, List, [], ◌∷◌, ◌++◌, Bool, true, false, not, cond, Option, Some, None, is_none, is_some, refl, ap, ◌∙◌, sym, length, map, find, nat_le, option_and_then, option_map, subst, suc, arith}
+-- An entry in which nothing is wrong after some events is the one of its event, as its format tells it; and in the entry of an event, as a
+-- format tells it, nothing is wrong.
+use Rattle.std.proofs.Common.{◌≡◌, ℕ, ◌+◌, ◌^◌, ◌==◌, ◌&&◌, ◌||◌, List, [], ◌∷◌, ◌++◌, Bool, true, false, not, cond, Option, Some, None, is_none, is_some, refl, ap, ap₂, ◌∙◌, sym, length, map, find, nat_le, option_and_then, option_map, subst, suc, arith}
 use Rattle.std.proofs.lemmas.Bool.{and_parts, not-true}
 use Rattle.std.proofs.lemmas.Bool.Decides.{nat_tests}
 use Rattle.std.specs.List.{list_any}
 use Rattle.ll_verdict.specs.Waiting.{has_ticket, reply_at}
-use Rattle.ll_entry.specs.Entered.{event_of, fault_in, is_open_after, same_answer, same_outcome, settled_after, unless_refused, where_it_can}
+use Rattle.ll_entry.specs.Entered.{event_of, fault_in, is_open_after, same_answer, same_outcome, same_update, settled_after, unless_refused, where_it_can}
+use Rattle.ll_entry.specs.Replies.{told_in}
 use Rattle.ll_directive.specs.Targets.{WantValue}
 use Rattle.ll_entry.specs.declared.entry.Recorded.{Recorded}
 use Rattle.ll_entry.specs.declared.entry.Recorded.TheVariants as recorded
+use Rattle.ll_entry.specs.declared.version.Version.{Version}
+use Rattle.ll_entry.specs.declared.version.Version.TheVariants.{Two}
 use Rattle.ll_item.specs.Settings.{Configuration}
+use Rattle.ll_item.specs.declared.skip_kind.SkipKind.{SkipKind}
+use Rattle.ll_item.specs.declared.skip_kind.SkipKind.TheVariants.{Yes, V2}
 use Rattle.ll_verdict.proofs.WaitingLemmas.{open-ready}
 use Rattle.ll_verdict.specs.Full.{is_full, refusal_after}
 use Rattle.ll_verdict.specs.Events.{Event, Publish, Ask, Collect, Close, Clock, asks, steps_from}
@@ -18,14 +24,22 @@ use Rattle.ll_verdict.specs.Verdict.{Request, at_once, held, reply, reply_of}
 use Rattle.ll_rendition.specs.declared.fault.PublishFault.{PublishFault}
 use Rattle.ll_verdict.specs.declared.reply.Outcome.{Outcome}
 use Rattle.ll_verdict.specs.declared.reply.Outcome.TheVariants.{Text, NotFound, TooFar, Busy, Timeout}
+use Rattle.ll_verdict.specs.declared.reply.Reply.{Reply}
 use Rattle.ll_verdict.specs.declared.reply.Settled.{Settled}
-use Rattle.ll_entry.specs.Told.{entry_after, outcome_of_reply}
+use Rattle.ll_entry.specs.Told.{as_told, entry_after, outcome_of_reply}
 
 same_number : (m n : ℕ) → (m == n) ≡ true → m ≡ n
 same_number m n h = grind (arith, nat_tests)
 
+same_updates : (a b : Option SkipKind) → same_update a b ≡ true → a ≡ b
+same_updates None None h = refl
+same_updates (Some Yes) (Some Yes) h = refl
+same_updates (Some V2) (Some V2) h = refl
+same_updates a b h = cc
+
 same_outcomes : (a b : Outcome) → same_outcome a b ≡ true → a ≡ b
-same_outcomes (Text m) (Text n) h = ap Text (same_number m n h)
+same_outcomes (Text m u) (Text n v) h =
+    let p = and_parts (m == n) (same_update u v) h in ap₂ Text (same_number m n p.0) (same_updates u v p.1)
 same_outcomes NotFound NotFound h = refl
 same_outcomes TooFar TooFar h = refl
 same_outcomes Busy Busy h = refl
@@ -74,8 +88,13 @@ right can same a b = ap (λ x. where_it_can x same) a ∙ ap (λ x. where_it_can
 pub own : (n : ℕ) → (n == n) ≡ true
 own n = grind (arith, nat_tests)
 
+same-update : (u : Option SkipKind) → same_update u u ≡ true
+same-update None = refl
+same-update (Some Yes) = refl
+same-update (Some V2) = refl
+
 same-outcome : (o : Outcome) → same_outcome o o ≡ true
-same-outcome (Text n) = own n
+same-outcome (Text n u) = ap₂ (λ a b. a && b) (own n) (same-update u)
 same-outcome NotFound = refl
 same-outcome TooFar = refl
 same-outcome Busy = refl
@@ -127,59 +146,111 @@ settled-is c before ask =
 open-is : (c : Configuration) (before : List Event) (ask : ℕ) → is_open_after c before ask ≡ list_any (λ (r : Request). r.ticket == ask) (open_requests c before)
 open-is c before ask = any-map (slot_of c before) (has_ticket ask) (open_requests c before)
 
+-- ---- what a format tells
+
+told_at_once : (v : Version) (o : Option Reply) → option_map (told_in v) (option_map outcome_of o) ≡ option_map (λ r. told_in v (outcome_of r)) o
+told_at_once v None = refl
+told_at_once v (Some r) = refl
+
+told_unless : (v : Version) (full : Bool) (e : Recorded) → option_map (as_told v) (cond full None (Some e)) ≡ cond full None (Some (as_told v e))
+told_unless v true e = refl
+told_unless v false e = refl
+
+told_out : (v : Version) (ask : ℕ) (o : Option Outcome) → option_map (as_told v) (option_map (recorded.Collect ask) o) ≡ option_map (recorded.Collect ask) (option_map (told_in v) o)
+told_out v ask None = refl
+told_out v ask (Some reply) = refl
+
+-- format 2 tells all of it
+pub whole-outcome : (o : Outcome) → told_in Two o ≡ o
+whole-outcome (Text n u) = refl
+whole-outcome NotFound = refl
+whole-outcome TooFar = refl
+whole-outcome Busy = refl
+whole-outcome Timeout = refl
+
+pub whole-answer : (o : Option Outcome) → option_map (told_in Two) o ≡ o
+whole-answer None = refl
+whole-answer (Some o) = ap Some (whole-outcome o)
+
+pub whole-entry : (e : Recorded) → as_told Two e ≡ e
+whole-entry (recorded.Publish item) = refl
+whole-entry (recorded.Ask ask want reply) = ap (recorded.Ask ask want) (whole-answer reply)
+whole-entry (recorded.Clock ms) = refl
+whole-entry (recorded.Collect ask reply) = ap (recorded.Collect ask) (whole-outcome reply)
+whole-entry (recorded.Close ask) = refl
+
 -- ---- the whole
 
 pub steps-many : (before events : List Event) → length (steps_from before events) ≡ length events
 steps-many before [] = refl
 steps-many before (e ∷ events) = ap suc (steps-many (before ++ e ∷ []) events)
 
-pub right-told : (c : Configuration) (before : List Event) (entry : Recorded) → fault_in c before entry ≡ None → entry_after c before (event_of entry) ≡ Some entry
-right-told c before (recorded.Publish item) h = free (refusal_after c before item) (Some (recorded.Publish item)) h
-right-told c before (recorded.Ask ask want reply) h =
-    ask-told c before ask (asks before + 1) want reply (option_map outcome_of (at_once c (held c before) before want)) (is_full (length before)) h
-right-told c before (recorded.Clock ms) h = clock-told ms (nat_le ms (2 ^ 60)) (is_full (length before)) h
-right-told c before (recorded.Collect ask reply) h =
-    ap (option_map (recorded.Collect ask))
-    (sym (settled-is c before ask)
-    ∙ sym (same_answers (Some reply) (settled_after c before ask) (both (is_open_after c before ask) (same_answer (Some reply) (settled_after c before ask)) h).1))
-right-told c before (recorded.Close ask) h =
-    ap (λ b. cond b (Some (recorded.Close ask)) None) (sym (open-is c before ask) ∙ (both (is_open_after c before ask) true h).0)
+pub right-told : (v : Version) (c : Configuration) (before : List Event) (entry : Recorded) → fault_in v c before entry ≡ None
+    → option_map (as_told v) (entry_after c before (event_of entry)) ≡ Some entry
+right-told v c before (recorded.Publish item) h = ap (option_map (as_told v)) (free (refusal_after c before item) (Some (recorded.Publish item)) h)
+right-told v c before (recorded.Ask ask want reply) h =
+    let now = at_once c (held c before) before want in
+    let full = is_full (length before) in
+    let n = asks before + 1 in
+    told_unless v full (recorded.Ask n want (option_map outcome_of now))
+    ∙ ap (λ o. cond full None (Some (recorded.Ask n want o))) (told_at_once v now)
+    ∙ ask-told c before ask n want reply (option_map (λ r. told_in v (outcome_of r)) now) full h
+right-told v c before (recorded.Clock ms) h = ap (option_map (as_told v)) (clock-told ms (nat_le ms (2 ^ 60)) (is_full (length before)) h)
+right-told v c before (recorded.Collect ask reply) h =
+    let now = option_map (told_in v) (settled_after c before ask) in
+    told_out v ask (outcome_of_reply c before ask)
+    ∙ ap (λ o. option_map (recorded.Collect ask) (option_map (told_in v) o)) (sym (settled-is c before ask))
+    ∙ ap (option_map (recorded.Collect ask)) (sym (same_answers (Some reply) now (both (is_open_after c before ask) (same_answer (Some reply) now) h).1))
+right-told v c before (recorded.Close ask) h =
+    ap (λ b. option_map (as_told v) (cond b (Some (recorded.Close ask)) None)) (sym (open-is c before ask) ∙ (both (is_open_after c before ask) true h).0)
 
-abbrev IsRight : Configuration → List Event → Event → Recorded → Type 0
-IsRight c before e entry = (fault_in c before entry ≡ None) × (event_of entry ≡ e)
+whole_is : (o : Option Recorded) (entry : Recorded) → option_map (as_told Two) o ≡ Some entry → o ≡ Some entry
+whole_is None entry h = cc
+whole_is (Some e) entry h = ap Some (sym (whole-entry e)) ∙ h
+
+-- an entry in which nothing is wrong in format 2 is the one of its event
+pub right-whole : (c : Configuration) (before : List Event) (entry : Recorded) → fault_in Two c before entry ≡ None → entry_after c before (event_of entry) ≡ Some entry
+right-whole c before entry h = whole_is (entry_after c before (event_of entry)) entry (right-told Two c before entry h)
+
+abbrev IsRight : Version → Configuration → List Event → Event → Recorded → Type 0
+IsRight v c before e entry = (fault_in v c before entry ≡ None) × (event_of entry ≡ e)
 
 pub answered : (o : Option Settled) (reply : Outcome) → option_map (λ (s : Settled). outcome_of (reply_of s)) o ≡ Some reply → is_some o ≡ true
 answered None reply h = cc
 answered (Some s) reply h = refl
 
-pub told-right : (c : Configuration) (before : List Event) (e : Event) (entry : Recorded) → entry_after c before e ≡ Some entry → IsRight c before e entry
-told-right c before (Publish item) entry h =
+pub told-right : (v : Version) (c : Configuration) (before : List Event) (e : Event) (entry : Recorded) → entry_after c before e ≡ Some entry
+    → IsRight v c before e (as_told v entry)
+told-right v c before (Publish item) entry h =
     let p = where_it_is (is_none (refusal_after c before item)) (recorded.Publish item) entry h in
-    subst (IsRight c before (Publish item)) p.1 (ap unless_refused (none_is (refusal_after c before item) p.0), refl)
-told-right c before (Ask want) entry h =
-    let answer = option_map outcome_of (at_once c (held c before) before want) in
-    let x : Recorded = recorded.Ask (asks before + 1) want answer in
+    subst (λ x. IsRight v c before (Publish item) (as_told v x)) p.1 (ap unless_refused (none_is (refusal_after c before item) p.0), refl)
+told-right v c before (Ask want) entry h =
+    let now = at_once c (held c before) before want in
+    let answer = option_map (told_in v) (option_map outcome_of now) in
+    let x : Recorded = recorded.Ask (asks before + 1) want (option_map outcome_of now) in
     let p = where_not_full (is_full (length before)) (Some x) entry h in
     let is : x ≡ entry = cc (p.1) in
-    subst (IsRight c before (Ask want)) is (
-      right (asks before + 1 == asks before + 1 && not (is_full (length before))) (same_answer answer answer)
-          (ap (λ b. b && not (is_full (length before))) (own (asks before + 1)) ∙ ap not p.0) (same-answer answer),
+    subst (λ x. IsRight v c before (Ask want) (as_told v x)) is (
+      right (asks before + 1 == asks before + 1 && not (is_full (length before))) (same_answer answer (option_map (λ r. told_in v (outcome_of r)) now))
+          (ap (λ b. b && not (is_full (length before))) (own (asks before + 1)) ∙ ap not p.0)
+          (ap (same_answer answer) (sym (told_at_once v now)) ∙ same-answer answer),
       refl,
     )
-told-right c before (Clock ms) entry h =
+told-right v c before (Clock ms) entry h =
     let p = where_not_full (is_full (length before)) (cond (nat_le ms (2 ^ 60)) (Some (recorded.Clock ms)) None) entry h in
     let q = where_it_is (nat_le ms (2 ^ 60)) (recorded.Clock ms) entry p.1 in
-    subst (IsRight c before (Clock ms)) q.1
+    subst (λ x. IsRight v c before (Clock ms) (as_told v x)) q.1
     (right (nat_le ms (2 ^ 60) && not (is_full (length before))) true (ap (λ b. b && not (is_full (length before))) q.0 ∙ ap not p.0) refl, refl)
-told-right c before (Collect ask) entry h =
+told-right v c before (Collect ask) entry h =
     let p = handed_out ask (outcome_of_reply c before ask) entry h in
     let is = settled-is c before ask ∙ p.1 in
-    subst (IsRight c before (Collect ask)) p.2 (
-      right (is_open_after c before ask) (same_answer (Some p.0) (settled_after c before ask))
+    let told = told_in v p.0 in
+    subst (λ x. IsRight v c before (Collect ask) (as_told v x)) p.2 (
+      right (is_open_after c before ask) (same_answer (Some told) (option_map (told_in v) (settled_after c before ask)))
           (open-ready ask (state_of c before).slots (answered (reply_at ask (state_of c before).slots) p.0 is))
-          (ap (same_answer (Some p.0)) is ∙ same-answer (Some p.0)),
+          (ap (λ o. same_answer (Some told) (option_map (told_in v) o)) is ∙ same-answer (Some told)),
       refl,
     )
-told-right c before (Close ask) entry h =
+told-right v c before (Close ask) entry h =
     let p = where_it_is (list_any (λ (r : Request). r.ticket == ask) (open_requests c before)) (recorded.Close ask) entry h in
-    subst (IsRight c before (Close ask)) p.1 (right (is_open_after c before ask) true (open-is c before ask ∙ p.0) refl, refl)
+    subst (λ x. IsRight v c before (Close ask) (as_told v x)) p.1 (right (is_open_after c before ask) true (open-is c before ask ∙ p.0) refl, refl)

@@ -1,10 +1,14 @@
--- Whether an entry of a record is right after some events of its channel.
+-- Whether an entry of a record in this format is right after some events of its channel.
 use Rattle.std.specs.Prelude.{ℕ, ◌+◌, ◌^◌, ◌==◌, ◌&&◌, List, Bool, true, false, not, Option, Some, None, length, nat_le, option_map, if◌then◌else◌}
 use Rattle.std.specs.List.{list_any}
 use Rattle.ll_verdict.specs.Waiting.{has_ticket, reply_at}
 use Rattle.ll_entry.specs.declared.entry.Recorded.{Recorded}
 use Rattle.ll_entry.specs.declared.entry.Recorded.TheVariants as recorded
 use Rattle.ll_item.specs.Settings.{Configuration}
+use Rattle.ll_item.specs.declared.skip_kind.SkipKind.{SkipKind}
+use Rattle.ll_item.specs.declared.skip_kind.SkipKind.TheVariants.{Yes, V2}
+use Rattle.ll_entry.specs.Replies.{told_in}
+use Rattle.ll_entry.specs.declared.version.Version.{Version}
 use Rattle.ll_verdict.specs.Full.{is_full, refusal_after}
 use Rattle.ll_verdict.specs.Events.{Event, Publish, Ask, Clock, Collect, Close, asks}
 use Rattle.ll_verdict.specs.Outcome.{outcome_of}
@@ -25,8 +29,14 @@ event_of (recorded.Clock ms) = Clock ms
 event_of (recorded.Collect ask reply) = Collect ask
 event_of (recorded.Close ask) = Close ask
 
+abbrev pub same_update : Option SkipKind → Option SkipKind → Bool
+same_update None None = true
+same_update (Some Yes) (Some Yes) = true
+same_update (Some V2) (Some V2) = true
+same_update a b = false
+
 abbrev pub same_outcome : Outcome → Outcome → Bool
-same_outcome (Text a) (Text b) = a == b
+same_outcome (Text a update) (Text b other) = a == b && same_update update other
 same_outcome NotFound NotFound = true
 same_outcome TooFar TooFar = true
 same_outcome Busy Busy = true
@@ -57,12 +67,12 @@ where_it_can can right = if can then (if right then None else Some WrongReply) e
 
 -- What is wrong with an entry after these events of its channel, or none. An item is right where no rule refuses it; a request where its
 -- number is the next, and it gets at once what it should or waits; a reading up to 2^60 milliseconds; a reply that is handed out where
--- its request is open and has just this reply; a request that is given up where it is open. A channel that has taken as many events as
--- it takes refuses items, requests and readings.
-abbrev pub fault_in : Configuration → List Event → Recorded → Option CheckKind
-fault_in c events (recorded.Publish item) = unless_refused (refusal_after c events item)
-fault_in c events (recorded.Ask ask want reply) =
-    where_it_can (ask == asks events + 1 && not (is_full (length events))) (same_answer reply (option_map outcome_of (at_once c (held c events) events want)))
-fault_in c events (recorded.Clock ms) = where_it_can (nat_le ms (2 ^ 60) && not (is_full (length events))) true
-fault_in c events (recorded.Collect ask reply) = where_it_can (is_open_after c events ask) (same_answer (Some reply) (settled_after c events ask))
-fault_in c events (recorded.Close ask) = where_it_can (is_open_after c events ask) true
+-- its request is open and has just this reply; a request that is given up where it is open. Of a reply counts what the format tells of it.
+-- A channel that has taken as many events as it takes refuses items, requests and readings.
+abbrev pub fault_in : Version → Configuration → List Event → Recorded → Option CheckKind
+fault_in version c events (recorded.Publish item) = unless_refused (refusal_after c events item)
+fault_in version c events (recorded.Ask ask want reply) =
+    where_it_can (ask == asks events + 1 && not (is_full (length events))) (same_answer reply (option_map (λ r. told_in version (outcome_of r)) (at_once c (held c events) events want)))
+fault_in version c events (recorded.Clock ms) = where_it_can (nat_le ms (2 ^ 60) && not (is_full (length events))) true
+fault_in version c events (recorded.Collect ask reply) = where_it_can (is_open_after c events ask) (same_answer (Some reply) (option_map (told_in version) (settled_after c events ask)))
+fault_in version c events (recorded.Close ask) = where_it_can (is_open_after c events ask) true

@@ -2,23 +2,27 @@
 use Rattle.std.specs.Prelude.{◌≡◌, ℕ, ◌≤◌, List, [], ◌∷◌, ◌++◌, true, false, Option, Some, None, Ok, length, bytes_eq, codes, decimal}
 use Rattle.std.specs.Str.{is_utf8}
 use Rattle.ll_attr.specs.Words.{pieces_at}
-use Rattle.ll_entry.specs.Chain.{Between, Chain, Inside, chain_of, checked_from, with_line}
+use Rattle.ll_entry.specs.Chain.{Between, Chain, Inside, checked_from, entries, is_channel, with_line}
 use Rattle.ll_entry.specs.Entered.{event_of, fault_in}
-use Rattle.ll_entry.specs.Laws.{EntryLaw}
 use Rattle.ll_entry.specs.Lines.{IsSpelled, entry_line}
 use Rattle.ll_entry.specs.Replies.{most}
+use Rattle.ll_entry.specs.Versions.{first_line, last_line}
+use Rattle.ll_entry.specs.declared.version.Version.TheVariants.{Two}
 use Rattle.ll_entry.specs.declared.entry.Recorded.{Recorded}
 use Rattle.ll_format.specs.Words.{is_one_line}
 use Rattle.ll_item.specs.Settings.{Configuration, limit_broken}
-use Rattle.ll_entry.specs.ItemLaws.{SettingsLaw}
 use Rattle.ll_entry.specs.ItemLines.{settings_line}
 use Rattle.ll_verdict.specs.Events.{Event}
+
+-- a chain of this channel in the format that is written, after so many entries of earlier chains
+abbrev pub chain_of : Configuration → ℕ → List Event → Chain
+chain_of c earlier events = record { settings = c; version = Two; earlier = earlier; events = events }
 
 -- Lines of entries, each with its end, lead from these events of a channel to those: whatever follows them, a check comes to the
 -- same with them after the first events as without them after the others.
 abbrev pub IsLed : Configuration → List Event → List ℕ → List Event → Type 0
 IsLed c before lines after =
-    (rest : List ℕ) → checked_from (Inside c) (chain_of c before) (pieces_at 10 (lines ++ rest)) ≡ checked_from (Inside c) (chain_of c after) (pieces_at 10 rest)
+    (earlier : ℕ) (rest : List ℕ) → checked_from (Inside (chain_of c earlier before)) (pieces_at 10 (lines ++ rest)) ≡ checked_from (Inside (chain_of c earlier after)) (pieces_at 10 rest)
 
 -- a line with its end
 abbrev pub with_end : List ℕ → List ℕ
@@ -31,27 +35,32 @@ NothingLaw = (c : Configuration) (events : List Event) → IsLed c events [] eve
 -- one more line, where it is right after the events so far
 abbrev pub NextLaw : Type 0
 NextLaw = (c : Configuration) (before after more : List Event) (lines line : List ℕ) → IsLed c before lines after
-    → is_one_line line ≡ true → is_utf8 line ≡ true → bytes_eq line (codes "#END") ≡ false → with_line c after line ≡ Ok more
+    → is_one_line line ≡ true → is_utf8 line ≡ true → bytes_eq line last_line ≡ false → ((earlier : ℕ) → with_line (chain_of c earlier after) line ≡ Ok (chain_of c earlier more))
     → IsLed c before (lines ++ with_end line) more
 
 -- one more entry, where it is right after the events so far
 abbrev pub EntryNextLaw : Type 0
-EntryNextLaw = EntryLaw → (c : Configuration) (before after : List Event) (lines : List ℕ) (entry : Recorded) → limit_broken c ≡ None
-    → IsSpelled c entry → is_utf8 (entry_line c entry) ≡ true → fault_in c after entry ≡ None → IsLed c before lines after
+EntryNextLaw = (c : Configuration) (before after : List Event) (lines : List ℕ) (entry : Recorded) → limit_broken c ≡ None
+    → IsSpelled c entry → is_utf8 (entry_line c entry) ≡ true → fault_in Two c after entry ≡ None → IsLed c before lines after
     → IsLed c before (lines ++ with_end (entry_line c entry)) (after ++ event_of entry ∷ [])
 
 -- the chunk of these lines of entries, with so many entries before it
 unfoldable pub chunk_text : Configuration → ℕ → List ℕ → List ℕ
 chunk_text c at lines =
-    codes "#LLHLS-CHUNK 1\n" ++ (settings_line c ++ (codes "\nat " ++ (decimal at ++ (codes "\n" ++ (lines ++ codes "#END\n")))))
+    first_line Two ++ (codes "\n" ++ (settings_line c ++ (codes "\nat " ++ (decimal at ++ (codes "\n" ++ (lines ++ (last_line ++ codes "\n")))))))
 
--- a chain that has begun with these settings, or not at all
-abbrev pub IsOf : Configuration → Option Configuration → Type 0
-IsOf c None = Unit
-IsOf c (Some known) = known ≡ c
+-- A chunk leads from these chains to that one: whatever follows it, a check comes to the same with it as without it after that chain.
+abbrev pub IsChunkOf : Option Chain → List ℕ → Chain → Type 0
+IsChunkOf before text ch = (rest : List ℕ) → checked_from (Between before) (pieces_at 10 (text ++ rest)) ≡ checked_from (Between (Some ch)) (pieces_at 10 rest)
 
 -- A chunk that goes on with a chain is right, and the chain has its entries then.
 abbrev pub ChunkLaw : Type 0
-ChunkLaw = SettingsLaw → (c : Configuration) (ch : Chain) (after : List Event) (lines rest : List ℕ) → limit_broken c ≡ None
-    → is_utf8 (settings_line c) ≡ true → length ch.events ≤ most → IsLed c ch.events lines after → IsOf c ch.known
-    → checked_from Between ch (pieces_at 10 (chunk_text c (length ch.events) lines ++ rest)) ≡ checked_from Between (chain_of c after) (pieces_at 10 rest)
+ChunkLaw = (c : Configuration) (ch : Chain) (after : List Event) (lines : List ℕ) → limit_broken c ≡ None
+    → is_utf8 (settings_line c) ≡ true → length ch.events ≤ most → 1 ≤ length ch.events → IsLed c ch.events lines after → ch.settings ≡ c
+    → IsChunkOf (Some ch) (chunk_text c (length ch.events) lines) (chain_of c ch.earlier after)
+
+-- A chunk with no entries before it begins another chain of its channel, whatever chains stand before it.
+abbrev pub FirstChunkLaw : Type 0
+FirstChunkLaw = (c : Configuration) (before : Option Chain) (after : List Event) (lines : List ℕ) → limit_broken c ≡ None
+    → is_utf8 (settings_line c) ≡ true → is_channel before c ≡ true → IsLed c [] lines after
+    → IsChunkOf before (chunk_text c 0 lines) (chain_of c (entries before) after)

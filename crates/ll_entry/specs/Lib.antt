@@ -8,4 +8,5 @@ pub mod Leads
 pub mod Lines
 pub mod Replies
 pub mod Told
+pub mod Versions
 pub mod Writable

@@ -1,17 +1,20 @@
--- How the entries of a record are spelled.
+-- How the entries of a record are spelled, in the format that is written.
 use Rattle.std.specs.Prelude.{◌≡◌, ◌≤◌, ℕ, List, ◌++◌, true, Option, Some, None, codes, decimal}
 use Rattle.ll_directive.specs.Targets.{WantValue}
 use Rattle.ll_directive.specs.declared.want.Awaited.{Awaited}
 use Rattle.ll_directive.specs.declared.want.Awaited.TheVariants.{Nothing, Segment, Part}
-use Rattle.ll_directive.specs.declared.want.Skip.{Skip}
 use Rattle.ll_item.specs.Names.{is_name}
 use Rattle.ll_item.specs.Settings.{Configuration}
+use Rattle.ll_item.specs.declared.item.Item.{Item}
+use Rattle.ll_item.specs.declared.item.Item.TheVariants as item
+use Rattle.ll_item.specs.declared.skip_kind.SkipKind.{SkipKind}
 use Rattle.ll_entry.specs.ItemLines.{IsWritable, item_line}
 use Rattle.ll_verdict.specs.declared.reply.Outcome.{Outcome}
 use Rattle.ll_entry.specs.Entries.{ask_fields, collect_fields}
 use Rattle.ll_entry.specs.Replies.{HeldWithin, OutcomeWithin, most}
 use Rattle.ll_entry.specs.declared.entry.Recorded.{Recorded}
 use Rattle.ll_entry.specs.declared.entry.Recorded.TheVariants.{Publish, Ask, Clock, Collect, Close}
+use Rattle.ll_entry.specs.declared.version.Version.TheVariants.{Two}
 
 abbrev pub msn_of : Awaited → Option ℕ
 msn_of Nothing = None
@@ -24,15 +27,23 @@ part_of (Segment msn) = None
 part_of (Part msn part) = Some part
 
 -- what the line of a request tells
-abbrev pub ask_values : ℕ → WantValue → Option Outcome → ℕ × (List ℕ × (Option ℕ × (Option ℕ × (Skip × Option Outcome))))
+abbrev pub ask_values : ℕ → WantValue → Option Outcome → ℕ × (List ℕ × (Option ℕ × (Option ℕ × (Option SkipKind × Option Outcome))))
 ask_values ask want reply = (ask, (want.rendition, (msn_of want.awaited, (part_of want.awaited, (want.skip, reply)))))
+
+-- the line of an item: the length of its media stands after that of a part, and there is none
+abbrev pub published_line : Configuration → Item → List ℕ
+published_line c (item.Part rendition duration independent finish) = item_line c (item.Part rendition duration independent finish) ++ codes " 0"
+published_line c (item.Break rendition) = item_line c (item.Break rendition)
+published_line c (item.Range rendition id attributes) = item_line c (item.Range rendition id attributes)
+published_line c (item.Unrange rendition id) = item_line c (item.Unrange rendition id)
+published_line c (item.End rendition) = item_line c (item.End rendition)
 
 -- the line that spells an entry of the record of a channel
 abbrev pub entry_line : Configuration → Recorded → List ℕ
-entry_line c (Publish item) = codes "P " ++ item_line c item
-entry_line c (Ask ask want reply) = codes "A " ++ ask_fields.print (ask_values ask want reply)
+entry_line c (Publish item) = codes "P " ++ published_line c item
+entry_line c (Ask ask want reply) = codes "A " ++ (ask_fields Two).print (ask_values ask want reply)
 entry_line c (Clock ms) = codes "C " ++ decimal ms
-entry_line c (Collect ask reply) = codes "G " ++ collect_fields.print (ask, reply)
+entry_line c (Collect ask reply) = codes "G " ++ (collect_fields Two).print (ask, reply)
 entry_line c (Close ask) = codes "X " ++ decimal ask
 
 abbrev pub AwaitedWithin : Awaited → Type 0
@@ -43,7 +54,7 @@ AwaitedWithin (Part msn part) = (msn ≤ most) × (part ≤ most)
 -- which entries are spelled so that they are read again: the numbers are below 2^64, and the names are names
 abbrev pub IsSpelled : Configuration → Recorded → Type 0
 IsSpelled c (Publish item) = IsWritable c item
-IsSpelled c (Ask ask want reply) = (ask ≤ most) × (want.channel ≡ c.channel) × (is_name want.rendition ≡ true) × AwaitedWithin want.awaited × HeldWithin reply
+IsSpelled c (Ask ask want reply) = (ask ≤ most) × (want.channel ≡ c.channel) × (is_name want.rendition ≡ true) × AwaitedWithin want.awaited × HeldWithin Two reply
 IsSpelled c (Clock ms) = ms ≤ most
-IsSpelled c (Collect ask reply) = (ask ≤ most) × OutcomeWithin reply
+IsSpelled c (Collect ask reply) = (ask ≤ most) × OutcomeWithin Two reply
 IsSpelled c (Close ask) = ask ≤ most

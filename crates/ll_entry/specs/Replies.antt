@@ -1,13 +1,15 @@
--- How a record tells what a reply comes to, and what a request asks for.
-use Rattle.std.specs.Prelude.{◌≡◌, ℕ, List, [], ◌∷◌, ◌++◌, false, Option, Some, None, bytes_eq, codes, decimal, if◌then◌else◌}
+-- How a record tells what a reply comes to, and what a request asks for, in each format.
+use Rattle.std.specs.Prelude.{◌≡◌, ℕ, List, [], ◌∷◌, ◌++◌, false, Option, Some, None, bytes_eq, codes, decimal, if◌then◌else◌, option_map}
 use Rattle.ll_attr.specs.Words.{after}
 use Rattle.ll_directive.specs.declared.want.Awaited.{Awaited}
 use Rattle.ll_directive.specs.declared.want.Awaited.TheVariants.{Nothing, Segment, Part}
-use Rattle.ll_directive.specs.declared.want.Skip.{Skip}
-use Rattle.ll_directive.specs.declared.want.Skip.TheVariants.{No, Yes, V2}
-use Rattle.ll_format.specs.Format.{Word, ◌>>=◌, one_of}
+use Rattle.ll_entry.specs.declared.version.Version.{Version}
+use Rattle.ll_entry.specs.declared.version.Version.TheVariants.{One, Two}
+use Rattle.ll_format.specs.Format.{Format, Word, ◌>>=◌, after_key, beside, one_of, to_end, up_to, whole}
 use Rattle.ll_format.specs.Words.{number, text_if}
 use Rattle.ll_item.specs.Names.{is_name}
+use Rattle.ll_item.specs.declared.skip_kind.SkipKind.{SkipKind}
+use Rattle.ll_item.specs.declared.skip_kind.SkipKind.TheVariants.{Yes, V2}
 use Rattle.ll_verdict.specs.declared.reply.Outcome.{Outcome}
 use Rattle.ll_verdict.specs.declared.reply.Outcome.TheVariants.{Text, NotFound, TooFar, Busy, Timeout}
 
@@ -38,56 +40,90 @@ or_dash w = record {
   Within = WithinDash w;
 }
 
-abbrev pub skip_name : Skip → List ℕ
-skip_name No = codes "-"
-skip_name Yes = codes "YES"
-skip_name V2 = codes "v2"
+abbrev pub kind_name : SkipKind → List ℕ
+kind_name Yes = codes "YES"
+kind_name V2 = codes "v2"
 
--- `-`, `YES` or `v2`
-abbrev pub skip : Word Skip
-skip = one_of skip_name (No ∷ Yes ∷ V2 ∷ [])
+-- a kind of delta update: `YES` or `v2`
+abbrev pub kind : Word SkipKind
+kind = one_of kind_name (Yes ∷ V2 ∷ [])
 
-abbrev pub outcome_text : Outcome → List ℕ
-outcome_text (Text n) = codes "text " ++ decimal n
-outcome_text NotFound = codes "notfound"
-outcome_text TooFar = codes "bad TooFar"
-outcome_text Busy = codes "busy"
-outcome_text Timeout = codes "timeout"
+-- a delta update of a kind, or `-` for a full playlist
+abbrev pub update : Word (Option SkipKind)
+update = or_dash kind
 
-abbrev pub OutcomeWithin : Outcome → Type 0
-OutcomeWithin (Text n) = count.Within n
-OutcomeWithin NotFound = Unit
-OutcomeWithin TooFar = Unit
-OutcomeWithin Busy = Unit
-OutcomeWithin Timeout = Unit
+-- which delta update a request asked for that is recorded so: in format 1 one for `v2` was answered as one for `YES`
+abbrev pub asked_for : Version → Option SkipKind → Option SkipKind
+asked_for One skip = option_map (λ kind. Yes) skip
+asked_for Two skip = skip
 
--- `text N`, where the playlist is that after N items; `notfound`, `bad TooFar`, `busy` or `timeout`
-abbrev pub outcome : Word Outcome
-outcome = record {
-  print = outcome_text;
+-- What a record tells of what a reply comes to: in format 1 not which delta update a playlist is.
+abbrev pub told_in : Version → Outcome → Outcome
+told_in One (Text n skip) = Text n None
+told_in Two (Text n skip) = Text n skip
+told_in version NotFound = NotFound
+told_in version TooFar = TooFar
+told_in version Busy = Busy
+told_in version Timeout = Timeout
+
+-- a word up to the next space, and what stands after the space
+abbrev pub spaced : {A B : Type 0} → Format A → Format B → Format (A × B)
+spaced f g = beside f (after_key (codes " ") g)
+
+-- `N`, of a playlist of which no more is told
+abbrev pub count_alone : Word (ℕ × Option SkipKind)
+count_alone = record {
+  print = λ p. count.print p.0;
+  read = λ text. count.read text >>= λ n. Some (n, None);
+  Within = λ p. count.Within p.0 × (p.1 ≡ None);
+}
+
+-- how many items a playlist comes after, and which delta update it is: `N` in format 1, `N UPDATE` in format 2
+abbrev pub playlist : Version → Word (ℕ × Option SkipKind)
+playlist One = count_alone
+playlist Two = whole (spaced (up_to 32 count) (to_end update))
+
+abbrev pub outcome_text : Version → Outcome → List ℕ
+outcome_text version (Text n skip) = codes "text " ++ (playlist version).print (n, skip)
+outcome_text version NotFound = codes "notfound"
+outcome_text version TooFar = codes "bad TooFar"
+outcome_text version Busy = codes "busy"
+outcome_text version Timeout = codes "timeout"
+
+abbrev pub OutcomeWithin : Version → Outcome → Type 0
+OutcomeWithin version (Text n skip) = (playlist version).Within (n, skip)
+OutcomeWithin version NotFound = Unit
+OutcomeWithin version TooFar = Unit
+OutcomeWithin version Busy = Unit
+OutcomeWithin version Timeout = Unit
+
+-- `text N` or `text N UPDATE`; `notfound`, `bad TooFar`, `busy` or `timeout`
+abbrev pub outcome : Version → Word Outcome
+outcome version = record {
+  print = outcome_text version;
   read = λ text.
       if bytes_eq text (codes "notfound") then Some NotFound
       else if bytes_eq text (codes "bad TooFar") then Some TooFar
       else if bytes_eq text (codes "busy") then Some Busy
       else if bytes_eq text (codes "timeout") then Some Timeout
-      else (after (codes "text ") text >>= count.read >>= λ n. Some (Text n));
-  Within = OutcomeWithin;
+      else (after (codes "text ") text >>= (playlist version).read >>= λ p. Some (Text p.0 p.1));
+  Within = OutcomeWithin version;
 }
 
-abbrev pub or_held_text : Option Outcome → List ℕ
-or_held_text None = codes "held"
-or_held_text (Some o) = outcome_text o
+abbrev pub or_held_text : Version → Option Outcome → List ℕ
+or_held_text version None = codes "held"
+or_held_text version (Some o) = outcome_text version o
 
-abbrev pub HeldWithin : Option Outcome → Type 0
-HeldWithin None = Unit
-HeldWithin (Some o) = OutcomeWithin o
+abbrev pub HeldWithin : Version → Option Outcome → Type 0
+HeldWithin version None = Unit
+HeldWithin version (Some o) = OutcomeWithin version o
 
 -- what a request got at once, or `held`
-abbrev pub or_held : Word (Option Outcome)
-or_held = record {
-  print = or_held_text;
-  read = λ text. if bytes_eq text (codes "held") then Some None else (outcome.read text >>= λ o. Some (Some o));
-  Within = HeldWithin;
+abbrev pub or_held : Version → Word (Option Outcome)
+or_held version = record {
+  print = or_held_text version;
+  read = λ text. if bytes_eq text (codes "held") then Some None else ((outcome version).read text >>= λ o. Some (Some o));
+  Within = HeldWithin version;
 }
 
 -- what a request with these numbers awaits: a part of no segment is nothing that can be awaited

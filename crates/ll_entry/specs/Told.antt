@@ -14,6 +14,8 @@ use Rattle.ll_verdict.specs.Verdict.{Request, at_once, held, reply, reply_of}
 use Rattle.ll_verdict.specs.declared.reply.Outcome.{Outcome}
 use Rattle.ll_verdict.specs.declared.reply.Settled.{Settled}
 use Rattle.ll_entry.specs.Leads.{with_end}
+use Rattle.ll_entry.specs.Replies.{told_in}
+use Rattle.ll_entry.specs.declared.version.Version.{Version}
 
 -- the open request of this number, where it has its reply
 abbrev pub replied : Configuration → List Event → ℕ → Option Request
@@ -46,3 +48,11 @@ can_happen c s = is_some (entry_of c s)
 -- the line of an event, just as its entry is spelled, with its end
 abbrev pub line_of : Configuration → Step → List ℕ
 line_of c s = option_map_or (λ entry. with_end (entry_line c entry)) (entry_of c s) []
+
+-- what an entry of a record in this format tells of all that
+abbrev pub as_told : Version → Recorded → Recorded
+as_told version (recorded.Publish item) = recorded.Publish item
+as_told version (recorded.Ask ask want reply) = recorded.Ask ask want (option_map (told_in version) reply)
+as_told version (recorded.Clock ms) = recorded.Clock ms
+as_told version (recorded.Collect ask reply) = recorded.Collect ask (told_in version reply)
+as_told version (recorded.Close ask) = recorded.Close ask

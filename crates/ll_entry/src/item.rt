@@ -1,5 +1,5 @@
 //! Items, written.
-ghost use Rattle.std.specs.Prelude.{◌≡◌, ◌≢◌, ◌++◌, ℕ, List, [], IfOk, Ok, OnErr, OnOk, codes, string_bytes};
+ghost use Rattle.std.specs.Prelude.{◌≡◌, ◌≢◌, ◌++◌, ℕ, List, [], IfOk, Ok, OnOk, codes, string_bytes};
 ghost use Rattle.ll_attr.specs.Attributes.{attributes_in, spelling};
 ghost use Rattle.ll_entry.specs.ItemLines as spec;
 ghost use Rattle.ll_entry.specs.ItemLines.{HasAttributes, item_line, part_line, break_line, end_line, range_line, unrange_line, with_id};
@@ -8,19 +8,12 @@ use ll_attr::AttrList;
 use ll_item::{Item, Settings};
 use std::alloc::{AllocError, Global};
 
-/// Adds the line that spells an item of the channel of these settings; no end of a line is added. It fails only where no memory is
-/// found, and then changes nothing.
-pub fn push_item(line: &mut String, settings: &Settings, item: &Item) -> Result<(), AllocError>
-    ensures ok { OnOk result (string_bytes line.new ≡ string_bytes line.old ++ item_line settings.now item.now) }
-    ensures spelled { OnOk result (HasAttributes item.now) }
-    ensures err { OnErr result (string_bytes line.new ≡ string_bytes line.old) }
-{
-    let text = item_text(*line.allocator(), settings, item)?;
-    line.push_str(text.as_str())
-}
-
-/// The line that spells an item.
-fn item_text(alloc: Global, settings: &Settings, item: &Item) -> Result<String, AllocError>
+/// The line that spells an item of the channel of these settings. It fails only where no memory is found.
+pub(crate) fn item_text(
+    alloc: Global,
+    settings: &Settings,
+    item: &Item,
+) -> Result<String, AllocError>
     ensures text { IfOk result (λ text. string_bytes text ≡ item_line settings.now item.now) }
     ensures spelled { OnOk result (HasAttributes item.now) }
 {

@@ -1,7 +1,7 @@
 //! Facts of the definitions, proved; none of these does anything.
 ghost use Rattle.ll_entry.specs.ItemLaws.{ItemLaw, SettingsLaw};
 ghost use Rattle.ll_entry.specs.Laws.{EntryLaw};
-ghost use Rattle.ll_entry.specs.Leads.{ChunkLaw, EntryNextLaw, NextLaw, NothingLaw};
+ghost use Rattle.ll_entry.specs.Leads.{ChunkLaw, EntryNextLaw, FirstChunkLaw, NextLaw, NothingLaw};
 ghost use Rattle.ll_entry.specs.Writable.{ItemWritableLaw};
 
 /// The line of an item is read as that item, and is one line: no CR or LF is in it.
@@ -14,10 +14,10 @@ pub fn settings_law()
     ensures { SettingsLaw }
 {}
 
-/// What is written is read again. It does nothing: what it ensures is the law that the line of an entry is read as that entry,
-/// is one line, and isn't the last one of a chunk, wherever the line of an item is read as that item and is one line.
+/// What is written is read again: the line of an entry is read as that entry in the format that is written, is one line, and isn't the
+/// last one of a chunk.
 pub fn entry_law()
-    ensures { ItemLaw → EntryLaw }
+    ensures { EntryLaw }
 {}
 
 /// No lines lead from the events of a channel to the same events.
@@ -36,9 +36,15 @@ pub fn entry_next_law()
     ensures { EntryNextLaw }
 {}
 
-/// A chunk of lines that lead from the events before it to others is found right, and the check goes on with those.
+/// A chunk that goes on with a chain, of lines that lead from the chain's events to others, is found right, and the check goes on with those.
 pub fn chunk_law()
     ensures { ChunkLaw }
+{}
+
+/// A chunk with no entries before it is found right after any chains of its channel: it begins another, with the events that its lines lead
+/// to.
+pub fn first_chunk_law()
+    ensures { FirstChunkLaw }
 {}
 
 /// An item that a channel accepts can be written on a line of its own: its duration is below 2^64, its ID stands on one line,

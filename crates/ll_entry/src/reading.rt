@@ -1,68 +1,98 @@
 //! Lines read as entries.
-ghost use Rattle.std.specs.Prelude.{◌≡◌, ◌≢◌, ◌<◌, IfErr, IfOk, IsErrOf, IsOk, Ok, Err, IfSome, None, Some, [], is_some, true};
+ghost use Rattle.std.specs.Prelude.{◌≡◌, ◌≢◌, ◌<◌, IfErr, IfOk, IsErrOf, IsOk, MatchOption, Ok, Err, IfSome, None, Some, [], is_some, true};
 ghost use Rattle.std.specs.Option.{option_map};
 ghost use Rattle.ll_item.specs.Names.{is_name};
 ghost use Rattle.ll_entry.specs.Entries as spec;
 ghost use Rattle.ll_entry.specs.Entries.{entry_in};
 
 use crate::entry::{EntryFault, Recorded};
-use crate::words::{awaited, count, or_dash, or_held, outcome, skip};
+use crate::version::Version;
+use crate::words::{awaited, count, or_dash, or_held, outcome, update};
 use ll_attr::{Text, after};
-use ll_directive::{Skip, Want};
+use ll_directive::Want;
 use ll_format::until;
-use ll_item::{Item, Settings, is_name};
+use ll_item::{Item, Settings, SkipKind, is_name};
 use ll_verdict::Outcome;
 use std::alloc::Global;
 
 impl Recorded {
-    /// The entry that a line of the record of this channel spells: `P ITEM`, `A ASK RENDITION MSN PART SKIP REPLY`, `C MILLISECONDS`,
-    /// `G ASK REPLY` or `X ASK`; or why there is none. Memory that isn't found comes after the other faults.
-    pub fn read(alloc: Global, settings: &Settings, line: &str) -> Result<Recorded, EntryFault>
-        ensures value { IfOk result (λ entry. entry_in settings.now line.now ≡ Ok entry) }
-        ensures refused { IfErr result (λ fault. fault ≢ EntryFault.Memory → entry_in settings.now line.now ≡ Err fault) }
-        ensures memory { IsErrOf result EntryFault.Memory → IsOk (entry_in settings.now line.now) }
+    /// The entry that a line of the record of this channel spells in this format: `P ITEM`, `A ASK RENDITION MSN PART SKIP REPLY`,
+    /// `C MILLISECONDS`, `G ASK REPLY` or `X ASK`; or why there is none. Memory that isn't found comes after the other faults.
+    pub fn read(
+        alloc: Global,
+        version: Version,
+        settings: &Settings,
+        line: &str,
+    ) -> Result<Recorded, EntryFault>
+        ensures value { IfOk result (λ entry. entry_in version settings.now line.now ≡ Ok entry) }
+        ensures refused { IfErr result (λ fault. fault ≢ EntryFault.Memory → entry_in version settings.now line.now ≡ Err fault) }
+        ensures memory { IsErrOf result EntryFault.Memory → IsOk (entry_in version settings.now line.now) }
     {
         if let Some(text) = after(line, "P ") {
+            let Some(text) = item_text(version, text) else {
+                return Err(EntryFault::BadLine);
+            };
             let item = Item::read(alloc, settings, text)?;
             return Ok(Recorded::Publish(item));
         }
         if let Some(text) = after(line, "A ") {
-            return read_ask(alloc, settings, text);
+            return read_ask(alloc, version, settings, text);
         }
-        read_short(line).ok_or(EntryFault::BadLine)
+        read_short(version, line).ok_or(EntryFault::BadLine)
+    }
+}
+
+/// The line of an item: in format 2 the length of its media stands after that of a part, and there is no media.
+fn item_text(version: Version, text: &str) -> Option<&str>
+    ensures { MatchOption result (spec.item_text version text.now ≡ None) (λ item. spec.item_text version text.now ≡ Some item.now) }
+{
+    match version {
+        Version::One => Some(text),
+        Version::Two => {
+            if after(text, "part ").is_none() {
+                return Some(text);
+            }
+            text.strip_suffix(" 0")
+        }
     }
 }
 
 /// A reading, a reply that was handed out, or a request that was given up.
-fn read_short(line: &str) -> Option<Recorded>
-    ensures { result ≡ spec.short_in line.now }
+fn read_short(version: Version, line: &str) -> Option<Recorded>
+    ensures { result ≡ spec.short_in version line.now }
 {
     if let Some(text) = after(line, "C ") {
         return Some(Recorded::Clock(count(text)?));
     }
     if let Some(text) = after(line, "G ") {
-        let (ask, outcome) = collect_fields(text)?;
+        let (ask, outcome) = collect_fields(version, text)?;
         return Some(Recorded::Collect(ask, outcome));
     }
     Some(Recorded::Close(count(after(line, "X ")?)?))
 }
 
 /// `ASK REPLY`
-fn collect_fields(text: &str) -> Option<(u64, Outcome)>
-    ensures { spec.collect_fields.read text.now ≡ option_map (λ r. ((r.0, r.1), [])) result }
+fn collect_fields(version: Version, text: &str) -> Option<(u64, Outcome)>
+    ensures { (spec.collect_fields version).read text.now ≡ option_map (λ r. ((r.0, r.1), [])) result }
 {
     let (word, rest) = until(text, ' ');
     let ask = count(word)?;
-    Some((ask, outcome(after(rest, " ")?)?))
+    Some((ask, outcome(version, after(rest, " ")?)?))
 }
 
 /// The request that a text tells of, and what it got at once.
-fn read_ask(alloc: Global, settings: &Settings, text: &str) -> Result<Recorded, EntryFault>
-    ensures value { IfOk result (λ entry. spec.ask_in settings.now text.now ≡ Some entry) }
-    ensures refused { IfErr result (λ fault. fault ≢ EntryFault.Memory → (fault ≡ EntryFault.BadLine) × (spec.ask_in settings.now text.now ≡ None)) }
-    ensures memory { IsErrOf result EntryFault.Memory → is_some (spec.ask_in settings.now text.now) ≡ true }
+fn read_ask(
+    alloc: Global,
+    version: Version,
+    settings: &Settings,
+    text: &str,
+) -> Result<Recorded, EntryFault>
+    ensures value { IfOk result (λ entry. spec.ask_in version settings.now text.now ≡ Some entry) }
+    ensures refused { IfErr result (λ fault. fault ≢ EntryFault.Memory
+        → (fault ≡ EntryFault.BadLine) × (spec.ask_in version settings.now text.now ≡ None)) }
+    ensures memory { IsErrOf result EntryFault.Memory → is_some (spec.ask_in version settings.now text.now) ≡ true }
 {
-    let Some((ask, rendition, place)) = ask_fields(text) else {
+    let Some((ask, rendition, place)) = ask_fields(version, text) else {
         return Err(EntryFault::BadLine);
     };
     let (msn, part, skip, outcome) = place;
@@ -71,18 +101,18 @@ fn read_ask(alloc: Global, settings: &Settings, text: &str) -> Result<Recorded, 
     };
     let channel = Text::from_str(alloc, settings.channel())?;
     let rendition = Text::from_str(alloc, rendition)?;
-    match Want::new(channel, rendition, awaited, skip) {
+    match Want::new(channel, rendition, awaited, version.asked_for(skip)) {
         Some(want) => Ok(Recorded::Ask(ask, want, outcome)),
         None => unreachable!(),
     }
 }
 
 /// What a request awaits of a rendition, which playlist it asks for, and what it got at once.
-type Place = (Option<u64>, Option<u64>, Skip, Option<Outcome>);
+type Place = (Option<u64>, Option<u64>, Option<SkipKind>, Option<Outcome>);
 
 /// `ASK RENDITION MSN PART SKIP REPLY`
-fn ask_fields(text: &str) -> Option<(u64, &str, Place)>
-    ensures value { spec.ask_fields.read text.now ≡ option_map (λ r. ((r.0, (r.1.now, (r.2.0, (r.2.1, (r.2.2, r.2.3))))), [])) result }
+fn ask_fields(version: Version, text: &str) -> Option<(u64, &str, Place)>
+    ensures value { (spec.ask_fields version).read text.now ≡ option_map (λ r. ((r.0, (r.1.now, (r.2.0, (r.2.1, (r.2.2, r.2.3))))), [])) result }
     ensures named { IfSome result (λ r. is_name r.1.now ≡ true) }
 {
     let (word, rest) = until(text, ' ');
@@ -91,26 +121,26 @@ fn ask_fields(text: &str) -> Option<(u64, &str, Place)>
     if !is_name(name) {
         return None;
     }
-    Some((ask, name, place_fields(after(rest, " ")?)?))
+    Some((ask, name, place_fields(version, after(rest, " ")?)?))
 }
 
 /// `MSN PART SKIP REPLY`
-fn place_fields(text: &str) -> Option<Place>
-    ensures { spec.place_fields.read text.now ≡ option_map (λ r. ((r.0, (r.1, (r.2, r.3))), [])) result }
+fn place_fields(version: Version, text: &str) -> Option<Place>
+    ensures { (spec.place_fields version).read text.now ≡ option_map (λ r. ((r.0, (r.1, (r.2, r.3))), [])) result }
 {
     let (word, rest) = until(text, ' ');
     let msn = or_dash(word)?;
     let (word, rest) = until(after(rest, " ")?, ' ');
     let part = or_dash(word)?;
-    let (skip, outcome) = reply_fields(after(rest, " ")?)?;
+    let (skip, outcome) = reply_fields(version, after(rest, " ")?)?;
     Some((msn, part, skip, outcome))
 }
 
 /// `SKIP REPLY`
-fn reply_fields(text: &str) -> Option<(Skip, Option<Outcome>)>
-    ensures { spec.reply_fields.read text.now ≡ option_map (λ r. ((r.0, r.1), [])) result }
+fn reply_fields(version: Version, text: &str) -> Option<(Option<SkipKind>, Option<Outcome>)>
+    ensures { (spec.reply_fields version).read text.now ≡ option_map (λ r. ((r.0, r.1), [])) result }
 {
     let (word, rest) = until(text, ' ');
-    let skip = skip(word)?;
-    Some((skip, or_held(after(rest, " ")?)?))
+    let skip = update(word)?;
+    Some((skip, or_held(version, after(rest, " ")?)?))
 }

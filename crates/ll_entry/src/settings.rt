@@ -1,23 +1,14 @@
 //! Settings, written.
-ghost use Rattle.std.specs.Prelude.{◌≡◌, ◌++◌, ◌∷◌, IfOk, OnErr, OnOk, codes, decimal, flat_map, string_bytes};
+ghost use Rattle.std.specs.Prelude.{◌≡◌, ◌++◌, ◌∷◌, IfOk, OnOk, codes, decimal, flat_map, string_bytes};
 ghost use Rattle.ll_entry.specs.ItemLines.{names_text, settings_line};
 
 use ll_attr::Text;
 use ll_item::Settings;
 use std::alloc::{AllocError, Global};
 
-/// Adds the line that spells settings; no end of a line is added. It fails only where no memory is found, and then changes nothing.
-pub fn push_settings(line: &mut String, settings: &Settings) -> Result<(), AllocError>
-    ensures ok { OnOk result (string_bytes line.new ≡ string_bytes line.old ++ settings_line settings.now) }
-    ensures err { OnErr result (string_bytes line.new ≡ string_bytes line.old) }
-{
-    let text = settings_text(*line.allocator(), settings)?;
-    line.push_str(text.as_str())
-}
-
-/// The line that spells settings.
+/// The line that spells settings. It fails only where no memory is found.
 #[tactic(auto, unfolding(crate::specs::ItemLines::settings_line))]
-fn settings_text(alloc: Global, settings: &Settings) -> Result<String, AllocError>
+pub fn settings_text(alloc: Global, settings: &Settings) -> Result<String, AllocError>
     ensures { IfOk result (λ text. string_bytes text ≡ settings_line settings.now) }
 {
     let names = joined_names(alloc, settings.renditions())?;

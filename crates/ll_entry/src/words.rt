@@ -2,9 +2,11 @@
 ghost use Rattle.std.specs.Prelude.{◌≡◌};
 ghost use Rattle.ll_entry.specs.Replies as spec;
 
+use crate::version::Version;
 use ll_attr::after;
-use ll_directive::{Awaited, Skip};
-use ll_format::number;
+use ll_directive::Awaited;
+use ll_format::{number, until};
+use ll_item::SkipKind;
 use ll_verdict::Outcome;
 
 /// A number below 2^64 without leading zeros.
@@ -24,24 +26,38 @@ pub(crate) fn or_dash(text: &str) -> Option<Option<u64>>
     Some(Some(count(text)?))
 }
 
-/// Whether a request is for a delta update.
-pub(crate) fn skip(text: &str) -> Option<Skip>
-    ensures { result ≡ spec.skip.read text.now }
+/// A delta update of a kind, `YES` or `v2`, or `-` for a full playlist.
+pub(crate) fn update(text: &str) -> Option<Option<SkipKind>>
+    ensures { result ≡ spec.update.read text.now }
 {
     if text == "-" {
-        Some(Skip::No)
+        Some(None)
     } else if text == "YES" {
-        Some(Skip::Yes)
+        Some(Some(SkipKind::Yes))
     } else if text == "v2" {
-        Some(Skip::V2)
+        Some(Some(SkipKind::V2))
     } else {
         None
     }
 }
 
+/// How many items a playlist comes after, and which delta update it is, which format 1 doesn't tell.
+fn playlist(version: Version, text: &str) -> Option<(u64, Option<SkipKind>)>
+    ensures { result ≡ (spec.playlist version).read text.now }
+{
+    match version {
+        Version::One => Some((count(text)?, None)),
+        Version::Two => {
+            let (word, rest) = until(text, ' ');
+            let count = count(word)?;
+            Some((count, update(after(rest, " ")?)?))
+        }
+    }
+}
+
 /// What a reply came to.
-pub(crate) fn outcome(text: &str) -> Option<Outcome>
-    ensures { result ≡ spec.outcome.read text.now }
+pub(crate) fn outcome(version: Version, text: &str) -> Option<Outcome>
+    ensures { result ≡ (spec.outcome version).read text.now }
 {
     if text == "notfound" {
         Some(Outcome::NotFound)
@@ -52,18 +68,19 @@ pub(crate) fn outcome(text: &str) -> Option<Outcome>
     } else if text == "timeout" {
         Some(Outcome::Timeout)
     } else {
-        Some(Outcome::Text(count(after(text, "text ")?)?))
+        let (count, update) = playlist(version, after(text, "text ")?)?;
+        Some(Outcome::Text(count, update))
     }
 }
 
 /// What a request got at once; none where it was held.
-pub(crate) fn or_held(text: &str) -> Option<Option<Outcome>>
-    ensures { result ≡ spec.or_held.read text.now }
+pub(crate) fn or_held(version: Version, text: &str) -> Option<Option<Outcome>>
+    ensures { result ≡ (spec.or_held version).read text.now }
 {
     if text == "held" {
         return Some(None);
     }
-    Some(Some(outcome(text)?))
+    Some(Some(outcome(version, text)?))
 }
 
 /// What a request with these numbers awaits.

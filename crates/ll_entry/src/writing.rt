@@ -1,30 +1,36 @@
-//! Entries, written as lines. No end of a line is added. The lines that read the clock, hand a reply out or give a request up take
-//! no memory.
-ghost use Rattle.std.specs.Prelude.{◌≡◌, ◌≤◌, ◌+◌, ◌++◌, IfOk, OnOk, codes, decimal, string_bytes};
+//! Entries, written as lines in format 2. No end of a line is added. The lines that read the clock, hand a reply out or give a request up
+//! take no memory.
+ghost use Rattle.std.specs.Prelude.{◌≡◌, ◌≤◌, ◌+◌, ◌++◌, IfOk, OnOk, codes, decimal, length, string_bytes};
 ghost use Rattle.arrayvec.specs.ArrayString.{array_string_len};
 ghost use Rattle.ll_item.specs.Settings.{Configuration};
 ghost use Rattle.ll_entry.specs.Lines as spec;
 ghost use Rattle.ll_entry.specs.Lines.{IsSpelled, entry_line};
-ghost use Rattle.ll_entry.specs.Replies.{count, or_dash_text, or_held_text, outcome_text, skip_name};
+ghost use Rattle.ll_entry.specs.Replies.{count, kind, or_dash_text, or_held_text, outcome_text};
+ghost use Rattle.ll_entry.specs.declared.version.Version.TheVariants.{Two};
 ghost use Rattle.ll_entry.specs.declared.entry.Recorded.TheVariants as recorded;
 ghost use Rattle.ll_entry.specs.ItemLines.{HasAttributes};
 
-use crate::item::push_item;
+use crate::item::item_text;
 use arrayvec::ArrayString;
 use itoa::Buffer;
-use ll_directive::{Awaited, Skip, Want};
-use ll_item::{Item, Settings};
+use ll_directive::{Awaited, Want};
+use ll_item::{Item, Settings, SkipKind};
 use ll_verdict::Outcome;
 use std::alloc::{AllocError, Global};
 
-/// The line of an item that was accepted. It fails only where no memory is found.
+/// The line of an item that was accepted; that of a part ends with the length of its media, and there is none. It fails only where no memory is found.
 pub fn publish_line(alloc: Global, settings: &Settings, item: &Item) -> Result<String, AllocError>
     ensures text { IfOk result (λ t. string_bytes t ≡ entry_line settings.now (recorded.Publish item.now)) }
     ensures spelled { OnOk result (HasAttributes item.now) }
 {
-    let mut line = String::from_str(alloc, "P ")?;
-    push_item(&mut line, settings, item)?;
-    Ok(line)
+    let text = item_text(alloc, settings, item)?;
+    let line = text.as_str();
+    match item {
+        Item::Part { .. } => format!(in alloc; "P {line} 0"),
+        Item::Break { .. } | Item::End { .. } | Item::Range { .. } | Item::Unrange { .. } => {
+            format!(in alloc; "P {line}")
+        }
+    }
 }
 
 /// The line of a request of this number, and of what it got at once; none where it was held. It fails only where no memory is found.
@@ -52,15 +58,20 @@ fn ask_text(alloc: Global, ask: u64, rendition: &str, place: &str) -> Result<Str
 fn place_text(
     alloc: Global,
     awaited: Awaited,
-    skip: Skip,
+    skip: Option<SkipKind>,
     outcome: Option<Outcome>,
 ) -> Result<String, AllocError>
     ensures { IfOk result (λ t. string_bytes t ≡ or_dash_text count (spec.msn_of awaited) ++ (codes " "
-        ++ (or_dash_text count (spec.part_of awaited) ++ (codes " " ++ (skip_name skip ++ (codes " " ++ or_held_text outcome)))))) }
+        ++ (or_dash_text count (spec.part_of awaited) ++ (codes " " ++ (or_dash_text kind skip ++ (codes " " ++ or_held_text Two outcome)))))) }
 {
-    let (msn, part) = (number_text(msn_of(awaited)), number_text(part_of(awaited)));
-    let reply = reply_text(outcome);
-    let (msn, part, skip, reply) = (msn.as_str(), part.as_str(), skip_text(skip), reply.as_str());
+    let (msn, part) = numbers_of(awaited);
+    let (msn, part, reply) = (number_text(msn), number_text(part), reply_text(outcome));
+    let (msn, part, skip, reply) = (
+        msn.as_str(),
+        part.as_str(),
+        update_text(skip),
+        reply.as_str(),
+    );
     format!(in alloc; "{msn} {part} {skip} {reply}")
 }
 
@@ -114,14 +125,16 @@ fn push_number(line: &mut ArrayString<64>, n: u64)
 
 /// Adds what a reply comes to.
 fn push_outcome(line: &mut ArrayString<64>, outcome: Outcome)
-    requires { array_string_len line.old ≤ 38 }
-    ensures text { line.new.bytes ≡ line.old.bytes ++ outcome_text outcome }
-    ensures len { array_string_len line.new ≤ array_string_len line.old + 25 }
+    requires { array_string_len line.old ≤ 35 }
+    ensures text { line.new.bytes ≡ line.old.bytes ++ outcome_text Two outcome }
+    ensures len { array_string_len line.new ≤ array_string_len line.old + 29 }
 {
     match outcome {
-        Outcome::Text(n) => {
+        Outcome::Text(n, update) => {
             line.push_str("text ");
             push_number(line, n);
+            line.push_str(" ");
+            line.push_str(update_text(update));
         }
         Outcome::NotFound => line.push_str("notfound"),
         Outcome::TooFar => line.push_str("bad TooFar"),
@@ -132,7 +145,7 @@ fn push_outcome(line: &mut ArrayString<64>, outcome: Outcome)
 
 /// What a request got at once; `held` for none.
 fn reply_text(outcome: Option<Outcome>) -> ArrayString<64>
-    ensures { result.bytes ≡ or_held_text outcome }
+    ensures { result.bytes ≡ or_held_text Two outcome }
 {
     let mut text = ArrayString::new();
     match outcome {
@@ -154,34 +167,25 @@ fn number_text(number: Option<u64>) -> ArrayString<64>
     text
 }
 
-/// The media sequence number of what a request awaits.
-fn msn_of(awaited: Awaited) -> Option<u64>
-    ensures { result ≡ spec.msn_of awaited }
+/// The Media Sequence Number of what a request awaits, and the place of the part in its segment.
+fn numbers_of(awaited: Awaited) -> (Option<u64>, Option<u64>)
+    ensures { result ≡ (spec.msn_of awaited, spec.part_of awaited) }
 {
     match awaited {
-        Awaited::Nothing => None,
-        Awaited::Segment(msn) => Some(msn),
-        Awaited::Part(msn, _) => Some(msn),
+        Awaited::Nothing => (None, None),
+        Awaited::Segment(msn) => (Some(msn), None),
+        Awaited::Part(msn, part) => (Some(msn), Some(part)),
     }
 }
 
-/// The place, in its segment, of the part that a request awaits.
-fn part_of(awaited: Awaited) -> Option<u64>
-    ensures { result ≡ spec.part_of awaited }
+/// A delta update of a kind, or `-` for a full playlist.
+fn update_text(update: Option<SkipKind>) -> &'static str
+    ensures text { result.now ≡ or_dash_text kind update }
+    ensures short { length result.now ≤ 3 }
 {
-    match awaited {
-        Awaited::Part(_, part) => Some(part),
-        Awaited::Nothing | Awaited::Segment(_) => None,
-    }
-}
-
-/// Whether a request is for a delta update: `-`, `YES` or `v2`.
-fn skip_text(skip: Skip) -> &'static str
-    ensures { result.now ≡ skip_name skip }
-{
-    match skip {
-        Skip::No => "-",
-        Skip::Yes => "YES",
-        Skip::V2 => "v2",
+    match update {
+        None => "-",
+        Some(SkipKind::Yes) => "YES",
+        Some(SkipKind::V2) => "v2",
     }
 }

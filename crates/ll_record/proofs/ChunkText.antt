@@ -1,15 +1,16 @@
 -- The text of a chunk, and what a check makes of it.
-use Rattle.std.proofs.Common.{◌≡◌, ℕ, ◌≤◌, ◌^◌, List, ◌++◌, None, true, ap, ◌∙◌, sym, subst, append_assoc, codes, decimal, length, arith}
+use Rattle.std.proofs.Common.{◌≡◌, ℕ, ◌+◌, ◌≤◌, ◌^◌, List, [], ◌∷◌, ◌++◌, Some, None, true, ap, ◌∙◌, sym, subst, append_assoc, codes, decimal, length, take, arith}
 use Rattle.std.proofs.lemmas.List.{length-take-le}
+use Rattle.std.proofs.lemmas.Slice.Eq.{bytes_eq-Decides}
 use Rattle.std.specs.Str.{is_utf8}
-use Rattle.ll_attr.specs.Words.{pieces_at}
-use Rattle.ll_entry.specs.Chain.{Between, checked_from}
+use Rattle.ll_entry.specs.Chain.{Chain, entries, is_channel}
 use Rattle.ll_entry.specs.Replies.{most}
 use Rattle.ll_item.specs.Settings.{Configuration, limit_broken}
-use Rattle.ll_entry.proofs.ChunkProof.{chunk}
-use Rattle.ll_entry.specs.Leads.{IsLed, chunk_text}
-use Rattle.ll_room.specs.Home.{Home}
-use Rattle.ll_entry.proofs.SettingsBack.{settings_back}
+use Rattle.ll_entry.proofs.ChunkProof.{chunk, first-chunk}
+use Rattle.ll_entry.specs.Leads.{IsChunkOf, IsLed, chain_of, chunk_text}
+use Rattle.ll_entry.specs.Versions.{first_line}
+use Rattle.ll_entry.specs.declared.version.Version.TheVariants.{Two}
+use Rattle.ll_room.specs.RoomValue.{RoomValue}
 use Rattle.ll_entry.specs.ItemLines.{settings_line}
 use Rattle.ll_verdict.specs.Events.{Event}
 use Rattle.ll_record.specs.Chunk.{ChunkValue, IsFaithful}
@@ -21,25 +22,50 @@ joined a s b d e z =
     ∙ ap (λ t. a ++ t) (append_assoc s (b ++ (d ++ e)) z ∙ ap (λ t. s ++ t) (append_assoc b (d ++ e) z ∙ ap (λ t. b ++ t) (append_assoc d e z)))
 
 pub chunk-is : (c : Configuration) (at : ℕ) (lines begin settings : List ℕ)
-    → begin ≡ codes "#LLHLS-CHUNK 1\n" ++ (settings ++ (codes "\nat " ++ (decimal at ++ codes "\n"))) → settings ≡ settings_line c
+    → begin ≡ first_line Two ++ (codes "\n" ++ (settings ++ (codes "\nat " ++ (decimal at ++ codes "\n")))) → settings ≡ settings_line c
     → begin ++ (lines ++ codes "#END\n") ≡ chunk_text c at lines
 unfolding chunk_text
 chunk-is c at lines begin settings e s =
-    ap (λ t. t ++ (lines ++ codes "#END\n")) (e ∙ ap (λ t. codes "#LLHLS-CHUNK 1\n" ++ (t ++ (codes "\nat " ++ (decimal at ++ codes "\n")))) s)
-    ∙ joined (codes "#LLHLS-CHUNK 1\n") (settings_line c) (codes "\nat ") (decimal at) (codes "\n") (lines ++ codes "#END\n")
+    ap (λ t. t ++ (lines ++ codes "#END\n")) (e ∙ ap (λ t. first_line Two ++ (codes "\n" ++ (t ++ (codes "\nat " ++ (decimal at ++ codes "\n"))))) s)
+    ∙ joined (first_line Two ++ codes "\n") (settings_line c) (codes "\nat ") (decimal at) (codes "\n") (lines ++ codes "#END\n")
 
 small : (at n m : ℕ) → at ≤ n → m ≡ n → m ≤ 2 ^ 61 → at ≤ most
 small at n m a e h = omega (arith, a, e, h)
 
+-- a chain of these settings is of their channel
+its_channel : (ch : Chain) (c : Configuration) → ch.settings ≡ c → is_channel (Some ch) c ≡ true
+its_channel ch c is = (bytes_eq-Decides ch.settings.channel c.channel).1 (ap (λ (x : Configuration). x.channel) is)
+
+none_more : (n m : ℕ) → m ≡ 0 → n + m ≡ n
+none_more n m e = omega (arith, e)
+
+-- A chunk goes on with a chain of these events; where there are none, it begins another one after the same entries.
+goes_on : (c : Configuration) (ch : Chain) (events after : List Event) (lines : List ℕ) → limit_broken c ≡ None → is_utf8 (settings_line c) ≡ true
+    → length events ≤ most → IsLed c events lines after → ch.events ≡ events → ch.settings ≡ c
+    → IsChunkOf (Some ch) (chunk_text c (length events) lines) (chain_of c ch.earlier after)
+goes_on c ch [] after lines within utf8 few led are is =
+    subst (λ n. IsChunkOf (Some ch) (chunk_text c 0 lines) (chain_of c n after)) (none_more ch.earlier (length ch.events) (ap length are))
+    (first-chunk c (Some ch) after lines within utf8 (its_channel ch c is) led)
+goes_on c ch (e ∷ events) after lines within utf8 few led are is =
+    subst (λ (es : List Event). IsChunkOf (Some ch) (chunk_text c (length es) lines) (chain_of c ch.earlier after)) are
+    (chunk c ch after lines within utf8 (subst (λ (es : List Event). length es ≤ most) (sym are) few)
+    (subst (λ (es : List Event). 1 ≤ length es) (sym are) (omega arith)) (subst (λ es. IsLed c es lines after) (sym are) led) is)
+
 faithful_at : (r : Recording) (k : ChunkValue) → limit_broken r.room.settings ≡ None → is_utf8 (settings_line r.room.settings) ≡ true → r.room.events ≤ 2 ^ 61
     → k.text ≡ chunk_text r.room.settings r.at r.lines → (events : List Event) → IsRecorded r events → IsFaithful r events k
-faithful_at r k within utf8 few text events s ch rest before known =
+faithful_at r k within utf8 few text events s =
     let c = r.room.settings in
-    let at : length ch.events ≡ r.at = ap length before ∙ length-take-le r.at events s.early in
-    let events_are : r.room.events ≡ length events = ap (λ (h : Home). h.events) s.stands in
-    let led : IsLed c ch.events r.lines events = subst (λ es. IsLed c es r.lines events) (sym before) s.led in
-    ap (λ t. checked_from Between ch (pieces_at 10 (t ++ rest))) (text ∙ ap (λ n. chunk_text c n r.lines) (sym at))
-    ∙ chunk settings_back c ch events r.lines rest within utf8 (subst (λ n. n ≤ most) (sym at) (small r.at (length events) r.room.events s.early events_are few)) led known
+    let at : length (take r.at events) ≡ r.at = length-take-le r.at events s.early in
+    let events_are : r.room.events ≡ length events = ap (λ (h : RoomValue). h.events) s.stands in
+    let early : r.at ≤ most = small r.at (length events) r.room.events s.early events_are few in
+    record {
+      goes_on = λ ch are is.
+          subst (λ t. IsChunkOf (Some ch) t (chain_of c ch.earlier events)) (ap (λ n. chunk_text c n r.lines) at ∙ sym text)
+          (goes_on c ch (take r.at events) events r.lines within utf8 (subst (λ n. n ≤ most) (sym at) early) s.led are is);
+      begins = λ none before of.
+          subst (λ t. IsChunkOf before t (chain_of c (entries before) events)) (ap (λ n. chunk_text c n r.lines) (sym none) ∙ sym text)
+          (first-chunk c before events r.lines within utf8 of (subst (λ n. IsLed c (take n events) r.lines events) none s.led));
+    }
 
 pub faithful : (r now : Recording) (k : ChunkValue) → r ≡ now → limit_broken r.room.settings ≡ None → is_utf8 (settings_line r.room.settings) ≡ true
     → r.room.events ≤ 2 ^ 61 → k.text ≡ chunk_text r.room.settings r.at r.lines → (events : List Event) → IsRecorded now events → IsFaithful now events k

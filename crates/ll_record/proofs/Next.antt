@@ -7,25 +7,20 @@ use Rattle.std.specs.List.{flat_map, list_all}
 use Rattle.std.specs.Option.{option_map_or}
 use Rattle.std.specs.Str.{is_utf8}
 use Rattle.ll_entry.specs.Entered.{event_of, fault_in}
-use Rattle.ll_entry.proofs.EntryLines.{read_again}
-use Rattle.ll_entry.specs.Laws.{EntryLaw}
 use Rattle.ll_entry.specs.Lines.{IsSpelled, entry_line}
 use Rattle.ll_entry.specs.declared.entry.Recorded.{Recorded}
+use Rattle.ll_entry.specs.declared.version.Version.TheVariants.{Two}
 use Rattle.ll_item.specs.Settings.{Configuration, limit_broken}
 use Rattle.ll_entry.proofs.LeadLemmas.{entry-next}
-use Rattle.ll_entry.proofs.ToldLemmas.{right-told, steps-many}
+use Rattle.ll_entry.proofs.ToldLemmas.{right-whole, steps-many}
 use Rattle.ll_entry.specs.Leads.{IsLed, with_end}
 use Rattle.ll_entry.specs.Told.{can_happen, entry_of, line_of}
-use Rattle.ll_room.specs.Home.{Home, IsSame, Stands, home}
-use Rattle.ll_entry.proofs.ItemBack.{item_back}
+use Rattle.ll_room.specs.RoomValue.{RoomValue, IsSame, Stands, room_value}
 use Rattle.ll_verdict.proofs.StepLemmas.{at, steps-snoc}
 use Rattle.ll_verdict.specs.Events.{Event, Step, steps}
 use Rattle.ll_verdict.specs.State.{state_of}
 use Rattle.ll_record.specs.Kept.{spare}
 use Rattle.ll_record.specs.Recording.{IsRecorded, Recording, is_call}
-
-entries : EntryLaw
-entries c entry within spelled = read_again item_back c entry within spelled
 
 one_more : (events : List Event) (e : Event) → length (events ++ e ∷ []) ≡ length events + 1
 one_more events e = length-append events (e ∷ [])
@@ -67,15 +62,15 @@ pub record IsNext (old new : Recording) (entry : Recorded) : Type 0 where
   pub calls : new.calls ≡ old.calls + length (filter is_call (event_of entry ∷ []))
 
 pub recorded-next : (old new : Recording) (events : List Event) (entry : Recorded) → limit_broken old.room.settings ≡ None → IsRecorded old events
-    → IsSpelled old.room.settings entry → is_utf8 (entry_line old.room.settings entry) ≡ true → fault_in old.room.settings events entry ≡ None
+    → IsSpelled old.room.settings entry → is_utf8 (entry_line old.room.settings entry) ≡ true → fault_in Two old.room.settings events entry ≡ None
     → Stands new.room (events ++ event_of entry ∷ []) → IsNext old new entry → IsRecorded new (events ++ event_of entry ∷ [])
 recorded-next old new events entry within r spelled utf8 right stands n =
     let more = events ++ event_of entry ∷ [] in
     let led : IsLed old.room.settings (take old.at events) (old.lines ++ with_end (entry_line old.room.settings entry)) more =
-    entry-next entries old.room.settings (take old.at events) events old.lines entry within spelled utf8 right r.led in
+    entry-next old.room.settings (take old.at events) events old.lines entry within spelled utf8 right r.led in
     let early : old.at ≤ length more = longer old.at (length events) (length more) r.early (one_more events (event_of entry)) in
     let begin : take new.at more ≡ take old.at events = ap (λ k. take k more) n.at ∙ take-append-le old.at events (event_of entry ∷ []) r.early in
-    let is : entry_of old.room.settings (at events (event_of entry)) ≡ Some entry = right-told old.room.settings events entry right in
+    let is : entry_of old.room.settings (at events (event_of entry)) ≡ Some entry = right-whole old.room.settings events entry right in
     let since : drop new.at (steps more) ≡ drop old.at (steps events) ++ at events (event_of entry) ∷ [] =
     ap (λ k. drop k (steps more)) n.at ∙ happened old.at events (event_of entry) r.early in
     record {
@@ -103,14 +98,14 @@ uncounted n = omega arith
 -- ---- a new record
 
 nothing : (c : Configuration) (events : List Event) → IsLed c events [] events
-nothing c events rest = refl
+nothing c events earlier rest = refl
 
 -- before anything happened
-pub recorded-new : (h : Home) (channel : ℕ) (c : Configuration) (lines : List ℕ) → h ≡ home channel c (state_of c []) → lines ≡ []
+pub recorded-new : (h : RoomValue) (channel : ℕ) (c : Configuration) (lines : List ℕ) → h ≡ room_value channel c (state_of c []) → lines ≡ []
     → IsRecorded (record { room = h; at = 0; lines = lines; calls = 0 }) []
 recorded-new h channel c lines e none =
-    subst (λ (x : Home). IsRecorded (record { room = x; at = 0; lines = lines; calls = 0 }) []) (sym e)
-    (subst (λ text. IsRecorded (record { room = home channel c (state_of c []); at = 0; lines = text; calls = 0 }) []) (sym none)
+    subst (λ (x : RoomValue). IsRecorded (record { room = x; at = 0; lines = lines; calls = 0 }) []) (sym e)
+    (subst (λ text. IsRecorded (record { room = room_value channel c (state_of c []); at = 0; lines = text; calls = 0 }) []) (sym none)
     (record { stands = refl; early = omega arith; led = nothing c []; calls = refl; told = refl; spelled = refl }))
 
 -- the record begins anew: nothing is told of what happened before
@@ -118,7 +113,7 @@ pub recorded-anew : (r : Recording) (n : ℕ) (lines : List ℕ) (events : List 
     → IsRecorded (record { room = r.room; at = n; lines = lines; calls = 0 }) events
 recorded-anew r n lines events all none s =
     let c = r.room.settings in
-    let is : n ≡ length events = all ∙ ap (λ (h : Home). h.events) s.stands in
+    let is : n ≡ length events = all ∙ ap (λ (h : RoomValue). h.events) s.stands in
     let none_since : drop n (steps events) ≡ [] = drop_all n (steps events) (omega (arith, is, steps-many [] events)) in
     record {
       stands = s.stands;
@@ -131,5 +126,5 @@ recorded-anew r n lines events all none s =
       spelled = none ∙ ap (flat_map (line_of c)) (sym none_since);
     }
 
-pub none-open : (h : Home) (channel : ℕ) (c : Configuration) (free : ℕ) → h ≡ home channel c (state_of c []) → spare * length h.slots ≤ free
-none-open h channel c free e = let n : length h.slots ≡ 0 = ap (λ (x : Home). length x.slots) e in omega (arith, n)
+pub none-open : (h : RoomValue) (channel : ℕ) (c : Configuration) (free : ℕ) → h ≡ room_value channel c (state_of c []) → spare * length h.slots ≤ free
+none-open h channel c free e = let n : length h.slots ≡ 0 = ap (λ (x : RoomValue). length x.slots) e in omega (arith, n)

@@ -4,13 +4,13 @@ use Rattle.std.proofs.lemmas.List.{length-append, length-map}
 use Rattle.std.specs.List.{list_any}
 use Rattle.ll_verdict.specs.Waiting.{has_ticket, ticket_in}
 use Rattle.ll_room.specs.Answers.{is_open, new_tickets}
-use Rattle.ll_room.specs.Home.{Home, among, less, tickets}
+use Rattle.ll_room.specs.RoomValue.{RoomValue, among, less, tickets}
 use Rattle.ll_room.specs.declared.asked.Asked.{Asked}
 use Rattle.ll_room.specs.declared.asked.Asked.TheVariants.{Held, Now}
 use Rattle.ll_verdict.specs.declared.entry.Slot.{Slot}
 use Rattle.ll_record.specs.Kept.{spare}
 
-many : (h : Home) → length (tickets h) ≡ length h.slots
+many : (h : RoomValue) → length (tickets h) ≡ length h.slots
 many h = length-map h.slots ticket_in
 
 open_among : (t : ℕ) (ss : List Slot) → list_any (has_ticket t) ss ≡ among t (map ticket_in ss)
@@ -36,7 +36,7 @@ fewer t [] e = absurd (true≢false (sym e))
 fewer t (n ∷ ns) e = fewer_by t n ns (less t ns) (n == t) (among t ns) (no_more t ns) (fewer t ns) e
 
 -- one that was open is closed: its line takes what was kept for it
-pub spare-less : (h new : Home) (t line free left : ℕ) → is_open h t ≡ true → tickets new ≡ less t (tickets h) → spare * length h.slots ≤ free
+pub spare-less : (h new : RoomValue) (t line free left : ℕ) → is_open h t ≡ true → tickets new ≡ less t (tickets h) → spare * length h.slots ≤ free
     → line ≤ spare → free ≤ left + line → spare * length new.slots ≤ left
 spare-less h new t line free left is e enough short taken =
     let here = fewer t (tickets h) (sym (open_among t h.slots) ∙ is) in
@@ -45,11 +45,11 @@ spare-less h new t line free left is e enough short taken =
     omega (arith, here, new_many, old_many, enough, short, taken)
 
 -- the same requests are open
-pub spare-same : (h new : Home) (left : ℕ) → tickets new ≡ tickets h → spare * length h.slots ≤ left → spare * length new.slots ≤ left
+pub spare-same : (h new : RoomValue) (left : ℕ) → tickets new ≡ tickets h → spare * length h.slots ≤ left → spare * length new.slots ≤ left
 spare-same h new left e enough = subst (λ n. spare * n ≤ left) (sym (many h) ∙ ap length (sym e) ∙ many new) enough
 
 -- one more is open at most
-pub spare-more : (h new : Home) (ns : List ℕ) (left : ℕ) → tickets new ≡ tickets h ++ ns → length ns ≤ 1 → spare * (length h.slots + 1) ≤ left → spare * length new.slots ≤ left
+pub spare-more : (h new : RoomValue) (ns : List ℕ) (left : ℕ) → tickets new ≡ tickets h ++ ns → length ns ≤ 1 → spare * (length h.slots + 1) ≤ left → spare * length new.slots ≤ left
 spare-more h new ns left e few enough =
     let new_many : length new.slots ≡ length (tickets h) + length ns = sym (many new) ∙ ap length e ∙ length-append (tickets h) ns in
     let old_many = many h in

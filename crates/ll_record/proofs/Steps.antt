@@ -6,6 +6,7 @@ use Rattle.ll_directive.specs.Targets.{WantValue}
 use Rattle.ll_entry.specs.Lines.{IsSpelled, entry_line}
 use Rattle.ll_entry.specs.declared.entry.Recorded.{Recorded}
 use Rattle.ll_entry.specs.declared.entry.Recorded.TheVariants as recorded
+use Rattle.ll_entry.specs.declared.version.Version.TheVariants.{Two}
 use Rattle.ll_item.specs.Settings.{Configuration, limit_broken}
 use Rattle.ll_item.specs.declared.item.Item.{Item}
 use Rattle.ll_entry.proofs.WritableProof.{item-writable}
@@ -13,8 +14,8 @@ use Rattle.ll_room.proofs.AcceptLemmas.{refusal-told}
 use Rattle.ll_room.specs.Answers as room
 use Rattle.ll_verdict.specs.Full.{is_full}
 use Rattle.ll_room.specs.Full.{refusal_by}
-use Rattle.ll_room.specs.Home.{Home, Stands, home}
-use Rattle.ll_room.specs.Mark.{Mark}
+use Rattle.ll_room.specs.RoomValue.{RoomValue, Stands, room_value}
+use Rattle.ll_room.specs.StampedValue.{StampedValue}
 use Rattle.ll_room.specs.Ticket.{Ticket}
 use Rattle.ll_room.specs.declared.asked.Closed.TheVariants as given_up
 use Rattle.ll_room.specs.declared.asked.Collected.TheVariants.{Got}
@@ -39,7 +40,7 @@ pub record IsTold (old new : Recording) (entry : Recorded) : Type 0 where
 -- it is right after these events
 pub record IsRight (old new : Recording) (entry : Recorded) (events : List Event) : Type 0 where
   pub spelled : IsSpelled old.room.settings entry
-  pub right : fault_in old.room.settings events entry ≡ None
+  pub right : fault_in Two old.room.settings events entry ≡ None
   pub stands : Stands new.room (events ++ event_of entry ∷ [])
 
 step : (old new : Recording) (entry : Recorded) (events : List Event) → IsTold old new entry → IsRecorded old events → IsRight old new entry events
@@ -58,10 +59,10 @@ publish-step old new item t none kept stands events r =
     })
 
 -- what a channel comes to with a request doesn't depend on the channel's name in it
-renamed : (h : Home) (c : Configuration) (events : List Event) (want : WantValue) → Stands h (events ++ Ask want ∷ [])
+renamed : (h : RoomValue) (c : Configuration) (events : List Event) (want : WantValue) → Stands h (events ++ Ask want ∷ [])
     → Stands h (events ++ Ask (of_channel c want) ∷ [])
 renamed h c events want st =
-    st ∙ ap (home h.channel h.settings) (state-snoc h.settings events (Ask want) ∙ sym (state-snoc h.settings events (Ask (of_channel c want))))
+    st ∙ ap (room_value h.channel h.settings) (state-snoc h.settings events (Ask want) ∙ sym (state-snoc h.settings events (Ask (of_channel c want))))
 
 pub ask-step : (old new : Recording) (want : WantValue) (answer : Option Outcome)
     → IsTold old new (recorded.Ask (old.room.asks + 1) (of_channel old.room.settings want) answer) → is_full old.room.events ≡ false
@@ -87,7 +88,7 @@ clock-step old new ms t unfull early spelled stands events r =
       stands = stands events r.stands;
     })
 
-pub collect-step : (old new : Recording) (p : Ticket) (m : Mark Reply) → IsTold old new (recorded.Collect p.ticket (outcome_of m.value))
+pub collect-step : (old new : Recording) (p : Ticket) (m : StampedValue Reply) → IsTold old new (recorded.Collect p.ticket (outcome_of m.value))
     → IsSpelled old.room.settings (recorded.Collect p.ticket (outcome_of m.value)) → Got m ≡ room.collected old.room p
     → ((events : List Event) → Stands old.room events → Stands new.room (events ++ Collect p.ticket ∷ []))
     → (events : List Event) → IsRecorded old events → IsRecorded new (events ++ Collect p.ticket ∷ [])

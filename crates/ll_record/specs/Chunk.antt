@@ -1,8 +1,7 @@
 -- A record that was handed out.
-use Rattle.std.specs.Prelude.{◌≡◌, ◌+◌, ℕ, List, [], ◌++◌, take}
-use Rattle.ll_attr.specs.Words.{pieces_at}
-use Rattle.ll_entry.specs.Chain.{Between, Chain, chain_of, checked_from}
-use Rattle.ll_entry.specs.Leads.{IsOf, chunk_text}
+use Rattle.std.specs.Prelude.{◌≡◌, ◌+◌, ℕ, List, [], Option, Some, true, take}
+use Rattle.ll_entry.specs.Chain.{Chain, entries, is_channel}
+use Rattle.ll_entry.specs.Leads.{IsChunkOf, chain_of, chunk_text}
 use Rattle.ll_verdict.specs.Events.{Event}
 use Rattle.ll_record.specs.Recording.{Recording}
 
@@ -16,10 +15,13 @@ pub record IsChunk (r : Recording) (k : ChunkValue) : Type 0 where
   pub text : k.text ≡ chunk_text r.room.settings r.at r.lines
   pub entries : r.at + k.entries ≡ r.room.events
 
--- A chain that has told the events before the record is right with its chunk too, and goes on with all of these events.
-abbrev pub IsFaithful : Recording → List Event → ChunkValue → Type 0
-IsFaithful r events k = (ch : Chain) (rest : List ℕ) → ch.events ≡ take r.at events → IsOf r.room.settings ch.known
-    → checked_from Between ch (pieces_at 10 (k.text ++ rest)) ≡ checked_from Between (chain_of r.room.settings events) (pieces_at 10 rest)
+-- The chunk of a record is right after a chain that has told the events before the record, which then has all of these events; and where the
+-- record is the first of its channel, after any chains of the channel, of an earlier start of the program.
+pub record IsFaithful (r : Recording) (events : List Event) (k : ChunkValue) : Type 0 where
+  pub goes_on : (ch : Chain) → ch.events ≡ take r.at events → ch.settings ≡ r.room.settings
+      → IsChunkOf (Some ch) k.text (chain_of r.room.settings ch.earlier events)
+  pub begins : r.at ≡ 0 → (before : Option Chain) → is_channel before r.room.settings ≡ true
+      → IsChunkOf before k.text (chain_of r.room.settings (entries before) events)
 
 -- the record begins anew, after all events so far
 abbrev pub emptied : Recording → Recording

@@ -7,14 +7,14 @@ use Rattle.ll_item.specs.declared.item.Item.{Item}
 use Rattle.ll_entry.specs.Leads.{IsLed}
 use Rattle.ll_entry.specs.Told.{can_happen, line_of}
 use Rattle.ll_verdict.specs.Full.{full_by, refusal_after}
-use Rattle.ll_room.specs.Home.{Home, IsSame, Stands}
+use Rattle.ll_room.specs.RoomValue.{RoomValue, IsSame, Stands}
 use Rattle.ll_rendition.specs.Refusal.{first_refusal}
 use Rattle.ll_verdict.specs.Events.{Event, Publish, Ask, Collect, Close, Clock, steps}
 use Rattle.ll_rendition.specs.declared.fault.PublishFault.{PublishFault}
 
 pub record Recording : Type 0 where
   -- what is kept of the channel
-  pub room : Home
+  pub room : RoomValue
   -- how many events there were when its record was last handed out
   pub at : ℕ
   -- the lines of the events since then, each with its end

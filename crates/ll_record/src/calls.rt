@@ -8,7 +8,7 @@ ghost use Rattle.ll_record.specs.Kept.{spare};
 ghost use Rattle.ll_record.specs.Recording.{GoesOn, IsRecorded, is_record_full, of_channel, record_refusal};
 ghost use Rattle.ll_room.specs.Answers.{asked, new_tickets, others};
 ghost use Rattle.ll_verdict.specs.Full.{event_end, is_full};
-ghost use Rattle.ll_room.specs.Home.{tickets};
+ghost use Rattle.ll_room.specs.RoomValue.{tickets};
 ghost use Rattle.ll_room.specs.declared.stamped.Stamp.TheVariants as stamp;
 ghost use Rattle.ll_entry.specs.ItemLines.{HasAttributes};
 ghost use Rattle.ll_verdict.specs.Events.{Event, Ask, Clock, Publish};
@@ -92,7 +92,7 @@ impl Recorder {
         }
         room.settings().within_limits();
         let decision = room.decide(&want);
-        let outcome = decision.outcome(room.count());
+        let outcome = decision.outcome(room);
         let Ok(line) = request_line(*alloc, room, lines, &want, outcome) else {
             return Err(AskFault::Memory);
         };

@@ -3,8 +3,10 @@ ghost use Rattle.std.specs.Prelude.{◌≡◌, ◌++◌, IfOk, codes, decimal, s
 ghost use Rattle.std.specs.Str.{is_utf8};
 ghost use Rattle.ll_entry.specs.Leads.{chunk_text};
 ghost use Rattle.ll_entry.specs.ItemLines.{settings_line};
+ghost use Rattle.ll_entry.specs.Versions.{first_line};
+ghost use Rattle.ll_entry.specs.declared.version.Version.TheVariants.{Two};
 
-use ll_entry::push_settings;
+use ll_entry::{Version, settings_text};
 use ll_item::Settings;
 use std::alloc::{AllocError, Global};
 use std::marker::Model;
@@ -57,22 +59,14 @@ impl Chunk {
     }
 }
 
-/// The settings line.
-fn settings_text(alloc: Global, settings: &Settings) -> Result<String, AllocError>
-    ensures { IfOk result (λ t. string_bytes t ≡ settings_line settings.now) }
-{
-    let mut text = String::new(alloc);
-    push_settings(&mut text, settings)?;
-    Ok(text)
-}
-
 /// The first three lines of a chunk.
 #[tactic(auto, using(crate::proofs::Texts::is_text))]
 fn begin_of(alloc: Global, settings: &str, at: u64) -> Result<String, AllocError>
-    ensures text { IfOk result (λ t. string_bytes t ≡ codes "#LLHLS-CHUNK 1\n" ++ (settings.now ++ (codes "\nat " ++ (decimal at ++ codes "\n")))) }
+    ensures text { IfOk result (λ t. string_bytes t ≡ first_line Two ++ (codes "\n" ++ (settings.now ++ (codes "\nat " ++ (decimal at ++ codes "\n"))))) }
     ensures settings { is_utf8 settings.now ≡ true }
 {
-    format!(in alloc; "#LLHLS-CHUNK 1\n{settings}\nat {at}\n")
+    let first = Version::Two.first_line();
+    format!(in alloc; "{first}\n{settings}\nat {at}\n")
 }
 
 /// The whole text of a chunk that begins so.

@@ -1,7 +1,7 @@
 ghost use Rattle.std.specs.Prelude.{◌≡◌, [], List, IfOk, OnErr, OnOk};
 ghost use Rattle.ll_record.specs.Chunk.{IsChunk, IsFaithful, emptied};
 ghost use Rattle.ll_record.specs.Recording.{IsRecorded};
-ghost use Rattle.ll_room.specs.Home.{home};
+ghost use Rattle.ll_room.specs.RoomValue.{room_value};
 ghost use Rattle.ll_verdict.specs.Events.{Event};
 ghost use Rattle.ll_verdict.specs.State.{state_of};
 
@@ -44,7 +44,7 @@ impl Recorder {
     /// The recorder of a room of this number for a channel of these settings, to which nothing has happened. It fails only where no
     /// memory is found.
     pub fn new(alloc: Global, channel: u64, settings: Settings) -> Result<Recorder, AllocError>
-        ensures new { IfOk result (λ r. r ≡ record { room = home channel settings (state_of settings []); at = 0; lines = []; calls = 0 }) }
+        ensures new { IfOk result (λ r. r ≡ record { room = room_value channel settings (state_of settings []); at = 0; lines = []; calls = 0 }) }
         ensures recorded { IfOk result (λ r. IsRecorded r []) }
     {
         Ok(Recorder {

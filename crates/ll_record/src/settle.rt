@@ -2,7 +2,7 @@
 ghost use Rattle.std.specs.Prelude.{◌≡◌, ◌++◌, ◌∷◌, [], List, false, true};
 ghost use Rattle.ll_record.specs.Recording.{GoesOn, IsRecorded};
 ghost use Rattle.ll_room.specs.Answers as answers;
-ghost use Rattle.ll_room.specs.Home.{less, tickets};
+ghost use Rattle.ll_room.specs.RoomValue.{less, tickets};
 ghost use Rattle.ll_verdict.specs.Events.{Event, Close, Collect};
 
 use crate::recorder::Recorder;

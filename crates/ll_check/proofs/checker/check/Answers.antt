@@ -1,7 +1,7 @@
 -- Bytes that are read to their end from the start come to what is counted then.
-use Rattle.std.proofs.Common.{◌≡◌, true}
+use Rattle.std.proofs.Common.{◌≡◌, None, true}
 use Rattle.ll_attr.specs.Words.{pieces_at}
-use Rattle.ll_entry.specs.Chain.{Between, checked, checked_from, not_before, start}
+use Rattle.ll_entry.specs.Chain.{Between, checked, checked_from, not_before}
 use Rattle.ll_check.proofs.LaterLemmas.{wants-none}
 use Rattle.ll_check.proofs.ChunkLemmas.{where-err, where-ok, whole}
 use Rattle.ll_check.proofs.checker.check.Goals as goal
@@ -18,5 +18,5 @@ returns-clause-wrong c =
 
 pub returns-clause-memory : goal.returns-clause-memory
 returns-clause-memory c =
-    wants-none (λ f. not_before f.entry (checked_from Between start (pieces_at 10 c.args.bytes.now)) ≡ true) c.new-checker.result c.read.new.self c.args.bytes.now c.count.result
+    wants-none (λ f. not_before f.entry (checked_from (Between None) (pieces_at 10 c.args.bytes.now)) ≡ true) c.new-checker.result c.read.new.self c.args.bytes.now c.count.result
     c.new-checker.ensures c.in_ok-read.ensures.right c.count.ensures

@@ -1,14 +1,12 @@
-use Rattle.std.specs.Prelude.{◌≤◌, List, length}
+use Rattle.std.specs.Prelude.{◌≤◌, length}
 use Rattle.ll_attr.specs.Words.{pieces_at}
-use Rattle.ll_check.specs.Found.{SoFar}
-use Rattle.ll_room.specs.Home.{Stands}
-use Rattle.ll_verdict.specs.Events.{Event}
+use Rattle.ll_check.specs.Found.{IsOf, SoFar}
+use Rattle.ll_entry.specs.Chain.{Chain}
 use Rattle.ll_check.proofs.chunk.read_entries.Given as goal
 
 abbrev pub invariant-loop-line : goal.invariant-loop-line
 invariant-loop-line l = record {
-  so_far : (events : List Event) → Stands l.initial.replayer events
-      → SoFar l.replayer l.initial.replayer.settings events (pieces_at 10 l.initial.text) (pieces_at 10 l.rest);
+  so_far : (ch : Chain) → IsOf l.initial.chain ch → SoFar l.chain ch (pieces_at 10 l.initial.text) (pieces_at 10 l.rest);
   shorter : length l.rest ≤ length l.initial.text;
 }
 

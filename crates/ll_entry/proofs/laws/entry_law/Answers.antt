@@ -3,4 +3,4 @@ use Rattle.ll_entry.proofs.EntryLines.{read_again}
 use Rattle.ll_entry.proofs.laws.entry_law.Goals as goal
 
 pub returns : goal.returns
-returns c law configuration entry none h = read_again law configuration entry none h
+returns c = read_again

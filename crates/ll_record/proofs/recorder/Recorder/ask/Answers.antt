@@ -7,7 +7,7 @@ use Rattle.ll_item.specs.Settings.{limit_broken}
 use Rattle.ll_entry.specs.Leads.{with_end}
 use Rattle.std.specs.Prelude.{option_map}
 use Rattle.ll_room.specs.Answers.{new_tickets}
-use Rattle.ll_room.specs.Home.{Stands}
+use Rattle.ll_room.specs.RoomValue.{Stands}
 use Rattle.ll_verdict.specs.Events.{Event, Ask}
 use Rattle.ll_verdict.specs.Outcome.{outcome_of}
 use Rattle.ll_verdict.specs.Verdict.{at_once, held}
@@ -43,7 +43,7 @@ told c = record {
 outcome-is : (c : After-drop-line) (events : List Event) → Stands c.self.inside.room events
     → c.outcome-outcome.result ≡ option_map outcome_of (at_once c.self.inside.room.settings (held c.self.inside.room.settings events) events c.args.want)
 outcome-is c events stands =
-    c.outcome-outcome.ensures c.self.inside.room (sym c.count.ensures) ∙ ap (option_map outcome_of) (sym (c.decide-decision.ensures.reply events stands))
+    c.outcome-outcome.ensures ∙ ap (option_map outcome_of) (sym (c.decide-decision.ensures.reply events stands))
 
 next : (c : After-drop-line) (events : List Event) → IsRecorded (the_view c.self.inside) events
     → IsRecorded (after c) (events ++ Ask (of_channel c.self.inside.room.settings c.args.want) ∷ [])

@@ -1,0 +1,213 @@
+//! The first three lines of a chunk, which say whose it is and where it stands.
+ghost use Rattle.std.specs.Prelude.{◌≡◌, ◌≢◌, ◌<◌, IfErr, IfOk, IfSome, MatchOption, OnOk, Option, Some, Err, is_some, length, true};
+ghost use Rattle.std.specs.Bool.{Decides};
+ghost use Rattle.ll_attr.specs.Words.{pieces_at};
+ghost use Rattle.ll_check.specs.Found.{IsAt, IsBegun, IsInside, met};
+ghost use Rattle.ll_entry.specs.Chain as spec;
+ghost use Rattle.ll_entry.specs.Chain.{Between, Inside, another, begun, begun_by, checked_from, go_on, joined_at, wrong};
+ghost use Rattle.ll_entry.specs.Versions as version;
+ghost use Rattle.ll_item.specs.Same.{same_settings};
+ghost use Rattle.ll_item.specs.Settings.{Configuration, settings_in};
+
+use crate::chain::{Chain, MOST_EARLIER, entries_of, is_channel};
+use crate::lines::{cut_line, text_in};
+use ll_attr::after;
+use ll_entry::{CheckKind, Version};
+use ll_format::number;
+use ll_item::{Settings, SettingsFault};
+use ll_room::Replayer;
+use std::alloc::Global;
+
+/// What the first three lines of a chunk tell.
+#[derive(Clone, Copy)]
+struct Header<'a> {
+    /// The format of its entries.
+    version: Version,
+    /// The settings line.
+    settings: &'a str,
+    /// How many entries of its chain stand before the chunk.
+    at: u64,
+}
+
+/// Reads a chunk's first three lines, where such a chunk can come next, and answers what stands after them.
+pub(crate) fn begin<'a>(
+    alloc: Global,
+    chain: &mut Option<Chain>,
+    text: &'a [u8],
+) -> Result<&'a [u8], CheckKind>
+    requires { 0 < length text.now }
+    ensures begun { (before : Option spec.Chain) → IsAt chain.old before → IfOk result (λ rest. IsInside chain.new
+        (λ ch. checked_from (Between before) (pieces_at 10 text.now) ≡ checked_from (Inside ch) (pieces_at 10 rest.now))) }
+    ensures wrong { (before : Option spec.Chain) → IsAt chain.old before
+        → IfErr result (λ k. k ≢ CheckKind.Memory → checked_from (Between before) (pieces_at 10 text.now) ≡ wrong before k) }
+    ensures kept { IfOk result (λ rest. is_some chain.new ≡ true) }
+    ensures shorter { IfOk result (λ rest. length rest.now < length text.now) }
+{
+    let Some((header, rest)) = header_of(text) else {
+        return Err(CheckKind::BadChunk);
+    };
+    join(alloc, chain, header)?;
+    Ok(rest)
+}
+
+/// What the first three lines of a chunk tell, where they have their form, and what stands after them.
+fn header_of(text: &[u8]) -> Option<(Header<'_>, &[u8])>
+    requires { 0 < length text.now }
+    ensures header { (before : Option spec.Chain) → MatchOption result (checked_from (Between before) (pieces_at 10 text.now) ≡ wrong before CheckKind.BadChunk)
+        (λ h. checked_from (Between before) (pieces_at 10 text.now) ≡ go_on before (begun_by before (Some h.0.version) (settings_in h.0.settings.now) (Some h.0.at))
+        (λ ch. checked_from (Inside ch) (pieces_at 10 h.1.now))) }
+    ensures shorter { IfSome result (λ h. length h.1.now < length text.now) }
+{
+    let (first, rest) = cut_line(text)?;
+    let (settings, rest) = cut_line(rest)?;
+    let (at, rest) = cut_line(rest)?;
+    match told(first, settings, at) {
+        Some(header) => Some((header, rest)),
+        None => None,
+    }
+}
+
+/// What these lines tell as the first three of a chunk, where they have their form.
+fn told<'a>(first: &'a [u8], settings: &'a [u8], at: &'a [u8]) -> Option<Header<'a>>
+    ensures { (before : Option spec.Chain) → MatchOption result (begun before (spec.text_in first.now) (spec.text_in settings.now) (spec.text_in at.now) ≡ Err CheckKind.BadChunk)
+        (λ h. begun before (spec.text_in first.now) (spec.text_in settings.now) (spec.text_in at.now) ≡ begun_by before (Some h.version) (settings_in h.settings.now) (Some h.at)) }
+{
+    let first = text_in(first)?;
+    let settings = text_in(settings)?;
+    let at = text_in(at)?;
+    told_by(first, settings, at)
+}
+
+/// What these texts tell as the first three lines of a chunk, where they have their form.
+fn told_by<'a>(first: &'a str, settings: &'a str, at: &'a str) -> Option<Header<'a>>
+    ensures { (before : Option spec.Chain) → MatchOption result (begun before (Some first.now) (Some settings.now) (Some at.now) ≡ Err CheckKind.BadChunk)
+        (λ h. begun before (Some first.now) (Some settings.now) (Some at.now) ≡ begun_by before (Some h.version) (settings_in h.settings.now) (Some h.at)) }
+{
+    let version = Version::read(first)?;
+    match place_in(at) {
+        Some(at) => Some(Header {
+            version,
+            settings,
+            at,
+        }),
+        None => None,
+    }
+}
+
+/// The number in a line `at N`.
+fn place_in(line: &str) -> Option<u64>
+    ensures { result ≡ spec.place_in line.now }
+{
+    number(after(line, "at ")?, u64::MAX)
+}
+
+/// Begins the chain that a chunk begins, or goes on with the one that it goes on with. Want of memory comes after the faults that need no settings.
+fn join(alloc: Global, chain: &mut Option<Chain>, header: Header<'_>) -> Result<(), CheckKind>
+    ensures right { (before : Option spec.Chain) → IsAt chain.old before
+        → OnOk result (IsBegun chain.new (begun_by before (Some header.entry.version) (settings_in header.entry.settings.now) (Some header.entry.at))) }
+    ensures wrong { (before : Option spec.Chain) → IsAt chain.old before
+        → IfErr result (λ k. k ≢ CheckKind.Memory → begun_by before (Some header.entry.version) (settings_in header.entry.settings.now) (Some header.entry.at) ≡ Err k) }
+    ensures kept { OnOk result (is_some chain.new ≡ true) }
+{
+    let fault = place_fault(chain, header);
+    match Settings::read(alloc, header.settings) {
+        Ok(settings) => match fault {
+            Some(fault) => Err(fault),
+            None => meet(alloc, chain, header, settings),
+        },
+        Err(SettingsFault::Memory) => Err(fault.unwrap_or(CheckKind::Memory)),
+        Err(_) => Err(CheckKind::BadChunk),
+    }
+}
+
+/// Why a chunk of this format can't stand at this place after the chains so far, whatever its settings; none where it can.
+fn place_fault(chain: &Option<Chain>, header: Header<'_>) -> Option<CheckKind>
+    ensures { (before : Option spec.Chain) (c : Configuration) → IsAt chain.now before
+        → MatchOption result (joined_at before header.entry.version c header.entry.at ≡ met before header.entry.version c header.entry.at)
+        (λ k. joined_at before header.entry.version c header.entry.at ≡ Err k) }
+{
+    if header.at == 0 {
+        return None;
+    }
+    let Some(chain) = chain else {
+        return Some(CheckKind::Gap);
+    };
+    if is_older(header.version, chain.version) {
+        return Some(CheckKind::BadChunk);
+    }
+    if header.at != chain.replayer.room().events() {
+        return Some(CheckKind::Gap);
+    }
+    None
+}
+
+/// Begins a chain of these settings, or goes on with the last one where it has them.
+fn meet(
+    alloc: Global,
+    chain: &mut Option<Chain>,
+    header: Header<'_>,
+    settings: Settings,
+) -> Result<(), CheckKind>
+    ensures right { (before : Option spec.Chain) → IsAt chain.old before
+        → OnOk result (IsBegun chain.new (met before header.entry.version settings header.entry.at)) }
+    ensures wrong { (before : Option spec.Chain) → IsAt chain.old before
+        → IfErr result (λ k. k ≢ CheckKind.Memory → met before header.entry.version settings header.entry.at ≡ Err k) }
+    ensures kept { OnOk result (is_some chain.new ≡ true) }
+{
+    if header.at == 0 {
+        return begin_another(alloc, chain, header.version, settings);
+    }
+    let Some(chain) = chain else {
+        return Err(CheckKind::Gap);
+    };
+    if !is_same(chain.settings(), &settings) {
+        return Err(CheckKind::OtherChannel);
+    }
+    chain.version = header.version;
+    Ok(())
+}
+
+/// Begins another chain, of a channel of these settings.
+fn begin_another(
+    alloc: Global,
+    chain: &mut Option<Chain>,
+    version: Version,
+    settings: Settings,
+) -> Result<(), CheckKind>
+    ensures right { (before : Option spec.Chain) → IsAt chain.old before → OnOk result (IsBegun chain.new (another before version settings)) }
+    ensures wrong { (before : Option spec.Chain) → IsAt chain.old before → IfErr result (λ k. k ≢ CheckKind.Memory → another before version settings ≡ Err k) }
+    ensures kept { OnOk result (is_some chain.new ≡ true) }
+{
+    if !is_channel(chain, &settings) {
+        return Err(CheckKind::OtherChannel);
+    }
+    let earlier = entries_of(chain);
+    if earlier > MOST_EARLIER {
+        return Err(CheckKind::Memory);
+    }
+    *chain = Some(Chain {
+        replayer: Replayer::new(alloc, 0, settings)?,
+        version,
+        earlier,
+    });
+    Ok(())
+}
+
+/// Whether settings are equal.
+#[tactic(auto, using(ll_item::proofs::SameLemmas::settings_decided))]
+fn is_same(a: &Settings, b: &Settings) -> bool
+    ensures value { result ≡ same_settings a.now b.now }
+    ensures equal { Decides result (a.now ≡ b.now) }
+{
+    a == b
+}
+
+/// Whether a chunk of one format can't follow one of the other in a chain.
+fn is_older(a: Version, b: Version) -> bool
+    ensures { result ≡ version.is_older a b }
+{
+    match (a, b) {
+        (Version::One, Version::Two) => true,
+        _ => false,
+    }
+}

@@ -1,0 +1,62 @@
+//! The formats of a chunk.
+ghost use Rattle.std.specs.Prelude.{◌≡◌};
+ghost use Rattle.ll_entry.specs.Replies as replies;
+ghost use Rattle.ll_entry.specs.Versions as spec;
+
+use ll_item::SkipKind;
+use ll_verdict::Outcome;
+
+/// The format of a chunk, as its first line names it.
+#[derive(Clone, Copy, PartialEq, Eq)]
+pub enum Version {
+    /// `#LLHLS-CHUNK 1`: of a playlist the count of items is told and not which delta update it is, a request for `v2` was answered as
+    /// one for `YES`, and nothing is told of a part's media.
+    One,
+    /// `#LLHLS-CHUNK 2`: a playlist is told with the delta update that it is, a part with the length of its media.
+    Two,
+}
+
+impl Version {
+    /// The first line of a chunk of this format.
+    pub fn first_line(self) -> &'static str
+        ensures { result.now ≡ spec.first_line self }
+    {
+        match self {
+            Version::One => "#LLHLS-CHUNK 1",
+            Version::Two => "#LLHLS-CHUNK 2",
+        }
+    }
+
+    /// The format of a chunk that begins with this line; none where no chunk does.
+    pub fn read(line: &str) -> Option<Version>
+        ensures { result ≡ spec.version.read line.now }
+    {
+        if line == Version::One.first_line() {
+            Some(Version::One)
+        } else if line == Version::Two.first_line() {
+            Some(Version::Two)
+        } else {
+            None
+        }
+    }
+
+    /// What a record of this format tells of what a reply comes to: in format 1 not which delta update a playlist is.
+    pub fn told(self, outcome: Outcome) -> Outcome
+        ensures { result ≡ replies.told_in self outcome }
+    {
+        match (self, outcome) {
+            (Version::One, Outcome::Text(count, _)) => Outcome::Text(count, None),
+            (_, told) => told,
+        }
+    }
+
+    /// Which delta update a request asked for that is recorded so: in format 1 one for `v2` was answered as one for `YES`.
+    pub(crate) fn asked_for(self, skip: Option<SkipKind>) -> Option<SkipKind>
+        ensures { result ≡ replies.asked_for self skip }
+    {
+        match self {
+            Version::One => skip.and(Some(SkipKind::Yes)),
+            Version::Two => skip,
+        }
+    }
+}
