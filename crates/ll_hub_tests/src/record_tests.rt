@@ -189,12 +189,12 @@ fn chunk<L: Ledgers, R: Wait + Abort>(rt: &R, hub: &Hub<L>, channel: usize) -> C
     hub.rotate(rt, channel).expect(rt, "a chunk")
 }
 
-/// The items in a record.
+/// The items in a record, in which the length of its media stands after a part.
 fn items(rt: &impl Abort, alloc: Global, record: &str) -> String {
     let mut items = String::new(alloc);
     for line in record.lines() {
         if let Some(item) = line.strip_prefix("P ") {
-            push(rt, &mut items, item);
+            push(rt, &mut items, item.strip_suffix(" 0").unwrap_or(item));
             push(rt, &mut items, "\n");
         }
     }
