@@ -1,7 +1,8 @@
 #!/usr/bin/env bash
 # record.sh PROGRAM: `llhls serve` with a line `record` in its settings, on real sockets. Two channels are published, asked and waited for at once; then
-# `llhls check` is to find their records right, and each with the items that were published. A byte of one is changed at a thousand places: `check` is to
-# find it, where the byte tells anything; before that the server is started again with the same files. Then come files that can't be opened or written. The last line is `N passed, M failed`.
+# `llhls check` is to find their records right, and each with the items that were published. The server is started again with the same files, which have a
+# chain more then. A byte of one is changed at a thousand places: `check` is to find it, where the byte tells anything. Then come files that can't be opened
+# or written. The last line is `N passed, M failed`.
 . "$(dirname "${BASH_SOURCE[0]}")/server.sh" || exit 2
 take_program "$1"
 # Within so many seconds, and some to spare, the server hands out each record.
