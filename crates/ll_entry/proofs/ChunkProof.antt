@@ -14,7 +14,7 @@ use Rattle.ll_format.proofs.WordLaws.{number-laws}
 use Rattle.ll_format.specs.Format.{◌>>=◌}
 use Rattle.ll_format.specs.Words.{is_one_line}
 use Rattle.ll_entry.proofs.ChainLemmas.{header-is, three}
-use Rattle.ll_entry.specs.Chain.{Between, Chain, another, begun, begun_by, checked_from, continued, entries, is_channel, joined_at, place_in, text_in}
+use Rattle.ll_entry.specs.Chain.{Between, Chain, another, begun, begun_by, checked_from, continued, entries, is_channel, joined_at, text_in}
 use Rattle.ll_entry.specs.declared.fault.CheckKind.{CheckKind}
 use Rattle.ll_entry.specs.declared.fault.CheckKind.TheVariants.{BadChunk, Gap, OtherChannel}
 use Rattle.ll_entry.specs.Replies.{count, most}
@@ -23,7 +23,7 @@ use Rattle.ll_item.specs.Same.{same_settings}
 use Rattle.ll_item.specs.Settings.{Configuration, limit_broken, settings_in}
 use Rattle.ll_entry.specs.ItemLines.{settings_line}
 use Rattle.ll_entry.specs.Leads.{ChunkLaw, FirstChunkLaw, IsChunkOf, IsLed, chain_of, chunk_text}
-use Rattle.ll_entry.specs.Versions.{first_line, is_older, last_line, version}
+use Rattle.ll_entry.specs.Frame.{first_line, header_text, is_older, last_line, place, version}
 use Rattle.ll_entry.specs.declared.version.Version.{Version}
 use Rattle.ll_entry.specs.declared.version.Version.TheVariants.{One, Two}
 use Rattle.ll_verdict.specs.Events.{Event}
@@ -35,18 +35,19 @@ use Rattle.ll_entry.proofs.SettingsBack.{settings_back}
 abbrev pub at_line : ℕ → List ℕ
 at_line n = codes "at " ++ decimal n
 
-text_is : (settings number lines rest : List ℕ)
-    → (codes "#LLHLS-CHUNK 2\n" ++ (settings ++ (codes "\nat " ++ (number ++ (codes "\n" ++ (lines ++ codes "#END\n")))))) ++ rest
-    ≡ first_line Two ++ 10 ∷ (settings ++ 10 ∷ ((codes "at " ++ number) ++ 10 ∷ (lines ++ (last_line ++ 10 ∷ rest))))
-text_is settings number lines rest =
-    ap (λ t. first_line Two ++ 10 ∷ t) (append_assoc settings (codes "\nat " ++ (number ++ (codes "\n" ++ (lines ++ codes "#END\n")))) rest
-    ∙ ap (λ t. settings ++ 10 ∷ (codes "at " ++ t)) (append_assoc number (codes "\n" ++ (lines ++ codes "#END\n")) rest
-    ∙ ap (λ t. number ++ 10 ∷ t) (append_assoc lines (codes "#END\n") rest)))
+text_is : (settings at lines rest : List ℕ)
+    → ((first_line Two ++ 10 ∷ (settings ++ 10 ∷ (at ++ 10 ∷ []))) ++ (lines ++ codes "#END\n")) ++ rest
+    ≡ first_line Two ++ 10 ∷ (settings ++ 10 ∷ (at ++ 10 ∷ (lines ++ (last_line ++ 10 ∷ rest))))
+text_is settings at lines rest =
+    ap (λ t. first_line Two ++ 10 ∷ t) (append_assoc (settings ++ 10 ∷ (at ++ 10 ∷ [])) (lines ++ codes "#END\n") rest
+    ∙ append_assoc settings (10 ∷ (at ++ 10 ∷ [])) ((lines ++ codes "#END\n") ++ rest)
+    ∙ ap (λ t. settings ++ 10 ∷ t) (append_assoc at (10 ∷ []) ((lines ++ codes "#END\n") ++ rest)
+    ∙ ap (λ t. at ++ 10 ∷ t) (append_assoc lines (codes "#END\n") rest)))
 
 chunk_is : (c : Configuration) (n : ℕ) (lines rest : List ℕ)
     → chunk_text c n lines ++ rest ≡ first_line Two ++ 10 ∷ (settings_line c ++ 10 ∷ (at_line n ++ 10 ∷ (lines ++ (last_line ++ 10 ∷ rest))))
-unfolding chunk_text
-chunk_is c n lines rest = text_is (settings_line c) (decimal n) lines rest
+unfolding chunk_text header_text
+chunk_is c n lines rest = text_is (settings_line c) (at_line n) lines rest
 
 -- ---- what the first three tell
 
@@ -88,7 +89,7 @@ version_again Two = refl
 at_utf8 : (n : ℕ) → n ≤ most → is_utf8 (at_line n) ≡ true
 at_utf8 n small = ascii_text (at_line n) (IsAscii-append (codes "at ") (decimal n) (ascii (codes "at ") refl) (IsAscii-decimal n (omega arith)))
 
-place_is : (n : ℕ) → n ≤ most → place_in (at_line n) ≡ Some n
+place_is : (n : ℕ) → n ≤ most → place.read (at_line n) ≡ Some n
 place_is n small = ap (λ o. o >>= count.read) (key_again (codes "at ") (decimal n)) ∙ (number-laws most word).again n small
 
 same_self : (c : Configuration) → same_settings c c ≡ true
@@ -107,8 +108,8 @@ begun_is before v c settings n read text few =
     ap (λ o. begun before o (text_in settings) (text_in (at_line n))) (text_of (first_line v) (first_utf8 v))
     ∙ ap (λ o. begun before (Some (first_line v)) o (text_in (at_line n))) (text_of settings text)
     ∙ ap (begun before (Some (first_line v)) (Some settings)) (text_of (at_line n) (at_utf8 n few))
-    ∙ ap (λ o. begun_by before o (settings_in settings) (place_in (at_line n))) (version_again v)
-    ∙ ap (λ r. begun_by before (Some v) r (place_in (at_line n))) read
+    ∙ ap (λ o. begun_by before o (settings_in settings) (place.read (at_line n))) (version_again v)
+    ∙ ap (λ r. begun_by before (Some v) r (place.read (at_line n))) read
     ∙ ap (begun_by before (Some v) (Ok c)) (place_is n few)
 
 -- a chunk at its beginning, of the channel of the chains so far, begins another

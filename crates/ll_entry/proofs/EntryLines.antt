@@ -1,5 +1,5 @@
 -- The line of an entry is read as that entry, in the format that is written; and the fields of a line are read again in each format.
-use Rattle.std.proofs.Common.{◌≡◌, ℕ, ◌≤◌, ◌-◌, ◌+◌, ◌++◌, List, [], true, false, Option, Some, None, Ok, refl, ap, sym, ◌∙◌, codes, decimal, length, take, length-append, bytes_eq, arith, if◌then◌else◌}
+use Rattle.std.proofs.Common.{◌≡◌, ℕ, ◌≤◌, ◌-◌, ◌++◌, List, [], true, false, Option, Some, None, Ok, refl, ap, sym, ◌∙◌, codes, decimal, length, take, length-append, bytes_eq, arith, if◌then◌else◌}
 use Rattle.std.proofs.lemmas.Bool.{and_from}
 use Rattle.std.proofs.Math.Seq.{take-append_seam}
 use Rattle.std.proofs.lemmas.Bool.Decides.{Decides-eqb}
@@ -11,20 +11,19 @@ use Rattle.ll_directive.specs.declared.want.Awaited.{Awaited}
 use Rattle.ll_directive.specs.declared.want.Awaited.TheVariants.{Nothing, Segment, Part}
 use Rattle.ll_format.specs.Format.{◌>>=◌, Format, up_to}
 use Rattle.ll_format.specs.Words.{is_one_line}
-use Rattle.ll_format.proofs.FormatLaws.{FormatLaws, up_to-laws, to_end-laws, beside-laws, after_key-laws, key_again, inside_both}
-use Rattle.ll_item.specs.Items.{item_in}
+use Rattle.ll_format.proofs.FormatLaws.{FormatLaws, up_to-laws, to_end-laws, key_again, inside_both}
 use Rattle.ll_item.specs.Names.{is_name}
 use Rattle.ll_item.specs.Settings.{Configuration, limit_broken}
 use Rattle.ll_item.proofs.WithinLimits.{within}
 use Rattle.ll_item.specs.declared.item.Item.{Item}
 use Rattle.ll_item.specs.declared.item.Item.TheVariants as item
-use Rattle.ll_entry.specs.ItemLines.{IsWritable, item_line, part_line, break_line, end_line, range_line, unrange_line, flags_text, name_of, with_id}
+use Rattle.ll_entry.specs.ItemLines.{IsWritable, item_line, part_line, break_line, end_line, range_line, unrange_line, flags_text, name_of}
 use Rattle.ll_verdict.specs.declared.reply.Outcome.{Outcome}
-use Rattle.ll_entry.specs.Entries.{reply_fields, place_fields, ask_fields, collect_fields, want_by, ask_of, collect_of, entry_by, before, is_part_line, item_text, publish_by, published, with_key, entry_in}
+use Rattle.ll_entry.specs.Entries.{reply_fields, place_fields, ask_fields, collect_fields, want_by, ask_of, collect_of, entry_by, before, item_text, publish_by, published, with_key, entry_in}
 use Rattle.ll_entry.specs.Laws.{EntryLaw}
 use Rattle.ll_entry.specs.Lines.{msn_of, part_of, ask_values, entry_line, published_line, AwaitedWithin, IsSpelled}
 use Rattle.ll_entry.specs.Replies.{most, count, or_dash, WithinDash, OutcomeWithin, awaited_of}
-use Rattle.ll_entry.specs.Versions.{last_line}
+use Rattle.ll_entry.specs.Frame.{last_line}
 use Rattle.ll_entry.specs.declared.entry.Recorded.{Recorded}
 use Rattle.ll_entry.specs.declared.entry.Recorded.TheVariants.{Publish, Ask, Clock, Collect, Close}
 use Rattle.ll_entry.specs.declared.version.Version.{Version}

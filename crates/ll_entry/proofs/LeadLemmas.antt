@@ -13,11 +13,9 @@ use Rattle.ll_entry.specs.Entered.{event_of, fault_in}
 use Rattle.ll_entry.specs.declared.fault.CheckFault.{CheckFault}
 use Rattle.ll_entry.specs.Entries.{entry_in}
 use Rattle.ll_entry.specs.Lines.{entry_line}
-use Rattle.ll_entry.specs.Versions.{last_line}
+use Rattle.ll_entry.specs.Frame.{last_line}
 use Rattle.ll_entry.specs.declared.entry.Recorded.{Recorded}
 use Rattle.ll_format.specs.Words.{is_line_byte, is_one_line}
-use Rattle.ll_item.specs.Settings.{Configuration}
-use Rattle.ll_verdict.specs.Events.{Event}
 use Rattle.ll_entry.specs.Leads.{EntryNextLaw, NextLaw, chain_of, with_end}
 use Rattle.ll_entry.proofs.EntryLines.{read_again}
 

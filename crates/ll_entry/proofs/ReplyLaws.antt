@@ -4,7 +4,7 @@ use Rattle.std.proofs.lemmas.Bool.{and_parts}
 use Rattle.std.proofs.lemmas.Slice.Eq.{bytes_eq-Decides}
 use Rattle.std.specs.List.{list_all}
 use Rattle.ll_attr.specs.Words.{after}
-use Rattle.ll_format.specs.Format.{Format, ◌>>=◌, Word, to_end, up_to}
+use Rattle.ll_format.specs.Format.{Format, ◌>>=◌, Word}
 use Rattle.ll_format.specs.Words.{is_line_byte}
 use Rattle.ll_format.proofs.FormatLaws.{FormatLaws, WordLaws, after_key-laws, beside-laws, bind_some, some_is, lacks, inside_both, key_takes, key_again, one_of-laws, to_end-laws, up_to-laws, whole-laws}
 use Rattle.ll_format.proofs.WordLaws.{number-laws, number-lacks, text_if-laws, lacks_from, inside_from}

@@ -1,16 +1,14 @@
 -- Chains of chunks: the record of one channel from its start on, cut into pieces; and after it that of the channel from another start on, as
 -- a program writes it that was started again.
-use Rattle.std.specs.Prelude.{ℕ, ◌+◌, ◌==◌, List, [], ◌∷◌, ◌++◌, Bool, true, not, Option, Some, None, Result, Ok, Err, length, nat_le, bytes_eq, codes, if◌then◌else◌}
+use Rattle.std.specs.Prelude.{ℕ, ◌+◌, ◌==◌, List, [], ◌∷◌, ◌++◌, Bool, true, not, Option, Some, None, Result, Ok, Err, length, nat_le, bytes_eq, if◌then◌else◌}
 use Rattle.std.specs.Str.{is_utf8}
-use Rattle.ll_attr.specs.Words.{after, pieces_at}
+use Rattle.ll_attr.specs.Words.{pieces_at}
 use Rattle.ll_entry.specs.Entered.{event_of, fault_in}
 use Rattle.ll_entry.specs.Entries.{entry_in}
-use Rattle.ll_entry.specs.Replies.{count}
-use Rattle.ll_entry.specs.Versions.{is_older, last_line, version}
+use Rattle.ll_entry.specs.Frame.{is_older, last_line, place, version}
 use Rattle.ll_entry.specs.declared.entry.EntryFault.{EntryFault}
 use Rattle.ll_entry.specs.declared.entry.EntryFault.TheVariants as entry
 use Rattle.ll_entry.specs.declared.entry.Recorded.{Recorded}
-use Rattle.ll_format.specs.Format.{◌>>=◌}
 use Rattle.ll_item.specs.Same.{same_settings}
 use Rattle.ll_item.specs.Settings.{Configuration, settings_in}
 use Rattle.ll_item.specs.declared.settings.SettingsFault.{SettingsFault}
@@ -42,10 +40,6 @@ entries (Some ch) = ch.earlier + length ch.events
 abbrev pub text_in : List ℕ → Option (List ℕ)
 text_in line = if is_utf8 line then Some line else None
 
--- the number in a line `at N`
-abbrev pub place_in : List ℕ → Option ℕ
-place_in line = after (codes "at ") line >>= count.read
-
 -- whether these settings are of the channel of the chains so far
 abbrev pub is_channel : Option Chain → Configuration → Bool
 is_channel None c = true
@@ -76,7 +70,7 @@ begun_by before v settings at = Err BadChunk
 -- the chain of a chunk that begins with these lines: `#LLHLS-CHUNK 1` or `#LLHLS-CHUNK 2`, a settings line, and `at N` with the number of
 -- its entries before it
 abbrev pub begun : Option Chain → Option (List ℕ) → Option (List ℕ) → Option (List ℕ) → Result Chain CheckKind
-begun before (Some first) (Some settings) (Some at) = begun_by before (version.read first) (settings_in settings) (place_in at)
+begun before (Some first) (Some settings) (Some at) = begun_by before (version.read first) (settings_in settings) (place.read at)
 begun before first settings at = Err BadChunk
 
 -- ---- each further line

@@ -4,7 +4,7 @@ use Rattle.ll_format.specs.Words.{is_one_line}
 use Rattle.ll_item.specs.Settings.{Configuration, limit_broken}
 use Rattle.ll_entry.specs.Entries.{entry_in}
 use Rattle.ll_entry.specs.Lines.{IsSpelled, entry_line}
-use Rattle.ll_entry.specs.Versions.{last_line}
+use Rattle.ll_entry.specs.Frame.{last_line}
 use Rattle.ll_entry.specs.declared.entry.Recorded.{Recorded}
 use Rattle.ll_entry.specs.declared.version.Version.TheVariants.{Two}
 

@@ -1,12 +1,12 @@
 -- Lines of a record that were written one after another, and what a check makes of them.
-use Rattle.std.specs.Prelude.{◌≡◌, ℕ, ◌≤◌, List, [], ◌∷◌, ◌++◌, true, false, Option, Some, None, Ok, length, bytes_eq, codes, decimal}
+use Rattle.std.specs.Prelude.{◌≡◌, ℕ, ◌≤◌, List, [], ◌∷◌, ◌++◌, true, false, Option, Some, None, Ok, length, bytes_eq, codes}
 use Rattle.std.specs.Str.{is_utf8}
 use Rattle.ll_attr.specs.Words.{pieces_at}
 use Rattle.ll_entry.specs.Chain.{Between, Chain, Inside, checked_from, entries, is_channel, with_line}
 use Rattle.ll_entry.specs.Entered.{event_of, fault_in}
 use Rattle.ll_entry.specs.Lines.{IsSpelled, entry_line}
 use Rattle.ll_entry.specs.Replies.{most}
-use Rattle.ll_entry.specs.Versions.{first_line, last_line}
+use Rattle.ll_entry.specs.Frame.{header_text, last_line}
 use Rattle.ll_entry.specs.declared.version.Version.TheVariants.{Two}
 use Rattle.ll_entry.specs.declared.entry.Recorded.{Recorded}
 use Rattle.ll_format.specs.Words.{is_one_line}
@@ -46,8 +46,7 @@ EntryNextLaw = (c : Configuration) (before after : List Event) (lines : List ℕ
 
 -- the chunk of these lines of entries, with so many entries before it
 unfoldable pub chunk_text : Configuration → ℕ → List ℕ → List ℕ
-chunk_text c at lines =
-    first_line Two ++ (codes "\n" ++ (settings_line c ++ (codes "\nat " ++ (decimal at ++ (codes "\n" ++ (lines ++ (last_line ++ codes "\n")))))))
+chunk_text c at lines = header_text Two (settings_line c) at ++ (lines ++ (last_line ++ codes "\n"))
 
 -- A chunk leads from these chains to that one: whatever follows it, a check comes to the same with it as without it after that chain.
 abbrev pub IsChunkOf : Option Chain → List ℕ → Chain → Type 0

@@ -1,6 +1,7 @@
 pub mod Chain
 pub mod Entered
 pub mod Entries
+pub mod Frame
 pub mod ItemLaws
 pub mod ItemLines
 pub mod Laws
@@ -8,5 +9,4 @@ pub mod Leads
 pub mod Lines
 pub mod Replies
 pub mod Told
-pub mod Versions
 pub mod Writable

@@ -1,5 +1,5 @@
 -- How a record tells what a reply comes to, and what a request asks for, in each format.
-use Rattle.std.specs.Prelude.{◌≡◌, ℕ, List, [], ◌∷◌, ◌++◌, false, Option, Some, None, bytes_eq, codes, decimal, if◌then◌else◌, option_map}
+use Rattle.std.specs.Prelude.{◌≡◌, ℕ, List, [], ◌∷◌, ◌++◌, false, Option, Some, None, bytes_eq, codes, if◌then◌else◌, option_map}
 use Rattle.ll_attr.specs.Words.{after}
 use Rattle.ll_directive.specs.declared.want.Awaited.{Awaited}
 use Rattle.ll_directive.specs.declared.want.Awaited.TheVariants.{Nothing, Segment, Part}

@@ -5,6 +5,7 @@
 
 mod entry;
 mod fault;
+mod frame;
 mod item;
 mod laws;
 mod reading;
@@ -15,6 +16,7 @@ mod writing;
 
 pub use entry::{EntryFault, Recorded};
 pub use fault::{CheckFault, CheckKind};
+pub use frame::{LAST_LINE, header_text, place_in};
 pub use laws::{
     chunk_law, entry_law, entry_next_law, first_chunk_law, item_law, item_writable_law, next_law,
     nothing_law, settings_law,

@@ -1,7 +1,7 @@
 //! The formats of a chunk.
 ghost use Rattle.std.specs.Prelude.{◌≡◌};
 ghost use Rattle.ll_entry.specs.Replies as replies;
-ghost use Rattle.ll_entry.specs.Versions as spec;
+ghost use Rattle.ll_entry.specs.Frame as spec;
 
 use ll_item::SkipKind;
 use ll_verdict::Outcome;

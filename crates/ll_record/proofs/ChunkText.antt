@@ -1,5 +1,5 @@
 -- The text of a chunk, and what a check makes of it.
-use Rattle.std.proofs.Common.{◌≡◌, ℕ, ◌+◌, ◌≤◌, ◌^◌, List, [], ◌∷◌, ◌++◌, Some, None, true, ap, ◌∙◌, sym, subst, append_assoc, codes, decimal, length, take, arith}
+use Rattle.std.proofs.Common.{◌≡◌, ℕ, ◌+◌, ◌≤◌, ◌^◌, List, [], ◌∷◌, ◌++◌, Some, None, true, ap, ◌∙◌, sym, subst, codes, length, take, arith}
 use Rattle.std.proofs.lemmas.List.{length-take-le}
 use Rattle.std.proofs.lemmas.Slice.Eq.{bytes_eq-Decides}
 use Rattle.std.specs.Str.{is_utf8}
@@ -8,7 +8,7 @@ use Rattle.ll_entry.specs.Replies.{most}
 use Rattle.ll_item.specs.Settings.{Configuration, limit_broken}
 use Rattle.ll_entry.proofs.ChunkProof.{chunk, first-chunk}
 use Rattle.ll_entry.specs.Leads.{IsChunkOf, IsLed, chain_of, chunk_text}
-use Rattle.ll_entry.specs.Versions.{first_line}
+use Rattle.ll_entry.specs.Frame.{header_text, last_line}
 use Rattle.ll_entry.specs.declared.version.Version.TheVariants.{Two}
 use Rattle.ll_room.specs.RoomValue.{RoomValue}
 use Rattle.ll_entry.specs.ItemLines.{settings_line}
@@ -16,18 +16,10 @@ use Rattle.ll_verdict.specs.Events.{Event}
 use Rattle.ll_record.specs.Chunk.{ChunkValue, IsFaithful}
 use Rattle.ll_record.specs.Recording.{IsRecorded, Recording}
 
-joined : (a s b d e z : List ℕ) → (a ++ (s ++ (b ++ (d ++ e)))) ++ z ≡ a ++ (s ++ (b ++ (d ++ (e ++ z))))
-joined a s b d e z =
-    append_assoc a (s ++ (b ++ (d ++ e))) z
-    ∙ ap (λ t. a ++ t) (append_assoc s (b ++ (d ++ e)) z ∙ ap (λ t. s ++ t) (append_assoc b (d ++ e) z ∙ ap (λ t. b ++ t) (append_assoc d e z)))
-
-pub chunk-is : (c : Configuration) (at : ℕ) (lines begin settings : List ℕ)
-    → begin ≡ first_line Two ++ (codes "\n" ++ (settings ++ (codes "\nat " ++ (decimal at ++ codes "\n")))) → settings ≡ settings_line c
-    → begin ++ (lines ++ codes "#END\n") ≡ chunk_text c at lines
+pub chunk-is : (c : Configuration) (at : ℕ) (lines header settings : List ℕ) → header ≡ header_text Two settings at → settings ≡ settings_line c
+    → header ++ (lines ++ (last_line ++ codes "\n")) ≡ chunk_text c at lines
 unfolding chunk_text
-chunk-is c at lines begin settings e s =
-    ap (λ t. t ++ (lines ++ codes "#END\n")) (e ∙ ap (λ t. first_line Two ++ (codes "\n" ++ (t ++ (codes "\nat " ++ (decimal at ++ codes "\n"))))) s)
-    ∙ joined (first_line Two ++ codes "\n") (settings_line c) (codes "\nat ") (decimal at) (codes "\n") (lines ++ codes "#END\n")
+chunk-is c at lines header settings e s = ap (λ t. t ++ (lines ++ (last_line ++ codes "\n"))) (e ∙ ap (λ t. header_text Two t at) s)
 
 small : (at n m : ℕ) → at ≤ n → m ≡ n → m ≤ 2 ^ 61 → at ≤ most
 small at n m a e h = omega (arith, a, e, h)

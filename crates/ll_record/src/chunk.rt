@@ -1,12 +1,11 @@
 //! A record that was handed out.
-ghost use Rattle.std.specs.Prelude.{◌≡◌, ◌++◌, IfOk, codes, decimal, string_bytes, true};
+ghost use Rattle.std.specs.Prelude.{◌≡◌, ◌++◌, IfOk, codes, true};
 ghost use Rattle.std.specs.Str.{is_utf8};
 ghost use Rattle.ll_entry.specs.Leads.{chunk_text};
+ghost use Rattle.ll_entry.specs.Frame.{last_line};
 ghost use Rattle.ll_entry.specs.ItemLines.{settings_line};
-ghost use Rattle.ll_entry.specs.Versions.{first_line};
-ghost use Rattle.ll_entry.specs.declared.version.Version.TheVariants.{Two};
 
-use ll_entry::{Version, settings_text};
+use ll_entry::{LAST_LINE, Version, header_text, settings_text};
 use ll_item::Settings;
 use std::alloc::{AllocError, Global};
 use std::marker::Model;
@@ -39,8 +38,9 @@ impl Chunk {
         ensures text { IfOk result (λ k. k ≡ record { text = chunk_text settings.now at lines.now; entries = entries }) }
         ensures settings { IfOk result (λ k. is_utf8 (settings_line settings.now) ≡ true) }
     {
-        let begin = begin_of(alloc, settings_text(alloc, settings)?.as_str(), at)?;
-        let text = whole(alloc, begin.as_bytes(), lines)?;
+        let settings = settings_text(alloc, settings)?;
+        let header = header_text(alloc, Version::Two, settings.as_str(), at)?;
+        let text = whole(alloc, header.as_bytes(), lines)?;
         Ok(Chunk { text, entries })
     }
 
@@ -59,28 +59,18 @@ impl Chunk {
     }
 }
 
-/// The first three lines of a chunk.
-#[tactic(auto, using(crate::proofs::Texts::is_text))]
-fn begin_of(alloc: Global, settings: &str, at: u64) -> Result<String, AllocError>
-    ensures text { IfOk result (λ t. string_bytes t ≡ first_line Two ++ (codes "\n" ++ (settings.now ++ (codes "\nat " ++ (decimal at ++ codes "\n"))))) }
-    ensures settings { is_utf8 settings.now ≡ true }
+/// The whole text of a chunk with these first three lines.
+fn whole(alloc: Global, header: &[u8], lines: &[u8]) -> Result<Vec<u8>, AllocError>
+    ensures { IfOk result (λ t. t.items ≡ header.now ++ (lines.now ++ (last_line ++ codes "\n"))) }
 {
-    let first = Version::Two.first_line();
-    format!(in alloc; "{first}\n{settings}\nat {at}\n")
-}
-
-/// The whole text of a chunk that begins so.
-fn whole(alloc: Global, begin: &[u8], lines: &[u8]) -> Result<Vec<u8>, AllocError>
-    ensures { IfOk result (λ t. t.items ≡ begin.now ++ (lines.now ++ codes "#END\n")) }
-{
-    const END: &[u8] = b"#END\n";
-    let length = begin
+    let length = header
         .len()
         .saturating_add(lines.len())
-        .saturating_add(END.len());
+        .saturating_add(LAST_LINE.len() + 1);
     let mut text = Vec::with_capacity(alloc, length)?;
-    text.extend_from_slice(begin)?;
+    text.extend_from_slice(header)?;
     text.extend_from_slice(lines)?;
-    text.extend_from_slice(END)?;
+    text.extend_from_slice(LAST_LINE.as_bytes())?;
+    text.push(b'\n')?;
     Ok(text)
 }
