@@ -9,7 +9,7 @@ use Rattle.ll_entry.specs.Chain.{Between, Chain, Inside, begun, checked, checked
 use Rattle.ll_entry.specs.Entries.{entry_in}
 use Rattle.ll_entry.specs.Replies.{most}
 use Rattle.ll_entry.specs.Told.{as_told}
-use Rattle.ll_entry.specs.Versions.{first_line, is_older, last_line}
+use Rattle.ll_entry.specs.Frame.{first_line, is_older, last_line}
 use Rattle.ll_entry.specs.declared.entry.Recorded.{Recorded}
 use Rattle.ll_entry.specs.declared.fault.CheckFault.{CheckFault}
 use Rattle.ll_entry.specs.declared.version.Version.{Version}

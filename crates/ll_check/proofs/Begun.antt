@@ -4,12 +4,12 @@ use Rattle.std.proofs.lemmas.Bool.Decides.{nat_tests}
 use Rattle.std.proofs.lemmas.Slice.Eq.{bytes_eq-Decides}
 use Rattle.std.specs.Str.{is_utf8}
 use Rattle.ll_attr.specs.Words.{after}
-use Rattle.ll_entry.specs.Chain.{Chain, another, begun, begun_by, continued, entries, entry_at, is_channel, joined, joined_by, place_in, text_in, with_line}
+use Rattle.ll_entry.specs.Chain.{Chain, another, begun, begun_by, continued, entries, entry_at, is_channel, joined, joined_by, text_in, with_line}
 use Rattle.ll_entry.specs.Entered.{event_of, fault_in}
 use Rattle.ll_entry.specs.Entries.{entry_in}
 use Rattle.ll_entry.specs.Replies.{count, most}
 use Rattle.ll_entry.specs.Told.{as_told, entry_after}
-use Rattle.ll_entry.specs.Versions.{first_line, is_older, version}
+use Rattle.ll_entry.specs.Frame.{first_line, is_older, place, version}
 use Rattle.ll_entry.specs.declared.entry.EntryFault.{EntryFault}
 use Rattle.ll_entry.specs.declared.entry.Recorded.{Recorded}
 use Rattle.ll_entry.specs.declared.fault.CheckKind.{CheckKind}
@@ -84,7 +84,7 @@ joined-is (Some old) v c n ch false some h =
 
 -- ---- the first three lines
 
-begun_parts : (before : Option Chain) (v : Option Version) (s : Result Configuration SettingsFault) (o : Option ℕ) (ch : Chain) → begun_by before v s o ≡ Ok ch
+pub begun_parts : (before : Option Chain) (v : Option Version) (s : Result Configuration SettingsFault) (o : Option ℕ) (ch : Chain) → begun_by before v s o ≡ Ok ch
     → (v ≡ Some ch.version) × (s ≡ Ok ch.settings) × (o ≡ Some (length ch.events)) × Next before ch
 begun_parts before (Some v) (Ok c) (Some n) ch h =
     let j = joined-is before v c n ch (n == 0) refl h in (ap Some j.version, ap Ok j.settings, ap Some j.place, j.next)
@@ -93,7 +93,7 @@ begun_parts before v s o ch h = cc
 abbrev word : most < 2 ^ 64
 word = omega arith
 
-place_is : (at : List ℕ) (n : ℕ) → place_in at ≡ Some n → at ≡ codes "at " ++ decimal n
+place_is : (at : List ℕ) (n : ℕ) → place.read at ≡ Some n → at ≡ codes "at " ++ decimal n
 place_is at n h =
     let p = bind_some (after (codes "at ") at) count.read n h in
     key_takes (codes "at ") at p.0 p.1 ∙ ap (λ text. codes "at " ++ text) ((number-laws most word).takes p.0 n p.2).0
@@ -122,7 +122,7 @@ text_if b line = cond b (Some line) None
 begun_if : (before : Option Chain) (first settings at : List ℕ) (ch : Chain) (a b e : Bool) → is_utf8 first ≡ a → is_utf8 settings ≡ b → is_utf8 at ≡ e
     → begun before (text_if a first) (text_if b settings) (text_if e at) ≡ Ok ch → IsBegun before first settings at ch
 begun_if before first settings at ch true true true p q r h =
-    let parts = begun_parts before (version.read first) (settings_in settings) (place_in at) ch h in
+    let parts = begun_parts before (version.read first) (settings_in settings) (place.read at) ch h in
     record { begins = version_is first ch.version parts.0; names = parts.1; place = place_is at (length ch.events) parts.2; next = parts.3; utf8 = (p, q, r) }
 begun_if before first settings at ch a b e p q r h = cc
 

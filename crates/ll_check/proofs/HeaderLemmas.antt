@@ -1,9 +1,8 @@
 -- The chain of a chunk, from its first three lines and what is kept of the chains before it.
 use Rattle.std.proofs.Common.{◌≡◌, ◌≢◌, ℕ, [], true, cond, Option, Some, None, Result, Ok, Err, IsOk, MatchOption, refl, ap, ap₂, ◌∙◌, sym, subst, true≢false}
 use Rattle.std.specs.Option.{unwrap_or}
-use Rattle.ll_check.specs.Found.{ChainValue, IsBegun, IsInside, met}
-use Rattle.ll_entry.specs.Chain.{Chain, another, begun_by, entries, go_on, is_channel, joined_at}
-use Rattle.ll_entry.specs.declared.fault.CheckFault.{CheckFault}
+use Rattle.ll_check.specs.Found.{ChainValue, IsBegun, met}
+use Rattle.ll_entry.specs.Chain.{Chain, another, begun_by, entries, is_channel, joined_at}
 use Rattle.ll_entry.specs.declared.fault.CheckKind.{CheckKind}
 use Rattle.ll_entry.specs.declared.fault.CheckKind.TheVariants.{Memory, OtherChannel}
 use Rattle.ll_entry.specs.declared.version.Version.{Version}
@@ -11,12 +10,6 @@ use Rattle.ll_item.specs.Settings.{Configuration}
 use Rattle.ll_item.specs.declared.settings.SettingsFault.{SettingsFault}
 use Rattle.ll_room.specs.RoomValue.{RoomValue, room_value}
 use Rattle.ll_verdict.specs.State.{state_of}
-
-pub begun-inside : (before : Option Chain) (kept : Option ChainValue) (r : Result Chain CheckKind) (x : Result (Option Chain) CheckFault) (from : Chain → Result (Option Chain) CheckFault)
-    → x ≡ go_on before r from → IsBegun kept r → IsInside kept (λ ch. x ≡ from ch)
-begun-inside before (Some k) (Ok ch) x from e b = (ch, b, e)
-begun-inside before (Some k) (Err kind) x from e b = absurd b
-begun-inside before None r x from e b = absurd b
 
 -- another chain begins with a room to which nothing has happened
 pub another-is : (before : Option Chain) (v : Version) (c : Configuration) (room : RoomValue) (earlier : ℕ) → is_channel before c ≡ true

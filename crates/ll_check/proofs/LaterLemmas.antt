@@ -4,9 +4,9 @@ use Rattle.std.proofs.lemmas.Bool.Decides.{nat_tests}
 use Rattle.std.proofs.lemmas.List.{length-append}
 use Rattle.ll_attr.specs.Words.{pieces_at}
 use Rattle.ll_check.specs.Found.{ChainValue, IsAt}
-use Rattle.ll_entry.specs.Chain.{Between, Chain, Inside, Position, another, begun, begun_by, checked_from, continued, counted, ended_line, entries, entry_at, go_on, is_channel, joined, joined_at, joined_by, not_before, place_in, text_in, wrong}
+use Rattle.ll_entry.specs.Chain.{Between, Chain, Inside, Position, another, begun, begun_by, checked_from, continued, counted, ended_line, entries, entry_at, go_on, is_channel, joined, joined_at, joined_by, not_before, text_in, wrong}
 use Rattle.ll_entry.specs.Entered.{event_of, fault_in}
-use Rattle.ll_entry.specs.Versions.{is_older, last_line, version}
+use Rattle.ll_entry.specs.Frame.{is_older, last_line, place, version}
 use Rattle.ll_entry.specs.declared.entry.EntryFault.{EntryFault}
 use Rattle.ll_entry.specs.declared.entry.Recorded.{Recorded}
 use Rattle.ll_entry.specs.declared.fault.CheckFault.{CheckFault}
@@ -73,7 +73,7 @@ keeps_by before (Some v) (Err fault) at = tt
 keeps_by before None s at = tt
 
 keeps_begun : (before : Option Chain) (first settings at : Option (List ℕ)) → Keeps before (begun before first settings at)
-keeps_begun before (Some first) (Some settings) (Some at) = keeps_by before (version.read first) (settings_in settings) (place_in at)
+keeps_begun before (Some first) (Some settings) (Some at) = keeps_by before (version.read first) (settings_in settings) (place.read at)
 keeps_begun before (Some first) (Some settings) None = tt
 keeps_begun before (Some first) None at = tt
 keeps_begun before None settings at = tt

@@ -1,8 +1,12 @@
 pub mod Back
 pub mod Begun
-pub mod ChunkLemmas
 pub mod Few
 pub mod HeaderLemmas
 pub mod LaterLemmas
 pub mod LineLemmas
+pub mod StepLemmas
+pub mod UpgradeLines
+pub mod UpgradeProof
+pub mod UpgradedLemmas
 pub mod Walk
+pub mod Whole

@@ -7,7 +7,7 @@ use Rattle.std.specs.List.{All, flat_map}
 use Rattle.std.specs.Str.{is_utf8}
 use Rattle.ll_attr.specs.Words.{pieces_at}
 use Rattle.ll_entry.specs.Chain.{Between, Chain, Inside, Position, begun, checked, checked_from, counted, ended_line, entries, go_on, is_channel, text_in, with_line, wrong}
-use Rattle.ll_entry.specs.Versions.{is_older, last_line}
+use Rattle.ll_entry.specs.Frame.{is_older, last_line}
 use Rattle.ll_entry.specs.declared.fault.CheckFault.{CheckFault}
 use Rattle.ll_entry.specs.declared.fault.CheckKind.{CheckKind}
 use Rattle.ll_entry.specs.declared.fault.CheckKind.TheVariants.{BadChunk}

@@ -23,3 +23,8 @@ bad_line entry name = codes "bad " ++ (decimal entry ++ (codes " " ++ (name ++ c
 abbrev pub answer_line : Result ℕ CheckFault → List ℕ
 answer_line (Ok n) = ok_line n
 answer_line (Err fault) = bad_line fault.entry (kind_name fault.kind)
+
+-- what is written of a record in format 2: its text, where it is right, and else the line that tells how it isn't
+abbrev pub upgrade_answer : Result ℕ CheckFault → List ℕ → List ℕ
+upgrade_answer (Ok n) text = text
+upgrade_answer (Err fault) text = answer_line (Err fault)

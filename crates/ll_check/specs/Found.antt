@@ -1,13 +1,12 @@
 -- What a checker keeps of the chains of a record.
-use Rattle.std.specs.Prelude.{◌≡◌, ℕ, suc, zero, List, Option, Some, None, Result, Ok, Err, if◌then◌else◌}
-use Rattle.ll_entry.specs.Chain.{Between, Chain, Inside, another, checked_from}
+use Rattle.std.specs.Prelude.{◌≡◌, ℕ, suc, zero, Option, Some, None, Result, Ok, Err, if◌then◌else◌}
+use Rattle.ll_entry.specs.Chain.{Chain, another}
 use Rattle.ll_entry.specs.declared.fault.CheckKind.{CheckKind}
 use Rattle.ll_entry.specs.declared.fault.CheckKind.TheVariants.{Gap, OtherChannel}
 use Rattle.ll_entry.specs.declared.version.Version.{Version}
 use Rattle.ll_item.specs.Same.{same_settings}
 use Rattle.ll_item.specs.Settings.{Configuration}
 use Rattle.ll_room.specs.RoomValue.{RoomValue, Stands}
-use Rattle.ll_verdict.specs.Events.{Event}
 
 pub record ChainValue : Type 0 where
   -- what is kept of its channel
@@ -28,11 +27,6 @@ IsAt None None = Unit
 IsAt (Some k) (Some ch) = IsOf k ch
 IsAt kept before = ⊥
 
--- it is what is kept of a chain of which P holds
-abbrev pub IsInside : Option ChainValue → (Chain → Type 0) → Type 0
-IsInside None P = ⊥
-IsInside (Some k) P = (ch : Chain) × IsOf k ch × P ch
-
 -- it is what is kept of the chain that a chunk begins or goes on with
 abbrev pub IsBegun : Option ChainValue → Result Chain CheckKind → Type 0
 IsBegun (Some k) (Ok ch) = IsOf k ch
@@ -48,21 +42,3 @@ abbrev pub met : Option Chain → Version → Configuration → ℕ → Result C
 met before v c zero = another before v c
 met None v c (suc at) = Err Gap
 met (Some ch) v c (suc at) = if same_settings ch.settings c then Ok (record ch { version = v }) else Err OtherChannel
-
--- lines of a chunk come to what the rest of them comes to after the chunk
-pub record GoesOn (k : ChainValue) (ch : Chain) (lines rest : List (List ℕ)) : Type 0 where
-  pub more : Chain
-  pub of : IsOf k more
-  pub same : checked_from (Inside ch) lines ≡ checked_from (Between (Some more)) rest
-
--- lines of a chunk come to what the rest of them comes to after more events
-pub record SoFar (k : ChainValue) (ch : Chain) (lines rest : List (List ℕ)) : Type 0 where
-  pub more : Chain
-  pub of : IsOf k more
-  pub same : checked_from (Inside ch) lines ≡ checked_from (Inside more) rest
-
--- lines that come after chunks come to what the rest of them comes to after more chunks
-pub record Leads (kept : Option ChainValue) (before : Option Chain) (lines rest : List (List ℕ)) : Type 0 where
-  pub now : Option Chain
-  pub at : IsAt kept now
-  pub same : checked_from (Between before) lines ≡ checked_from (Between now) rest

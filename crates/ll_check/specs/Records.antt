@@ -6,7 +6,7 @@ use Rattle.ll_attr.specs.Words.{pieces_at}
 use Rattle.ll_entry.specs.Chain.{checked}
 use Rattle.ll_entry.specs.Entries.{entry_in}
 use Rattle.ll_entry.specs.Told.{as_told, entry_of}
-use Rattle.ll_entry.specs.Versions.{first_line, is_older, last_line}
+use Rattle.ll_entry.specs.Frame.{first_line, is_older, last_line}
 use Rattle.ll_entry.specs.declared.entry.Recorded.{Recorded}
 use Rattle.ll_entry.specs.declared.version.Version.{Version}
 use Rattle.ll_item.specs.Settings.{Configuration, settings_in}

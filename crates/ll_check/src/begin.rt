@@ -2,18 +2,18 @@
 ghost use Rattle.std.specs.Prelude.{◌≡◌, ◌≢◌, ◌<◌, IfErr, IfOk, IfSome, MatchOption, OnOk, Option, Some, Err, is_some, length, true};
 ghost use Rattle.std.specs.Bool.{Decides};
 ghost use Rattle.ll_attr.specs.Words.{pieces_at};
-ghost use Rattle.ll_check.specs.Found.{IsAt, IsBegun, IsInside, met};
+ghost use Rattle.ll_check.specs.Found.{IsAt, IsBegun, met};
+ghost use Rattle.ll_check.specs.Steps.{IsHeader, Moves};
 ghost use Rattle.ll_entry.specs.Chain as spec;
-ghost use Rattle.ll_entry.specs.Chain.{Between, Inside, another, begun, begun_by, checked_from, go_on, joined_at, wrong};
-ghost use Rattle.ll_entry.specs.Versions as version;
+ghost use Rattle.ll_entry.specs.Chain.{Between, another, begun, begun_by, checked_from, joined_at, wrong};
+ghost use Rattle.ll_entry.specs.Frame as frame;
 ghost use Rattle.ll_item.specs.Same.{same_settings};
 ghost use Rattle.ll_item.specs.Settings.{Configuration, settings_in};
 
 use crate::chain::{Chain, MOST_EARLIER, entries_of, is_channel};
 use crate::lines::{cut_line, text_in};
-use ll_attr::after;
-use ll_entry::{CheckKind, Version};
-use ll_format::number;
+use crate::told::Told;
+use ll_entry::{CheckKind, Version, place_in};
 use ll_item::{Settings, SettingsFault};
 use ll_room::Replayer;
 use std::alloc::Global;
@@ -29,33 +29,34 @@ struct Header<'a> {
     at: u64,
 }
 
-/// Reads a chunk's first three lines, where such a chunk can come next, and answers what stands after them.
+/// Reads a chunk's first three lines, where such a chunk can come next, and answers what they tell and what stands after them.
 pub(crate) fn begin<'a>(
     alloc: Global,
     chain: &mut Option<Chain>,
     text: &'a [u8],
-) -> Result<&'a [u8], CheckKind>
+) -> Result<(Told<'a>, &'a [u8]), CheckKind>
     requires { 0 < length text.now }
-    ensures begun { (before : Option spec.Chain) → IsAt chain.old before → IfOk result (λ rest. IsInside chain.new
-        (λ ch. checked_from (Between before) (pieces_at 10 text.now) ≡ checked_from (Inside ch) (pieces_at 10 rest.now))) }
+    ensures right { (before : Option spec.Chain) → IsAt chain.old before
+        → IfOk result (λ r. Moves chain.new (Between before) r.0 (pieces_at 10 text.now) (pieces_at 10 r.1.now)) }
     ensures wrong { (before : Option spec.Chain) → IsAt chain.old before
         → IfErr result (λ k. k ≢ CheckKind.Memory → checked_from (Between before) (pieces_at 10 text.now) ≡ wrong before k) }
-    ensures kept { IfOk result (λ rest. is_some chain.new ≡ true) }
-    ensures shorter { IfOk result (λ rest. length rest.now < length text.now) }
+    ensures begun { OnOk result (is_some chain.new ≡ true) }
+    ensures shorter { IfOk result (λ r. length r.1.now < length text.now) }
 {
     let Some((header, rest)) = header_of(text) else {
         return Err(CheckKind::BadChunk);
     };
-    join(alloc, chain, header)?;
-    Ok(rest)
+    match join(alloc, chain, header) {
+        Ok(()) => Ok((Told::Begun(header.settings, header.at), rest)),
+        Err(kind) => Err(kind),
+    }
 }
 
 /// What the first three lines of a chunk tell, where they have their form, and what stands after them.
 fn header_of(text: &[u8]) -> Option<(Header<'_>, &[u8])>
     requires { 0 < length text.now }
     ensures header { (before : Option spec.Chain) → MatchOption result (checked_from (Between before) (pieces_at 10 text.now) ≡ wrong before CheckKind.BadChunk)
-        (λ h. checked_from (Between before) (pieces_at 10 text.now) ≡ go_on before (begun_by before (Some h.0.version) (settings_in h.0.settings.now) (Some h.0.at))
-        (λ ch. checked_from (Inside ch) (pieces_at 10 h.1.now))) }
+        (λ h. IsHeader before (begun_by before (Some h.0.version) (settings_in h.0.settings.now) (Some h.0.at)) h.0.settings.now (pieces_at 10 text.now) (pieces_at 10 h.1.now)) }
     ensures shorter { IfSome result (λ h. length h.1.now < length text.now) }
 {
     let (first, rest) = cut_line(text)?;
@@ -70,7 +71,8 @@ fn header_of(text: &[u8]) -> Option<(Header<'_>, &[u8])>
 /// What these lines tell as the first three of a chunk, where they have their form.
 fn told<'a>(first: &'a [u8], settings: &'a [u8], at: &'a [u8]) -> Option<Header<'a>>
     ensures { (before : Option spec.Chain) → MatchOption result (begun before (spec.text_in first.now) (spec.text_in settings.now) (spec.text_in at.now) ≡ Err CheckKind.BadChunk)
-        (λ h. begun before (spec.text_in first.now) (spec.text_in settings.now) (spec.text_in at.now) ≡ begun_by before (Some h.version) (settings_in h.settings.now) (Some h.at)) }
+        (λ h. (begun before (spec.text_in first.now) (spec.text_in settings.now) (spec.text_in at.now) ≡ begun_by before (Some h.version) (settings_in h.settings.now) (Some h.at))
+        × (h.settings.now ≡ settings.now)) }
 {
     let first = text_in(first)?;
     let settings = text_in(settings)?;
@@ -81,7 +83,8 @@ fn told<'a>(first: &'a [u8], settings: &'a [u8], at: &'a [u8]) -> Option<Header<
 /// What these texts tell as the first three lines of a chunk, where they have their form.
 fn told_by<'a>(first: &'a str, settings: &'a str, at: &'a str) -> Option<Header<'a>>
     ensures { (before : Option spec.Chain) → MatchOption result (begun before (Some first.now) (Some settings.now) (Some at.now) ≡ Err CheckKind.BadChunk)
-        (λ h. begun before (Some first.now) (Some settings.now) (Some at.now) ≡ begun_by before (Some h.version) (settings_in h.settings.now) (Some h.at)) }
+        (λ h. (begun before (Some first.now) (Some settings.now) (Some at.now) ≡ begun_by before (Some h.version) (settings_in h.settings.now) (Some h.at))
+        × (h.settings.now ≡ settings.now)) }
 {
     let version = Version::read(first)?;
     match place_in(at) {
@@ -92,13 +95,6 @@ fn told_by<'a>(first: &'a str, settings: &'a str, at: &'a str) -> Option<Header<
         }),
         None => None,
     }
-}
-
-/// The number in a line `at N`.
-fn place_in(line: &str) -> Option<u64>
-    ensures { result ≡ spec.place_in line.now }
-{
-    number(after(line, "at ")?, u64::MAX)
 }
 
 /// Begins the chain that a chunk begins, or goes on with the one that it goes on with. Want of memory comes after the faults that need no settings.
@@ -204,7 +200,7 @@ fn is_same(a: &Settings, b: &Settings) -> bool
 
 /// Whether a chunk of one format can't follow one of the other in a chain.
 fn is_older(a: Version, b: Version) -> bool
-    ensures { result ≡ version.is_older a b }
+    ensures { result ≡ frame.is_older a b }
 {
     match (a, b) {
         (Version::One, Version::Two) => true,

@@ -1,13 +1,15 @@
 //! Records: the chains of a channel, one after another.
-ghost use Rattle.std.specs.Prelude.{◌≡◌, ◌≢◌, ◌<◌, [], IfErr, IfOk, OnOk, Option, None, Ok, Err, length, true};
+ghost use Rattle.std.specs.Prelude.{◌≡◌, ◌≢◌, ◌<◌, ◌≤◌, ◌^◌, IfErr, IfOk, OnOk, Option, None, Ok, Err, false, is_some, length, true};
 ghost use Rattle.ll_attr.specs.Words.{pieces_at};
 ghost use Rattle.ll_entry.specs.Chain as spec;
-ghost use Rattle.ll_entry.specs.Chain.{Between, checked, checked_from, counted, not_before};
-ghost use Rattle.ll_check.specs.Found.{IsAt, Leads};
+ghost use Rattle.ll_entry.specs.Chain.{Between, Position, checked, checked_from, counted, not_before, wrong};
+ghost use Rattle.ll_check.specs.Found.{IsAt};
+ghost use Rattle.ll_check.specs.Steps.{IsThere, Moves, leads_inside, so_far};
 
 use crate::begin::begin;
 use crate::chain::{Chain, entries_of};
-use crate::chunk::read_entries;
+use crate::chunk::go_on;
+use crate::told::Told;
 use ll_entry::{CheckFault, CheckKind};
 use std::alloc::Global;
 use std::marker::Model;
@@ -58,9 +60,13 @@ impl Checker {
             → IfErr result (λ f. not_before f.entry (checked_from (Between before) (pieces_at 10 bytes.now)) ≡ true) }
     {
         let mut rest = bytes;
-        while !rest.is_empty() {
-            match self.read_chunk(rest) {
-                Ok(more) => rest = more,
+        let mut inside = false;
+        while inside || !rest.is_empty() {
+            match self.step(inside, rest) {
+                Ok((told, more)) => {
+                    inside = told.leads_inside();
+                    rest = more;
+                }
                 Err(fault) => return Err(fault),
             }
         }
@@ -80,24 +86,57 @@ impl Checker {
         }
     }
 
-    /// Goes through one chunk, and answers what stands after it.
-    fn read_chunk<'a>(&mut self, text: &'a [u8]) -> Result<&'a [u8], CheckFault>
-        requires { 0 < length text.now }
-        ensures right { (before : Option spec.Chain) → IsAt self.old before → IfOk result (λ rest. Leads self.new before (pieces_at 10 text.now) (pieces_at 10 rest.now)) }
-        ensures wrong { (before : Option spec.Chain) → IsAt self.old before
-            → IfErr result (λ f. f.kind ≢ CheckKind.Memory → checked_from (Between before) (pieces_at 10 text.now) ≡ Err f) }
-        ensures memory { (before : Option spec.Chain) → IsAt self.old before
-            → IfErr result (λ f. not_before f.entry (checked_from (Between before) (pieces_at 10 text.now)) ≡ true) }
-        ensures shorter { IfOk result (λ rest. length rest.now < length text.now) }
+    /// How many entries the chunks have so far.
+    pub(crate) fn entries(&self) -> u64
+        ensures value { (before : Option spec.Chain) → IsAt self.now before → result ≡ spec.entries before }
+        ensures few { result ≤ 2 ^ 63 }
     {
-        let entry = entries_of(&self.chain) + 1;
-        let rest = match begin(self.alloc, &mut self.chain, text) {
-            Ok(rest) => rest,
-            Err(kind) => return Err(CheckFault { entry, kind }),
-        };
-        match &mut self.chain {
-            Some(chain) => read_entries(self.alloc, chain, rest),
-            None => unreachable!(),
+        entries_of(&self.chain)
+    }
+
+    /// Goes over the next lines, and answers what they tell and what stands after them: the first three of a chunk, or, inside of one, one line.
+    pub(crate) fn step<'a>(
+        &mut self,
+        inside: bool,
+        text: &'a [u8],
+    ) -> Result<(Told<'a>, &'a [u8]), CheckFault>
+        requires some { inside ≡ false → 0 < length text.now }
+        requires begun { inside ≡ true → is_some self.old ≡ true }
+        ensures right { (p : Position) → IsThere inside self.old p → IfOk result (λ r. Moves self.new p r.0 (pieces_at 10 text.now) (pieces_at 10 r.1.now)) }
+        ensures wrong { (p : Position) → IsThere inside self.old p
+            → IfErr result (λ f. f.kind ≢ CheckKind.Memory → checked_from p (pieces_at 10 text.now) ≡ Err f) }
+        ensures memory { (p : Position) → IsThere inside self.old p → IfErr result (λ f. not_before f.entry (checked_from p (pieces_at 10 text.now)) ≡ true) }
+        ensures begun { IfOk result (λ r. leads_inside r.0 ≡ true → is_some self.new ≡ true) }
+        ensures shorter { IfOk result (λ r. length r.1.now < length text.now) }
+    {
+        let entry = self.entries() + 1;
+        match go_over(self.alloc, &mut self.chain, inside, text) {
+            Ok(step) => Ok(step),
+            Err(kind) => Err(CheckFault { entry, kind }),
         }
+    }
+}
+
+/// Goes over the next lines: the first three of a chunk, or, inside of one, one line.
+fn go_over<'a>(
+    alloc: Global,
+    chain: &mut Option<Chain>,
+    inside: bool,
+    text: &'a [u8],
+) -> Result<(Told<'a>, &'a [u8]), CheckKind>
+    requires some { inside ≡ false → 0 < length text.now }
+    requires begun { inside ≡ true → is_some chain.old ≡ true }
+    ensures right { (p : Position) → IsThere inside chain.old p → IfOk result (λ r. Moves chain.new p r.0 (pieces_at 10 text.now) (pieces_at 10 r.1.now)) }
+    ensures wrong { (p : Position) → IsThere inside chain.old p
+        → IfErr result (λ k. k ≢ CheckKind.Memory → checked_from p (pieces_at 10 text.now) ≡ wrong (so_far p) k) }
+    ensures begun { IfOk result (λ r. leads_inside r.0 ≡ true → is_some chain.new ≡ true) }
+    ensures shorter { IfOk result (λ r. length r.1.now < length text.now) }
+{
+    if !inside {
+        return begin(alloc, chain, text);
+    }
+    match chain {
+        Some(chain) => go_on(alloc, chain, text),
+        None => unreachable!(),
     }
 }

@@ -1,68 +1,54 @@
-//! The entries of a chunk, from after its first three lines to its last one.
-ghost use Rattle.std.specs.Prelude.{◌≡◌, ◌≢◌, ◌+◌, ◌<◌, IfErr, IfOk, OnOk, Some, Err, length, true};
+//! The lines of a chunk after its first three.
+ghost use Rattle.std.specs.Prelude.{◌≡◌, ◌≢◌, ◌<◌, IfErr, IfOk, Err, Some, length, option_map};
 ghost use Rattle.ll_attr.specs.Words.{pieces_at};
-ghost use Rattle.ll_check.specs.Found.{GoesOn, IsJoined, IsOf};
+ghost use Rattle.ll_check.specs.Found.{IsJoined, IsOf};
+ghost use Rattle.ll_check.specs.Steps.{Moves, in_full, without_item};
 ghost use Rattle.ll_entry.specs.Chain as spec;
-ghost use Rattle.ll_entry.specs.Chain.{Inside, checked_from, entries, not_before, with_line};
+ghost use Rattle.ll_entry.specs.Chain.{Inside, checked_from, joined, wrong};
+ghost use Rattle.ll_entry.specs.Entries.{entry_in};
 
 use crate::chain::Chain;
 use crate::entry::enter;
 use crate::lines::{cut_line, text_in};
-use ll_entry::{CheckFault, CheckKind, Recorded};
+use crate::told::{Entered, Told};
+use ll_entry::{CheckKind, LAST_LINE, Recorded};
 use std::alloc::Global;
 
-/// The last line of each chunk.
-const LAST_LINE: &[u8] = b"#END";
-
-/// Goes through the entries of a chunk to its last line, and answers what stands after that.
-pub(crate) fn read_entries<'a>(
+/// Goes over the next line of a chunk, and answers what it tells and what stands after it.
+pub(crate) fn go_on<'a>(
     alloc: Global,
     chain: &mut Chain,
     text: &'a [u8],
-) -> Result<&'a [u8], CheckFault>
-    ensures right { (ch : spec.Chain) → IsOf chain.old ch → IfOk result (λ rest. GoesOn chain.new ch (pieces_at 10 text.now) (pieces_at 10 rest.now)) }
+) -> Result<(Told<'a>, &'a [u8]), CheckKind>
+    ensures right { (ch : spec.Chain) → IsOf chain.old ch
+        → IfOk result (λ r. Moves (Some chain.new) (Inside ch) r.0 (pieces_at 10 text.now) (pieces_at 10 r.1.now)) }
     ensures wrong { (ch : spec.Chain) → IsOf chain.old ch
-        → IfErr result (λ f. f.kind ≢ CheckKind.Memory → checked_from (Inside ch) (pieces_at 10 text.now) ≡ Err f) }
-    ensures memory { (ch : spec.Chain) → IsOf chain.old ch → IfErr result (λ f. not_before f.entry (checked_from (Inside ch) (pieces_at 10 text.now)) ≡ true) }
-    ensures shorter { IfOk result (λ rest. length rest.now < length text.now) }
+        → IfErr result (λ k. k ≢ CheckKind.Memory → checked_from (Inside ch) (pieces_at 10 text.now) ≡ wrong (Some ch) k) }
+    ensures shorter { IfOk result (λ r. length r.1.now < length text.now) }
 {
-    let mut rest = text;
-    while let Some((line, more)) = cut_line(rest) {
-        rest = more;
-        if line == LAST_LINE {
-            return Ok(rest);
-        }
-        if let Err(fault) = read_line(alloc, chain, line) {
-            return Err(fault);
-        }
+    let Some((line, rest)) = cut_line(text) else {
+        return Err(CheckKind::BadChunk);
+    };
+    if line == LAST_LINE.as_bytes() {
+        return Ok((Told::Ended, rest));
     }
-    Err(CheckFault {
-        entry: chain.entries() + 1,
-        kind: CheckKind::BadChunk,
-    })
-}
-
-/// Takes the event that a line's entry tells, where the entry is right.
-fn read_line(alloc: Global, chain: &mut Chain, line: &[u8]) -> Result<(), CheckFault>
-    ensures right { (ch : spec.Chain) → IsOf chain.old ch → OnOk result (IsJoined chain.new (with_line ch line.now)) }
-    ensures wrong { (ch : spec.Chain) → IsOf chain.old ch → IfErr result (λ f. (f.entry ≡ entries (Some ch) + 1)
-        × (f.kind ≢ CheckKind.Memory → with_line ch line.now ≡ Err f.kind)) }
-{
-    let entry = chain.entries() + 1;
-    match take_line(alloc, chain, line) {
-        Ok(()) => Ok(()),
-        Err(kind) => Err(CheckFault { entry, kind }),
-    }
-}
-
-/// Takes the event that a line's entry tells, or says how the entry isn't right.
-fn take_line(alloc: Global, chain: &mut Chain, line: &[u8]) -> Result<(), CheckKind>
-    ensures right { (ch : spec.Chain) → IsOf chain.old ch → OnOk result (IsJoined chain.new (with_line ch line.now)) }
-    ensures wrong { (ch : spec.Chain) → IsOf chain.old ch → IfErr result (λ k. k ≢ CheckKind.Memory → with_line ch line.now ≡ Err k) }
-{
     let Some(line) = text_in(line) else {
         return Err(CheckKind::BadChunk);
     };
+    let version = chain.version;
+    match take(alloc, chain, line) {
+        Ok(entry) => Ok((Told::Entry(version, line, entry), rest)),
+        Err(kind) => Err(kind),
+    }
+}
+
+/// Takes the event that a line's entry tells, where the entry is right, and answers what the entry is in full.
+fn take(alloc: Global, chain: &mut Chain, line: &str) -> Result<Entered, CheckKind>
+    ensures right { (ch : spec.Chain) → IsOf chain.old ch → IfOk result (λ entry. IsJoined chain.new (joined ch (entry_in ch.version ch.settings line.now))
+        × (option_map without_item (in_full ch (entry_in ch.version ch.settings line.now)) ≡ Some entry)) }
+    ensures wrong { (ch : spec.Chain) → IsOf chain.old ch
+        → IfErr result (λ k. k ≢ CheckKind.Memory → joined ch (entry_in ch.version ch.settings line.now) ≡ Err k) }
+{
     let Chain {
         replayer,
         version,

@@ -1,8 +1,10 @@
 //! Entries, each checked as the room of its channel takes it.
-ghost use Rattle.std.specs.Prelude.{◌≡◌, ◌≢◌, ◌+◌, ◌==◌, ◌++◌, ◌∷◌, [], List, IfErr, IsErrOf, OnOk, None, Some, option_map};
+ghost use Rattle.std.specs.Prelude.{◌≡◌, ◌≢◌, ◌+◌, ◌==◌, ◌++◌, ◌∷◌, [], List, IfErr, IfOk, IsErrOf, OnOk, None, Some, option_map};
+ghost use Rattle.ll_check.specs.Steps.{without_item};
 ghost use Rattle.ll_entry.specs.Entered as spec;
 ghost use Rattle.ll_entry.specs.Entered.{event_of, fault_in};
 ghost use Rattle.ll_entry.specs.Replies.{told_in};
+ghost use Rattle.ll_entry.specs.Told.{entry_after};
 ghost use Rattle.ll_entry.specs.declared.version.Version.TheVariants.{Two};
 ghost use Rattle.ll_entry.specs.declared.entry.Recorded.TheVariants as recorded;
 ghost use Rattle.ll_room.specs.RoomValue.{Stands};
@@ -12,6 +14,7 @@ ghost use Rattle.ll_verdict.specs.Events.{Event};
 ghost use Rattle.ll_verdict.specs.Outcome.{outcome_of};
 ghost use Rattle.ll_verdict.specs.declared.reply.Reply as verdict;
 
+use crate::told::Entered;
 use ll_directive::Want;
 use ll_entry::{CheckKind, Recorded, Version};
 use ll_item::{Item, SkipKind};
@@ -19,26 +22,44 @@ use ll_room::{Replayer, Stamped};
 use ll_verdict::{Outcome, PublishFault, Reply};
 use std::alloc::AllocError;
 
-/// Takes the event of an entry of a record in this format, where the entry is right. (Items, readings and requests that are given up are told alike in
-/// both formats, so what is said of them below is said of one.)
+/// Takes the event of an entry of a record in this format, where the entry is right, and answers what the entry is in full. (Items, readings and
+/// requests that are given up are told alike in both formats, so what is said of them below is said of one.)
+#[tactic(auto, using(crate::proofs::StepLemmas::full_of))]
 pub(crate) fn enter(
     replayer: &mut Replayer,
     version: Version,
     entry: Recorded,
-) -> Result<(), CheckKind>
+) -> Result<Entered, CheckKind>
     ensures right { (events : List Event) → Stands replayer.old events → OnOk result
         ((fault_in version replayer.old.settings events entry ≡ None) × Stands replayer.new (events ++ event_of entry ∷ [])) }
+    ensures full { (events : List Event) → Stands replayer.old events
+        → IfOk result (λ full. option_map without_item (entry_after replayer.old.settings events (event_of entry)) ≡ Some full) }
     ensures wrong { (events : List Event) → Stands replayer.old events
         → IfErr result (λ k. k ≢ CheckKind.Memory → fault_in version replayer.old.settings events entry ≡ Some k) }
     ensures memory { (events : List Event) → Stands replayer.old events → IsErrOf result CheckKind.Memory → fault_in version replayer.old.settings events entry ≡ None }
     ensures settings { replayer.new.settings ≡ replayer.old.settings }
 {
     match entry {
-        Recorded::Publish(item) => publish(replayer, item),
-        Recorded::Ask(ask, want, outcome) => make_request(replayer, version, ask, want, outcome),
-        Recorded::Clock(ms) => read_clock(replayer, ms),
-        Recorded::Collect(ask, outcome) => collect(replayer, version, ask, outcome),
-        Recorded::Close(ask) => close(replayer, ask),
+        Recorded::Publish(item) => {
+            publish(replayer, item)?;
+            Ok(Entered::Publish)
+        }
+        Recorded::Ask(ask, want, outcome) => {
+            let outcome = make_request(replayer, version, ask, &want, outcome)?;
+            Ok(Entered::Ask(ask, want, outcome))
+        }
+        Recorded::Clock(ms) => {
+            read_clock(replayer, ms)?;
+            Ok(Entered::Clock(ms))
+        }
+        Recorded::Collect(ask, outcome) => {
+            let outcome = collect(replayer, version, ask, outcome)?;
+            Ok(Entered::Collect(ask, outcome))
+        }
+        Recorded::Close(ask) => {
+            close(replayer, ask)?;
+            Ok(Entered::Close(ask))
+        }
     }
 }
 
@@ -59,32 +80,35 @@ fn publish(replayer: &mut Replayer, item: Item) -> Result<(), CheckKind>
     }
 }
 
-/// Makes a request, where it is the next one and this is what it gets at once.
+/// Makes a request, where it is the next one and what it gets at once is told so, and answers what it gets.
 fn make_request(
     replayer: &mut Replayer,
     version: Version,
     ask: u64,
-    want: Want,
+    want: &Want,
     outcome: Option<Outcome>,
-) -> Result<(), CheckKind>
+) -> Result<Option<Outcome>, CheckKind>
     ensures right { (events : List Event) → Stands replayer.old events → OnOk result
-        ((fault_in version replayer.old.settings events (recorded.Ask ask want outcome) ≡ None) × Stands replayer.new (events ++ event.Ask want ∷ [])) }
+        ((fault_in version replayer.old.settings events (recorded.Ask ask want.now outcome) ≡ None) × Stands replayer.new (events ++ event.Ask want.now ∷ [])) }
+    ensures full { (events : List Event) → Stands replayer.old events
+        → IfOk result (λ full. fault_in Two replayer.old.settings events (recorded.Ask ask want.now full) ≡ None) }
     ensures wrong { (events : List Event) → Stands replayer.old events
-        → IfErr result (λ k. k ≢ CheckKind.Memory → fault_in version replayer.old.settings events (recorded.Ask ask want outcome) ≡ Some k) }
+        → IfErr result (λ k. k ≢ CheckKind.Memory → fault_in version replayer.old.settings events (recorded.Ask ask want.now outcome) ≡ Some k) }
     ensures memory { (events : List Event) → Stands replayer.old events
-        → IsErrOf result CheckKind.Memory → fault_in version replayer.old.settings events (recorded.Ask ask want outcome) ≡ None }
+        → IsErrOf result CheckKind.Memory → fault_in version replayer.old.settings events (recorded.Ask ask want.now outcome) ≡ None }
     ensures settings { replayer.new.settings ≡ replayer.old.settings }
 {
     let room = replayer.room();
     if !is_after(ask, room.asks()) || room.is_full() {
         return Err(CheckKind::Refused);
     }
-    let decision = room.decide(&want);
-    if !is_same(outcome, told(version, decision.outcome(room))) {
+    let decision = room.decide(want);
+    let reply = decision.outcome(room);
+    if !is_same(outcome, told(version, reply)) {
         return Err(CheckKind::WrongReply);
     }
     match replayer.pass(decision) {
-        Ok(()) => Ok(()),
+        Ok(()) => Ok(reply),
         Err(AllocError) => Err(CheckKind::Memory),
     }
 }
@@ -102,15 +126,17 @@ fn read_clock(replayer: &mut Replayer, ms: u64) -> Result<(), CheckKind>
     }
 }
 
-/// Hands out the reply to a request, where it is open and this is its reply.
+/// Hands out the reply to a request, where it is open and its reply is told so, and answers what that comes to.
 fn collect(
     replayer: &mut Replayer,
     version: Version,
     ask: u64,
     outcome: Outcome,
-) -> Result<(), CheckKind>
+) -> Result<Outcome, CheckKind>
     ensures right { (events : List Event) → Stands replayer.old events → OnOk result
         ((fault_in version replayer.old.settings events (recorded.Collect ask outcome) ≡ None) × Stands replayer.new (events ++ event.Collect ask ∷ [])) }
+    ensures full { (events : List Event) → Stands replayer.old events
+        → IfOk result (λ full. fault_in Two replayer.old.settings events (recorded.Collect ask full) ≡ None) }
     ensures wrong { (events : List Event) → Stands replayer.old events
         → IfErr result (λ k. fault_in version replayer.old.settings events (recorded.Collect ask outcome) ≡ Some k) }
     ensures settings { replayer.new.settings ≡ replayer.old.settings }
@@ -119,10 +145,12 @@ fn collect(
         return Err(CheckKind::Refused);
     }
     let reply = outcome_in(&replayer.collect(ask));
-    if is_same(Some(outcome), told(version, reply)) {
-        Ok(())
-    } else {
-        Err(CheckKind::WrongReply)
+    if !is_same(Some(outcome), told(version, reply)) {
+        return Err(CheckKind::WrongReply);
+    }
+    match reply {
+        Some(reply) => Ok(reply),
+        None => unreachable!(),
     }
 }
 

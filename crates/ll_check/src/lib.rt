@@ -9,7 +9,10 @@ mod chunk;
 mod entry;
 mod laws;
 mod lines;
+mod told;
+mod upgraded;
 
 pub use answer::answer_line;
 pub use checker::{Checker, check};
-pub use laws::record_law;
+pub use laws::{record_law, upgrade_law};
+pub use upgraded::upgrade;

@@ -12,6 +12,8 @@ pub data Call : Type 0 where
   Apply : List ℕ → List ℕ → Call
   -- check the record in a file
   Check : List ℕ → Call
+  -- write the record in a file in format 2
+  Upgrade : List ℕ → Call
   -- serve the channels that a settings file tells
   Serve : List ℕ → Call
 
@@ -22,7 +24,10 @@ alone name = if bytes_eq name (codes "replay") then Ok Replay else Err Usage
 -- the command of this name that names a file
 abbrev pub with_file : List ℕ → List ℕ → Result Call Fault
 with_file name file =
-    if bytes_eq name (codes "check") then Ok (Check file) else if bytes_eq name (codes "serve") then Ok (Serve file) else Err Usage
+    if bytes_eq name (codes "check") then Ok (Check file)
+    else if bytes_eq name (codes "upgrade") then Ok (Upgrade file)
+    else if bytes_eq name (codes "serve") then Ok (Serve file)
+    else Err Usage
 
 -- the command of this name that names two files
 abbrev pub with_files : List ℕ → List ℕ → List ℕ → Result Call Fault
@@ -39,4 +44,5 @@ abbrev pub call_of : Command → Call
 call_of command.Replay = Replay
 call_of (command.Apply base delta) = Apply base.now delta.now
 call_of (command.Check chunks) = Check chunks.now
+call_of (command.Upgrade chunks) = Upgrade chunks.now
 call_of (command.Serve settings) = Serve settings.now

@@ -19,6 +19,8 @@ pub enum Command<'a> {
     },
     /// The name of a file: the record of a channel.
     Check(&'a Text),
+    /// The name of a file: the record of a channel, to be written in format 2.
+    Upgrade(&'a Text),
     /// The name of a file: the settings.
     Serve(&'a Text),
 }
@@ -53,6 +55,8 @@ impl<'a> Command<'a> {
     {
         if name.as_str() == "check" {
             Ok(Command::Check(file))
+        } else if name.as_str() == "upgrade" {
+            Ok(Command::Upgrade(file))
         } else if name.as_str() == "serve" {
             Ok(Command::Serve(file))
         } else {

@@ -1,16 +1,16 @@
 //! What the program writes to standard output.
-ghost use Rattle.std.specs.Prelude.{◌≡◌, ◌≢◌, List, ℕ, Result, Ok, Err, IfErr, IfOk, IsErrOf, IsOk, OnOk, is_ok};
+ghost use Rattle.std.specs.Prelude.{◌≡◌, ◌≢◌, List, ℕ, Ok, Err, IfErr, IfOk, IsErrOf, IsOk, OnOk, is_ok};
 ghost use Rattle.std.specs.Io.KnownBytes.{Appends};
 ghost use Rattle.ll_apply.specs.Texts.{applied_text};
 ghost use Rattle.ll_apply.specs.declared.fault.ApplyFault.{ApplyFault};
 ghost use Rattle.ll_apply.specs.declared.fault.ApplyFault.TheVariants as apply_fault;
 ghost use Rattle.ll_check.specs.Answer as spec;
+ghost use Rattle.ll_check.specs.Upgrade.{upgraded};
 ghost use Rattle.ll_entry.specs.Chain.{checked};
-ghost use Rattle.ll_entry.specs.declared.fault.CheckFault as check_fault;
 
 use crate::fault::Fault;
 use ll_apply::apply;
-use ll_check::{answer_line, check};
+use ll_check::{answer_line, check, upgrade};
 use ll_entry::{CheckFault, CheckKind};
 use std::alloc::{AllocError, Global};
 use std::io::Write;
@@ -28,18 +28,44 @@ pub fn write_applied<W: Write>(
     ensures kinds { IfErr result (λ f. f ≢ Fault.Write → (fault : ApplyFault) × (f ≡ Fault.Apply fault)) }
 {
     match apply(alloc, base, delta) {
-        Ok(text) => write_out(text.as_str(), out),
+        Ok(text) => write_out(text.as_str().as_bytes(), out),
         Err(fault) => Err(Fault::Apply(fault)),
     }
 }
 
 /// Checks a record, writes what came of it, and answers whether the record is right.
 pub fn write_checked<W: Write>(alloc: Global, chunks: &[u8], out: &mut W) -> Result<bool, Fault>
-    ensures written { IfOk result (λ right. (answer : Result ℕ check_fault.CheckFault) × (checked chunks.now ≡ answer) × (right ≡ is_ok answer)
-        × Appends (W.contents out.old) (W.contents out.new) (spec.answer_line answer)) }
+    ensures written { IfOk result (λ right. (right ≡ is_ok (checked chunks.now)) × Appends (W.contents out.old) (W.contents out.new) (spec.answer_line (checked chunks.now))) }
     ensures kinds { IfErr result (λ f. f ≢ Fault.Write → f ≡ Fault.Memory) }
 {
-    let answer = check(alloc, chunks);
+    write_answer(alloc, check(alloc, chunks), out)
+}
+
+/// Writes a record in format 2, or what came of it where it isn't right, and answers whether the record is right.
+pub fn write_upgraded<W: Write>(alloc: Global, chunks: &[u8], out: &mut W) -> Result<bool, Fault>
+    ensures written { IfOk result (λ right. (right ≡ is_ok (checked chunks.now))
+        × Appends (W.contents out.old) (W.contents out.new) (spec.upgrade_answer (checked chunks.now) (upgraded chunks.now))) }
+    ensures kinds { IfErr result (λ f. f ≢ Fault.Write → f ≡ Fault.Memory) }
+{
+    match upgrade(alloc, chunks) {
+        Ok(text) => {
+            write_out(&text, out)?;
+            Ok(true)
+        }
+        Err(fault) => write_answer(alloc, Err(fault), out),
+    }
+}
+
+/// Writes what came of a record, and answers whether the record is right.
+fn write_answer<W: Write>(
+    alloc: Global,
+    answer: Result<u64, CheckFault>,
+    out: &mut W,
+) -> Result<bool, Fault>
+    ensures written { IfOk result (λ right. (right ≡ is_ok answer) × Appends (W.contents out.old) (W.contents out.new) (spec.answer_line answer)) }
+    ensures told { IfOk result (λ right. IfErr answer (λ f. f.kind ≢ CheckKind.Memory)) }
+    ensures kinds { IfErr result (λ f. f ≢ Fault.Write → f ≡ Fault.Memory) }
+{
     if let Err(
         CheckFault {
             kind: CheckKind::Memory,
@@ -50,18 +76,18 @@ pub fn write_checked<W: Write>(alloc: Global, chunks: &[u8], out: &mut W) -> Res
         return Err(Fault::Memory);
     }
     match answer_line(alloc, answer) {
-        Ok(line) => write_out(line.as_str(), out)?,
+        Ok(line) => write_out(line.as_bytes(), out)?,
         Err(AllocError) => return Err(Fault::Memory),
     }
     Ok(answer.is_ok())
 }
 
-/// Writes a whole text.
-fn write_out<W: Write>(text: &str, out: &mut W) -> Result<(), Fault>
-    ensures written { OnOk result (Appends (W.contents out.old) (W.contents out.new) text.now) }
+/// Writes all bytes.
+fn write_out<W: Write>(bytes: &[u8], out: &mut W) -> Result<(), Fault>
+    ensures written { OnOk result (Appends (W.contents out.old) (W.contents out.new) bytes.now) }
     ensures fault { IfErr result (λ f. f ≡ Fault.Write) }
 {
-    if out.write_all(text.as_bytes()).is_err() || out.flush().is_err() {
+    if out.write_all(bytes).is_err() || out.flush().is_err() {
         return Err(Fault::Write);
     }
     Ok(())

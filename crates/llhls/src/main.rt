@@ -1,5 +1,6 @@
 //! `llhls`: an origin for Low-Latency HLS. `llhls serve SETTINGS` serves publishers and players over TCP, `llhls replay` replays a
-//! script, `llhls check FILE` checks the record of a channel, `llhls apply BASE DELTA` applies a delta update to a playlist.
+//! script, `llhls check FILE` checks the record of a channel, `llhls upgrade FILE` writes it in format 2, `llhls apply BASE DELTA` applies a
+//! delta update to a playlist.
 #![tactic(auto)]
 
 ghost use Rattle.std.specs.Prelude.{◌≡◌, IfErr};
@@ -10,7 +11,9 @@ mod words;
 
 use crate::serve::serve;
 use crate::words::words;
-use ll_command::{Command, Fault, fault_of, run_script, write_applied, write_checked};
+use ll_command::{
+    Command, Fault, fault_of, run_script, write_applied, write_checked, write_upgraded,
+};
 use ll_device::{CountedReader, CountedWriter};
 use std::marker::Brand;
 use std::process::ExitCode;
@@ -61,6 +64,12 @@ fn called(rt: &HostRuntime) -> Result<Ending, Fault> {
         Command::Check(record) => {
             let record = read_file(rt, record.as_str())?;
             if !write_checked(rt.alloc(), &record, &mut rt.stdout())? {
+                return Ok(Ending::BadRecord);
+            }
+        }
+        Command::Upgrade(record) => {
+            let record = read_file(rt, record.as_str())?;
+            if !write_upgraded(rt.alloc(), &record, &mut rt.stdout())? {
                 return Ok(Ending::BadRecord);
             }
         }

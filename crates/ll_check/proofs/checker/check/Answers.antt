@@ -3,7 +3,7 @@ use Rattle.std.proofs.Common.{◌≡◌, None, true}
 use Rattle.ll_attr.specs.Words.{pieces_at}
 use Rattle.ll_entry.specs.Chain.{Between, checked, checked_from, not_before}
 use Rattle.ll_check.proofs.LaterLemmas.{wants-none}
-use Rattle.ll_check.proofs.ChunkLemmas.{where-err, where-ok, whole}
+use Rattle.ll_check.proofs.Whole.{where-err, where-ok, whole}
 use Rattle.ll_check.proofs.checker.check.Goals as goal
 
 pub returns-clause-value : goal.returns-clause-value
