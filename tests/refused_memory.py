@@ -3,7 +3,7 @@
 A run whose Nth allocation is refused ends in one of these ways:
 
 - as the row does, where what was refused isn't needed for the answer, as for a list that is refused anyway;
-- with status 4, `llhls: Memory` and a prefix of the row's output;
+- with status 4, `llhls: Memory` and a prefix of the row's output, which is empty for `upgrade`;
 - with one thing refused: an item is answered `no 12 Memory`, a `get` line `reply <id> 503 Memory`, a request of a connection by the response Memory (503), and
   all else is as if it had not been sent. What that comes to the program says itself: of the same script in which that line or request names a channel that isn't
   there, with the answer's text exchanged;
@@ -188,13 +188,16 @@ class Row:
     def __init__(self, runner, tests, rows, endings, name):
         self.runner, self.name, self.faults = runner, name, []
         self.cut = self.whole = self.refused = self.muted = self.tried = 0
-        self.is_strict, self.text, self.is_script = False, b"", False
+        self.is_strict, self.text, self.is_script, self.is_whole = False, b"", False, False
         if name.startswith("apply/"):
             at = f"{tests}/{name}"
             self.words, output = ["apply", f"{at}/base", f"{at}/delta"], f"{at}/stdout"
             self.is_strict = name in endings
         elif name.startswith("check/"):
             self.words, output = ["check", f"{tests}/{name}"], f"{tests}/{name}.stdout"
+        elif name.startswith("upgrade/"):
+            self.words, output = ["upgrade", f"{tests}/check/{name[len('upgrade/'):]}"], f"{tests}/{name}.stdout"
+            self.is_whole = True
         else:
             at = f"{rows}/{name}"
             self.words, output = ["replay"], f"{at}.stdout"
@@ -210,7 +213,7 @@ class Row:
         return run.status == self.status and run.stderr.strip() == self.stderr and run.stdout == output
 
     def is_cut(self, run):
-        return run.status == 4 and run.stderr == b"llhls: Memory\n" and self.output.startswith(run.stdout)
+        return run.status == 4 and run.stderr == b"llhls: Memory\n" and (not run.stdout if self.is_whole else self.output.startswith(run.stdout))
 
     def sweep(self):
         """Tries each N."""
@@ -249,7 +252,7 @@ def names_of(tests, rows):
     """The names of all rows."""
     found = sorted(it[: -len(".stdout")] for it in os.listdir(rows) if it.endswith(".stdout"))
     found += [f"apply/{it}" for it in sorted(os.listdir(f"{tests}/apply"))]
-    return found + [f"check/{it[:-len('.stdout')]}" for it in sorted(os.listdir(f"{tests}/check")) if it.endswith(".stdout")]
+    return found + [f"{kind}/{it[:-len('.stdout')]}" for kind in ("check", "upgrade") for it in sorted(os.listdir(f"{tests}/{kind}")) if it.endswith(".stdout")]
 
 
 def main(program, library, tests, rows, names):
