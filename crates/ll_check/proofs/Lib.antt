@@ -1,5 +1,6 @@
 pub mod Back
 pub mod Begun
+pub mod BroughtLemmas
 pub mod Few
 pub mod HeaderLemmas
 pub mod LaterLemmas

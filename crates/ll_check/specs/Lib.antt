@@ -1,4 +1,5 @@
 pub mod Answer
+pub mod Brought
 pub mod Found
 pub mod Records
 pub mod Steps

@@ -29,8 +29,8 @@ pub fn check(alloc: Global, bytes: &[u8]) -> Result<u64, CheckFault>
 /// A record that is checked as it comes. What is kept of it follows the channel, not how long the record is.
 #[derive(Drop)]
 pub struct Checker {
-    alloc: Global,
-    chain: Option<Chain>,
+    pub(crate) alloc: Global,
+    pub(crate) chain: Option<Chain>,
 }
 
 impl Model for Checker {
@@ -87,7 +87,7 @@ impl Checker {
     }
 
     /// How many entries the chunks have so far.
-    pub(crate) fn entries(&self) -> u64
+    pub fn entries(&self) -> u64
         ensures value { (before : Option spec.Chain) → IsAt self.now before → result ≡ spec.entries before }
         ensures few { result ≤ 2 ^ 63 }
     {
@@ -95,7 +95,7 @@ impl Checker {
     }
 
     /// Goes over the next lines, and answers what they tell and what stands after them: the first three of a chunk, or, inside of one, one line.
-    pub(crate) fn step<'a>(
+    pub fn step<'a>(
         &mut self,
         inside: bool,
         text: &'a [u8],

@@ -169,7 +169,7 @@ fn close(replayer: &mut Replayer, ask: u64) -> Result<(), CheckKind>
 }
 
 /// Whether this is the number of the request after so many.
-fn is_after(ask: u64, asks: u64) -> bool
+pub(crate) fn is_after(ask: u64, asks: u64) -> bool
     ensures { result ≡ (ask == asks + 1) }
 {
     ask.checked_sub(1) == Some(asks)
@@ -186,7 +186,7 @@ fn outcome_in(reply: &Option<Stamped<Reply>>) -> Option<Outcome>
 }
 
 /// What a record of this format tells of what a reply comes to, where there is one.
-fn told(version: Version, outcome: Option<Outcome>) -> Option<Outcome>
+pub(crate) fn told(version: Version, outcome: Option<Outcome>) -> Option<Outcome>
     ensures { result ≡ option_map (told_in version) outcome }
 {
     match outcome {
@@ -196,7 +196,7 @@ fn told(version: Version, outcome: Option<Outcome>) -> Option<Outcome>
 }
 
 /// Whether two replies come to the same, or both requests wait.
-fn is_same(a: Option<Outcome>, b: Option<Outcome>) -> bool
+pub(crate) fn is_same(a: Option<Outcome>, b: Option<Outcome>) -> bool
     ensures { result ≡ spec.same_answer a b }
 {
     match (a, b) {

@@ -3,6 +3,7 @@
 
 mod answer;
 mod begin;
+mod brought;
 mod chain;
 mod checker;
 mod chunk;
@@ -15,4 +16,6 @@ mod upgraded;
 pub use answer::answer_line;
 pub use checker::{Checker, check};
 pub use laws::{record_law, upgrade_law};
+pub use lines::entry_line;
+pub use told::{Entered, Told};
 pub use upgraded::upgrade;

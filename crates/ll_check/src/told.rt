@@ -34,7 +34,7 @@ pub enum Entered {
 
 impl Told<'_> {
     /// Whether what comes next is inside of a chunk.
-    pub(crate) fn leads_inside(self) -> bool
+    pub fn leads_inside(self) -> bool
         ensures { result ≡ spec.leads_inside self.entry }
     {
         match self {

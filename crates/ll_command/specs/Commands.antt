@@ -1,8 +1,9 @@
 -- What the program's words ask it to do.
-use Rattle.std.specs.Prelude.{ℕ, List, [], ◌∷◌, Result, Ok, Err, bytes_eq, codes, if◌then◌else◌}
+use Rattle.std.specs.Prelude.{ℕ, List, [], ◌∷◌, Option, Some, None, Result, Ok, Err, bytes_eq, codes, if◌then◌else◌}
 use Rattle.ll_command.specs.declared.command.Command.{Command}
 use Rattle.ll_command.specs.declared.command.Command.TheVariants as command
 use Rattle.ll_command.specs.declared.fault.Fault.{Fault}
+use Rattle.ll_entry.specs.Replies.{count}
 use Rattle.ll_command.specs.declared.fault.Fault.TheVariants.{Usage}
 
 pub data Call : Type 0 where
@@ -14,6 +15,10 @@ pub data Call : Type 0 where
   Check : List ℕ → Call
   -- write the record in a file in format 2
   Upgrade : List ℕ → Call
+  -- count what the record in a file tells
+  Summarize : List ℕ → Call
+  -- tell the entry of this number of the record in a file
+  Explain : List ℕ → ℕ → Call
   -- serve the channels that a settings file tells
   Serve : List ℕ → Call
 
@@ -26,18 +31,26 @@ abbrev pub with_file : List ℕ → List ℕ → Result Call Fault
 with_file name file =
     if bytes_eq name (codes "check") then Ok (Check file)
     else if bytes_eq name (codes "upgrade") then Ok (Upgrade file)
+    else if bytes_eq name (codes "explain") then Ok (Summarize file)
     else if bytes_eq name (codes "serve") then Ok (Serve file)
     else Err Usage
 
--- the command of this name that names two files
-abbrev pub with_files : List ℕ → List ℕ → List ℕ → Result Call Fault
-with_files name base delta = if bytes_eq name (codes "apply") then Ok (Apply base delta) else Err Usage
+abbrev pub explain_by : List ℕ → Option ℕ → Result Call Fault
+explain_by file (Some entry) = Ok (Explain file entry)
+explain_by file None = Err Usage
+
+-- the command of this name that names two files, or a file and the number of an entry
+abbrev pub with_two : List ℕ → List ℕ → List ℕ → Result Call Fault
+with_two name file other =
+    if bytes_eq name (codes "apply") then Ok (Apply file other)
+    else if bytes_eq name (codes "explain") then explain_by file (count.read other)
+    else Err Usage
 
 -- the first word names the program; words of no such form are wrong usage
 abbrev pub command_of : List (List ℕ) → Result Call Fault
 command_of (program ∷ name ∷ []) = alone name
 command_of (program ∷ name ∷ file ∷ []) = with_file name file
-command_of (program ∷ name ∷ base ∷ delta ∷ []) = with_files name base delta
+command_of (program ∷ name ∷ file ∷ other ∷ []) = with_two name file other
 command_of other = Err Usage
 
 abbrev pub call_of : Command → Call
@@ -45,4 +58,6 @@ call_of command.Replay = Replay
 call_of (command.Apply base delta) = Apply base.now delta.now
 call_of (command.Check chunks) = Check chunks.now
 call_of (command.Upgrade chunks) = Upgrade chunks.now
+call_of (command.Summarize chunks) = Summarize chunks.now
+call_of (command.Explain chunks entry) = Explain chunks.now entry
 call_of (command.Serve settings) = Serve settings.now

@@ -5,7 +5,7 @@ use Rattle.ll_apply.specs.declared.fault.ApplyFault.TheVariants as apply
 use Rattle.ll_replay.specs.declared.outcome.RunFault.{RunFault}
 use Rattle.ll_replay.specs.declared.outcome.RunFault.TheVariants as run
 use Rattle.ll_command.specs.declared.fault.Fault.{Fault}
-use Rattle.ll_command.specs.declared.fault.Fault.TheVariants.{Usage, Read, Write, Memory, Replay, BadLine, Listen, Clock, Apply}
+use Rattle.ll_command.specs.declared.fault.Fault.TheVariants.{Usage, Read, Write, Memory, Replay, BadLine, NoEntry, Listen, Clock, Apply}
 
 -- of a script
 abbrev pub replay_status : RunFault → ℕ
@@ -29,6 +29,7 @@ status_of Read = 4
 status_of Write = 4
 status_of Memory = 4
 status_of (BadLine line) = 3
+status_of NoEntry = 3
 status_of Listen = 4
 status_of Clock = 4
 status_of (Replay fault) = replay_status fault

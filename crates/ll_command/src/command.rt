@@ -5,6 +5,7 @@ ghost use Rattle.ll_command.specs.Commands.{call_of, command_of};
 
 use crate::fault::Fault;
 use ll_attr::Text;
+use ll_format::number;
 
 /// What the program was called to do.
 pub enum Command<'a> {
@@ -21,6 +22,15 @@ pub enum Command<'a> {
     Check(&'a Text),
     /// The name of a file: the record of a channel, to be written in format 2.
     Upgrade(&'a Text),
+    /// The name of a file: the record of a channel, of which is to be told how much of what there is.
+    Summarize(&'a Text),
+    /// An entry of a record is to be told.
+    Explain {
+        /// The name of the record's file.
+        record: &'a Text,
+        /// The number of the entry.
+        entry: u64,
+    },
     /// The name of a file: the settings.
     Serve(&'a Text),
 }
@@ -33,7 +43,7 @@ impl<'a> Command<'a> {
         match words {
             [_program, name] => Command::alone(name),
             [_program, name, file] => Command::with_file(name, file),
-            [_program, name, base, delta] => Command::with_files(name, base, delta),
+            [_program, name, file, other] => Command::with_two(name, file, other),
             _ => Err(Fault::Usage),
         }
     }
@@ -57,6 +67,8 @@ impl<'a> Command<'a> {
             Ok(Command::Check(file))
         } else if name.as_str() == "upgrade" {
             Ok(Command::Upgrade(file))
+        } else if name.as_str() == "explain" {
+            Ok(Command::Summarize(file))
         } else if name.as_str() == "serve" {
             Ok(Command::Serve(file))
         } else {
@@ -64,14 +76,25 @@ impl<'a> Command<'a> {
         }
     }
 
-    /// The command of this name that names two files.
-    fn with_files(name: &Text, base: &'a Text, delta: &'a Text) -> Result<Command<'a>, Fault>
-        ensures { MatchResult result (λ c. spec.with_files name.now base.now delta.now ≡ Ok (call_of c)) (λ f. spec.with_files name.now base.now delta.now ≡ Err f) }
+    /// The command of this name that names two files, or a file and the number of an entry.
+    fn with_two(name: &Text, file: &'a Text, other: &'a Text) -> Result<Command<'a>, Fault>
+        ensures { MatchResult result (λ c. spec.with_two name.now file.now other.now ≡ Ok (call_of c)) (λ f. spec.with_two name.now file.now other.now ≡ Err f) }
     {
         if name.as_str() == "apply" {
-            Ok(Command::Apply { base, delta })
-        } else {
-            Err(Fault::Usage)
+            return Ok(Command::Apply {
+                base: file,
+                delta: other,
+            });
+        }
+        if name.as_str() != "explain" {
+            return Err(Fault::Usage);
+        }
+        match number(other.as_str(), u64::MAX) {
+            Some(entry) => Ok(Command::Explain {
+                record: file,
+                entry,
+            }),
+            None => Err(Fault::Usage),
         }
     }
 }

@@ -28,6 +28,9 @@ pub enum Fault {
     /// A line of the settings that can't stand in its place.
     #[error("BadLine {0}")]
     BadLine(u64),
+    /// A record has no entry of the number that was asked for.
+    #[error("NoEntry")]
+    NoEntry,
     /// An address could not be listened at.
     #[error("Listen")]
     Listen,
@@ -46,7 +49,7 @@ impl Fault {
     {
         match self {
             Fault::Usage => 2,
-            Fault::BadLine(_) => 3,
+            Fault::BadLine(_) | Fault::NoEntry => 3,
             Fault::Read | Fault::Write | Fault::Memory | Fault::Listen | Fault::Clock => 4,
             Fault::Replay(fault) => replay_status(fault),
             Fault::Apply(fault) => apply_status(fault),

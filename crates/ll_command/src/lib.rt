@@ -9,4 +9,4 @@ mod writing;
 pub use command::Command;
 pub use fault::{Fault, fault_of};
 pub use script::run_script;
-pub use writing::{write_applied, write_checked, write_upgraded};
+pub use writing::{write_applied, write_checked, write_explained, write_summary, write_upgraded};

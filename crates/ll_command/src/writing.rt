@@ -7,11 +7,13 @@ ghost use Rattle.ll_apply.specs.declared.fault.ApplyFault.TheVariants as apply_f
 ghost use Rattle.ll_check.specs.Answer as spec;
 ghost use Rattle.ll_check.specs.Upgrade.{upgraded};
 ghost use Rattle.ll_entry.specs.Chain.{checked};
+ghost use Rattle.ll_explain.specs.Words.{IsTold};
 
 use crate::fault::Fault;
 use ll_apply::apply;
 use ll_check::{answer_line, check, upgrade};
 use ll_entry::{CheckFault, CheckKind};
+use ll_explain::{ExplainFault, explain, summarize, summary_text};
 use std::alloc::{AllocError, Global};
 use std::io::Write;
 
@@ -52,6 +54,47 @@ pub fn write_upgraded<W: Write>(alloc: Global, chunks: &[u8], out: &mut W) -> Re
             write_out(&text, out)?;
             Ok(true)
         }
+        Err(fault) => write_answer(alloc, Err(fault), out),
+    }
+}
+
+/// Writes what a record tells of the entry of this number, or how the record isn't right up to it, and answers whether it is.
+pub fn write_explained<W: Write>(
+    alloc: Global,
+    chunks: &[u8],
+    entry: u64,
+    out: &mut W,
+) -> Result<bool, Fault>
+    ensures written { IfOk result (λ right. (text : List ℕ) × IsTold chunks.now entry right text × Appends (W.contents out.old) (W.contents out.new) text) }
+    ensures none { IsErrOf result Fault.NoEntry → IsOk (checked chunks.now) }
+    ensures kinds { IfErr result (λ f. f ≢ Fault.Write → f ≢ Fault.NoEntry → f ≡ Fault.Memory) }
+{
+    match explain(alloc, chunks, entry) {
+        Ok(explained) => match explained.text(alloc, entry) {
+            Ok(text) => {
+                write_out(text.as_bytes(), out)?;
+                Ok(true)
+            }
+            Err(AllocError) => Err(Fault::Memory),
+        },
+        Err(ExplainFault::Wrong(fault)) => write_answer(alloc, Err(fault), out),
+        Err(ExplainFault::NoEntry) => Err(Fault::NoEntry),
+    }
+}
+
+/// Writes how much of what there is in each chain of a record, or how the record isn't right, and answers whether it is.
+pub fn write_summary<W: Write>(alloc: Global, chunks: &[u8], out: &mut W) -> Result<bool, Fault>
+    ensures right { IfOk result (λ right. right ≡ is_ok (checked chunks.now)) }
+    ensures kinds { IfErr result (λ f. f ≢ Fault.Write → f ≡ Fault.Memory) }
+{
+    match summarize(alloc, chunks) {
+        Ok(chains) => match summary_text(alloc, &chains) {
+            Ok(text) => {
+                write_out(text.as_bytes(), out)?;
+                Ok(true)
+            }
+            Err(AllocError) => Err(Fault::Memory),
+        },
         Err(fault) => write_answer(alloc, Err(fault), out),
     }
 }

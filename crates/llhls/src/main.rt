@@ -1,5 +1,5 @@
 //! `llhls`: an origin for Low-Latency HLS. `llhls serve SETTINGS` serves publishers and players over TCP, `llhls replay` replays a
-//! script, `llhls check FILE` checks the record of a channel, `llhls upgrade FILE` writes it in format 2, `llhls apply BASE DELTA` applies a
+//! script, `llhls check FILE` checks the record of a channel, `llhls upgrade FILE` writes it in format 2, `llhls explain FILE` tells what it holds, `llhls apply BASE DELTA` applies a
 //! delta update to a playlist.
 #![tactic(auto)]
 
@@ -12,7 +12,8 @@ mod words;
 use crate::serve::serve;
 use crate::words::words;
 use ll_command::{
-    Command, Fault, fault_of, run_script, write_applied, write_checked, write_upgraded,
+    Command, Fault, fault_of, run_script, write_applied, write_checked, write_explained,
+    write_summary, write_upgraded,
 };
 use ll_device::{CountedReader, CountedWriter};
 use std::marker::Brand;
@@ -70,6 +71,18 @@ fn called(rt: &HostRuntime) -> Result<Ending, Fault> {
         Command::Upgrade(record) => {
             let record = read_file(rt, record.as_str())?;
             if !write_upgraded(rt.alloc(), &record, &mut rt.stdout())? {
+                return Ok(Ending::BadRecord);
+            }
+        }
+        Command::Summarize(record) => {
+            let record = read_file(rt, record.as_str())?;
+            if !write_summary(rt.alloc(), &record, &mut rt.stdout())? {
+                return Ok(Ending::BadRecord);
+            }
+        }
+        Command::Explain { record, entry } => {
+            let record = read_file(rt, record.as_str())?;
+            if !write_explained(rt.alloc(), &record, entry, &mut rt.stdout())? {
                 return Ok(Ending::BadRecord);
             }
         }

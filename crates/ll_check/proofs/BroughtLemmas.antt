@@ -1,0 +1,88 @@
+-- The replies that entries bring.
+use Rattle.std.proofs.Common.{◌≡◌, ℕ, List, [], ◌∷◌, ◌++◌, Option, Some, None, Result, Ok, Err, IfOk, false, refl, ap, ap₂, sym, subst, ◌∙◌, bytes_eq, option_map}
+use Rattle.ll_attr.specs.Words.{pieces_at}
+use Rattle.ll_check.proofs.StepLemmas.{line-is}
+use Rattle.ll_check.specs.Brought.{brought, brought_by, brought_in}
+use Rattle.ll_check.specs.Found.{ChainValue, IsOf}
+use Rattle.ll_directive.specs.Targets.{WantValue}
+use Rattle.ll_entry.specs.Chain.{Chain, Inside, checked_from, entry_at, joined, joined_by, text_in, with_line, wrong}
+use Rattle.ll_entry.specs.Entered.{event_of, fault_in}
+use Rattle.ll_entry.specs.Entries.{entry_in}
+use Rattle.ll_entry.specs.Frame.{last_line}
+use Rattle.ll_entry.specs.declared.entry.Recorded.{Recorded}
+use Rattle.ll_entry.specs.declared.fault.CheckKind.{CheckKind}
+use Rattle.ll_entry.specs.declared.fault.CheckKind.TheVariants.{BadChunk}
+use Rattle.ll_entry.specs.declared.version.Version.{Version}
+use Rattle.ll_item.specs.Settings.{Configuration}
+use Rattle.ll_room.specs.Answers.{asked, collected_at, now_in}
+use Rattle.ll_room.specs.RoomValue.{RoomValue, Stands}
+use Rattle.ll_room.specs.StampedValue.{StampedValue}
+use Rattle.ll_verdict.specs.Events.{Event}
+use Rattle.ll_verdict.specs.Verdict.{reply_of}
+use Rattle.ll_verdict.specs.declared.reply.Reply.{Reply}
+use Rattle.ll_verdict.specs.declared.reply.Settled.{Settled}
+
+-- what a request is answered is what it gets at once
+pub asked_is : (h : RoomValue) (want : WantValue) (o : Option Reply) → option_map (λ (m : StampedValue Reply). m.value) (now_in (asked h want o)) ≡ o
+asked_is h want None = refl
+asked_is h want (Some reply) = refl
+
+-- what is handed out is the reply that waits
+pub collected_is : (h : RoomValue) (ask : ℕ) (o : Option Settled) → option_map (λ (m : StampedValue Reply). m.value) (option_map (collected_at h ask) o) ≡ option_map reply_of o
+collected_is h ask None = refl
+collected_is h ask (Some settled) = refl
+
+same_line : (line other : List ℕ) (rest lines : List (List ℕ)) → line ∷ rest ≡ other ∷ lines → line ≡ other
+same_line line other rest lines h = cc
+
+line_read : (ch : Chain) (line cut text : List ℕ) (lines rest tail : List (List ℕ)) → lines ≡ line ∷ rest → lines ≡ cut ∷ tail → Some text ≡ text_in cut
+    → entry_at ch.version ch.settings (text_in line) ≡ entry_in ch.version ch.settings text
+line_read ch line cut text lines rest tail is begins utf8 =
+    let same : cut ≡ line = same_line cut line tail rest (sym begins ∙ is) in
+    ap (λ l. entry_at ch.version ch.settings (text_in l)) (sym same) ∙ ap (entry_at ch.version ch.settings) (sym utf8)
+
+-- the reply that the entry of a line brings, which is text
+pub brought-line : (ch : Chain) (line cut text : List ℕ) (lines rest tail : List (List ℕ)) (x : Option Reply) → lines ≡ line ∷ rest → lines ≡ cut ∷ tail
+    → Some text ≡ text_in cut
+    → ((now : Chain) × (joined ch (entry_in ch.version ch.settings text) ≡ Ok now)) × (x ≡ brought_in ch (entry_in ch.version ch.settings text))
+    → ((now : Chain) × (with_line ch line ≡ Ok now)) × (x ≡ brought ch line)
+brought-line ch line cut text lines rest tail x is begins utf8 h =
+    let read = line_read ch line cut text lines rest tail is begins utf8 in
+    ((h.0.0, ap (joined ch) read ∙ h.0.1), h.1 ∙ ap (brought_in ch) (sym read))
+
+-- how the entry of a line isn't right, which is text
+pub brought-wrong : (ch : Chain) (line cut text : List ℕ) (rest : List (List ℕ)) (lines : List (List ℕ)) (tail : List ℕ) (kind : CheckKind) → lines ≡ line ∷ rest
+    → lines ≡ cut ∷ pieces_at 10 tail → Some text ≡ text_in cut → bytes_eq line last_line ≡ false → joined ch (entry_in ch.version ch.settings text) ≡ Err kind
+    → checked_from (Inside ch) lines ≡ wrong (Some ch) kind
+brought-wrong ch line cut text rest lines tail kind is begins utf8 other fails =
+    let same : cut ≡ line = same_line cut line (pieces_at 10 tail) rest (sym begins ∙ is) in
+    line-is ch lines line tail false (Err kind) (begins ∙ ap (λ l. l ∷ pieces_at 10 tail) same) other
+    (ap (joined ch) (line_read ch line cut text lines rest (pieces_at 10 tail) is begins utf8) ∙ fails)
+
+-- a line that is no text
+pub brought-no_text : (ch : Chain) (line cut : List ℕ) (rest : List (List ℕ)) (lines : List (List ℕ)) (tail : List ℕ) → lines ≡ line ∷ rest
+    → lines ≡ cut ∷ pieces_at 10 tail → None ≡ text_in cut → bytes_eq line last_line ≡ false → checked_from (Inside ch) lines ≡ wrong (Some ch) BadChunk
+brought-no_text ch line cut rest lines tail is begins utf8 other =
+    let same : cut ≡ line = same_line cut line (pieces_at 10 tail) rest (sym begins ∙ is) in
+    line-is ch lines line tail false (Err BadChunk) (begins ∙ ap (λ l. l ∷ pieces_at 10 tail) same) other
+    (ap (λ l. with_line ch l) (sym same) ∙ ap (λ o. joined ch (entry_at ch.version ch.settings o)) (sym utf8))
+
+-- the entry of a line brings what its event does
+pub brought-of : (k : ChainValue) (ch : Chain) (text : List ℕ) (version : Version) (settings : Configuration) (room : RoomValue) (entry : Recorded)
+    (r : Result (Option Reply) CheckKind) → IsOf k ch → version ≡ k.version → settings ≡ k.room.settings → room ≡ k.room → entry_in version settings text ≡ Ok entry
+    → ((events : List Event) → Stands room events
+    → IfOk r (λ x. (fault_in version room.settings events entry ≡ None) × (x ≡ brought_by room.settings events (event_of entry))))
+    → IfOk r (λ x. ((now : Chain) × (joined ch (entry_in ch.version ch.settings text) ≡ Ok now)) × (x ≡ brought_in ch (entry_in ch.version ch.settings text)))
+brought-of k ch text version settings room entry (Err kind) of v s h read right = tt
+brought-of k ch text version settings room entry (Ok x) of v s h read right =
+    let its-version : version ≡ ch.version = v ∙ sym (ap (λ (c : Chain). c.version) of.chain) in
+    let its-settings : k.room.settings ≡ ch.settings = sym (ap (λ (c : Chain). c.settings) of.chain) in
+    let room-settings : room.settings ≡ ch.settings = ap (λ (x : RoomValue). x.settings) h ∙ its-settings in
+    let is : entry_in ch.version ch.settings text ≡ Ok entry = ap₂ (λ v s. entry_in v s text) (sym its-version) (sym (s ∙ its-settings)) ∙ read in
+    let b = right ch.events (subst (λ x. Stands x ch.events) (sym h) of.stands) in
+    let event = event_of entry in
+    let right-is : fault_in ch.version ch.settings ch.events entry ≡ None =
+    ap₂ (λ v s. fault_in v s ch.events entry) (sym its-version) (sym room-settings) ∙ b.0 in (
+      (record ch { events = ch.events ++ event ∷ [] }, ap (joined ch) is ∙ ap (λ o. joined_by o ch event) right-is),
+      b.1 ∙ ap (λ s. brought_by s ch.events event) room-settings ∙ ap (brought_in ch) (sym is),
+    )
