@@ -1,7 +1,7 @@
 #!/usr/bin/env bash
 # Proves every crate from nothing and runs the crates' tests. Beside that, each row of tests/rows runs as `rt try --cases` builds the program, with checks and
 # from the sources alone. Then each row runs on the proved program, as each compiler of the toolchain builds it; beside these, on the proved program, devices
-# that give and take a few bytes at a time, large inputs, mutated playlists, mutated records, records in format 2, the bytes of connections cut in every way, connections that end too early, and mutated heads; calls whose memory is refused;
+# that give and take a few bytes at a time, large inputs, mutated playlists, mutated records, records in format 2, entries that are explained, the bytes of connections cut in every way, connections that end too early, and mutated heads; calls whose memory is refused;
 # and then, by themselves, the server with real sockets, and its records. The last line is the sum.
 . "$(dirname "${BASH_SOURCE[0]}")/common.sh" || exit 2
 cd "$root" || exit 2
@@ -40,7 +40,7 @@ finish() {
 
 start tests/try_rows.sh
 show rt ci
-for name in mutated_playlists mutated_records upgrades connections dropped mutated_heads short_devices large rows; do
+for name in mutated_playlists mutated_records upgrades explained connections dropped mutated_heads short_devices large rows; do
     start "tests/$name.sh" "$program"
 done
 if [ -e "$by_rattle" ]; then

@@ -3,7 +3,7 @@
 A run whose Nth allocation is refused ends in one of these ways:
 
 - as the row does, where what was refused isn't needed for the answer, as for a list that is refused anyway;
-- with status 4, `llhls: Memory` and a prefix of the row's output, which is empty for `upgrade`;
+- with status 4, `llhls: Memory` and a prefix of the row's output, which is empty for `upgrade` and `explain`;
 - with one thing refused: an item is answered `no 12 Memory`, a `get` line `reply <id> 503 Memory`, a request of a connection by the response Memory (503), and
   all else is as if it had not been sent. What that comes to the program says itself: of the same script in which that line or request names a channel that isn't
   there, with the answer's text exchanged;
@@ -198,6 +198,10 @@ class Row:
         elif name.startswith("upgrade/"):
             self.words, output = ["upgrade", f"{tests}/check/{name[len('upgrade/'):]}"], f"{tests}/{name}.stdout"
             self.is_whole = True
+        elif name.startswith("explain/"):
+            record, *entry = name[len("explain/") :].split(".")
+            self.words, output = ["explain", f"{tests}/check/{record}", *entry], f"{tests}/{name}.stdout"
+            self.is_whole = True
         else:
             at = f"{rows}/{name}"
             self.words, output = ["replay"], f"{at}.stdout"
@@ -252,7 +256,7 @@ def names_of(tests, rows):
     """The names of all rows."""
     found = sorted(it[: -len(".stdout")] for it in os.listdir(rows) if it.endswith(".stdout"))
     found += [f"apply/{it}" for it in sorted(os.listdir(f"{tests}/apply"))]
-    return found + [f"{kind}/{it[:-len('.stdout')]}" for kind in ("check", "upgrade") for it in sorted(os.listdir(f"{tests}/{kind}")) if it.endswith(".stdout")]
+    return found + [f"{kind}/{it[:-len('.stdout')]}" for kind in ("check", "upgrade", "explain") for it in sorted(os.listdir(f"{tests}/{kind}")) if it.endswith(".stdout")]
 
 
 def main(program, library, tests, rows, names):

@@ -1,7 +1,7 @@
 #!/usr/bin/env bash
 # refused_memory.sh [ROW..]: first, where no row is named, tries single calls, as tests/refused_calls.sh does. Then, for each row, refuses the Nth allocation of the
 # program, for N from 1 until a run meets no refusal. tests/refused_memory.py says how such a run may end. A row of tests/apply is named apply/NAME, one of
-# tests/check check/NAME, one of tests/upgrade upgrade/NAME. Where the texts of a row of tests/apply have a fault, Memory comes only of the program's arguments and of reading the files: no run ends
+# tests/check check/NAME, one of tests/upgrade upgrade/NAME, one of tests/explain explain/NAME. Where the texts of a row of tests/apply have a fault, Memory comes only of the program's arguments and of reading the files: no run ends
 # in it after one that ended in the fault. It tells how many N were tried, and how the runs ended. The last line, `N passed, M failed`, counts calls and rows.
 . "$(dirname "${BASH_SOURCE[0]}")/common.sh" || exit 2
 program=$("$here/program.sh") || exit 2

