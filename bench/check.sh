@@ -1,9 +1,9 @@
 #!/usr/bin/env bash
 # check.sh [ENTRIES..]: checks records of so many entries (100,000 and 1,000,000 where none are given; at least 40), in which each part of
 # a second is awaited by two players, one of whom asks for a delta update, and asked for by a third who waits for nothing; then records of ten times
-# as many entries that are requests for the playlist as it is, after ten segments. For each number it prints the entries and the bytes per second of
-# `llhls check`, and the ratio to the first number's; then the peak memory, and the memory that a byte of the record takes. Times are the median of
-# RUNS runs (9 where it isn't set). It judges nothing.
+# as many entries that are requests for the playlist as it is, after ten segments. Each record is in format 1, and is written in format 2 too. For each
+# number it prints the entries and the bytes per second of `llhls check` and of `llhls upgrade`, and the ratio to the first number's; then the peak
+# memory, and the memory that a byte of the record takes. Times are the median of RUNS runs (9 where it isn't set). It judges nothing.
 . "$(dirname "${BASH_SOURCE[0]}")/common.sh" || exit 2
 take_program_or_proved
 runs=${RUNS:-9}
@@ -57,33 +57,41 @@ make_plain() {
     }'
 }
 
-# check MAKE ENTRIES: makes a record, checks it again and again, and prints what that takes.
-first=
-check() {
-    local made run bytes time
-    "$1" "$2" >"$room/record" 2>"$room/made"
-    made=$(<"$room/made")
+# tell COMMAND ENTRIES BYTES: has a command go through the record again and again, and prints what that takes.
+declare -A first=()
+tell() {
+    local run time
     rm -f "$room/measured"
     for ((run = 0; run < runs; run++)); do
-        runs=1 measure /dev/null "$room/answer" check "$room/record" >>"$room/measured"
-        [ "$(<"$room/answer")" = "ok $made" ] || wrong "of $made entries: $(<"$room/answer")"
+        runs=1 measure /dev/null "$room/answer" "$1" "$room/record" >>"$room/measured"
     done
-    bytes=$(wc -c <"$room/record")
     time=$(median <"$room/measured")
-    first=${first:-$made $time}
-    awk -v made="$made" -v bytes="$bytes" -v median="$time" -v peak="$(median 2 <"$room/measured")" -v first="$first" '
+    first[$1]=${first[$1]:-$2 $time}
+    awk -v command="$1" -v made="$2" -v bytes="$3" -v median="$time" -v peak="$(median 2 <"$room/measured")" -v first="${first[$1]}" '
         BEGIN {
             split(first, of)
-            printf "%d entries, %d bytes: %.0f entries/s, %.0f bytes/s, ratio %.2f; ", made, bytes, made * 1e6 / median, bytes * 1e6 / median, (made / median) / (of[1] / of[2])
+            printf "%s, %d entries, %d bytes: %.0f entries/s, %.0f bytes/s, ratio %.2f; ", command, made, bytes, made * 1e6 / median, bytes * 1e6 / median, (made / median) / (of[1] / of[2])
             printf "peak %d KiB: %.1f bytes a byte\n", peak, peak * 1024 / bytes
         }'
 }
 
+# both MAKE ENTRIES: makes a record, has it checked and written in format 2, and checked in that format too.
+both() {
+    local made bytes
+    "$1" "$2" >"$room/record" 2>"$room/made"
+    made=$(<"$room/made")
+    bytes=$(wc -c <"$room/record")
+    tell check "$made" "$bytes"
+    [ "$(<"$room/answer")" = "ok $made" ] || wrong "of $made entries: $(<"$room/answer")"
+    tell upgrade "$made" "$bytes"
+    [ "$("$program" check "$room/answer")" = "ok $made" ] || wrong "of $made entries in format 2: $("$program" check "$room/answer")"
+}
+
 for entries in "$@"; do
-    check make "$entries"
+    both make "$entries"
 done
 echo 'requests for the playlist as it is:'
-first=
+first=()
 for entries in "$@"; do
-    check make_plain $((10 * entries))
+    both make_plain $((10 * entries))
 done
