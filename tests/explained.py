@@ -1,7 +1,7 @@
 """What tests/explained.sh runs: explained.py PROGRAM FOLDER.
 
 For each record of the folder that is right, the events of each of its chains are made a script, and replayed. The playlist that `explain` writes for an entry
-is then the one that the script's answer has, byte for byte, and the entry's words are its own. The last line is `N passed, M failed`; it counts records.
+is then the one that the script's answer has, byte for byte, and the entry's words are its own; of the number after the last entry comes NoEntry. The last line is `N passed, M failed`; it counts records.
 """
 import os
 import re
@@ -71,14 +71,13 @@ def replayed(program, settings, entries):
 
 
 def reply_words(told, text):
-    """A reply in words; the text tells which delta update it is, which format 1 doesn't."""
+    """A reply in words; the text tells whether it is a delta update, which format 1 doesn't. A request of format 1 never got one for `v2`."""
     count = re.fullmatch(r"text ([0-9]+)(?: .*)?", told)
     if not count:
         return WORDS[told]
-    kind = "the full playlist"
-    if b"#EXT-X-SKIP:" in text:
-        kind = "a delta update (v2)" if b"RECENTLY-REMOVED" in text or b"CAN-SKIP-DATERANGES" in text and told.endswith(" v2") else "a delta update (YES)"
-    return f"{kind} after {count[1]} items"
+    if b"#EXT-X-SKIP:" not in text:
+        return f"the full playlist after {count[1]} items"
+    return f"a delta update ({'v2' if told.endswith(' v2') else 'YES'}) after {count[1]} items"
 
 
 def wanted(number, time, line, texts):
@@ -102,18 +101,23 @@ def wanted(number, time, line, texts):
     return head + (b"\n" + text if text else b"")
 
 
-def is_explained(program, path):
-    """The first entry of a record that isn't explained as it should be; none where all are."""
+def first_wrong(program, path):
+    """The first entry of a record that isn't explained as it should be; none where all are, and the one after the last is NoEntry."""
     with open(path, encoding="utf-8", newline="") as record:
         lines = record.read().split("\n")
+    last = 0
     for settings, entries in chains(lines):
         texts, time = replayed(program, settings, entries), 0
         for number, _, line in entries:
+            last = number
             done = run(program, ["explain", path, str(number)])
             if done.returncode or done.stderr or done.stdout != wanted(number, time, line, texts):
                 return number, done.stdout
             if line.startswith("C "):
                 time = max(time, int(line[2:]))
+    done = run(program, ["explain", path, str(last + 1)])
+    if (done.returncode, done.stdout, done.stderr) != (3, b"", b"llhls: NoEntry\n"):
+        return last + 1, done.stdout
     return None
 
 
@@ -123,7 +127,7 @@ def main(program, folder):
         path = f"{folder}/{name}"
         if name.endswith(".stdout") or not open(f"{path}.stdout").read().startswith("ok ") or name == "two_long_chains":
             continue
-        fault = is_explained(program, path)
+        fault = first_wrong(program, path)
         passed, failed = passed + (fault is None), failed + (fault is not None)
         if fault:
             print(f"{name}: entry {fault[0]} is told so:\n{fault[1].decode()[:1000]}")
