@@ -20,7 +20,7 @@ use Rattle.ll_item.specs.Settings.{Configuration}
 use Rattle.ll_verdict.specs.Events.{Event, steps_from}
 use Rattle.ll_check.specs.Records.{AreToldBy, Chunk, IsRecord, IsRun, IsToldBy, Run, are_in_order, chunk_lines, chunks, entries_in, events_in, lines_of}
 use Rattle.ll_check.proofs.Few.{few}
-use Rattle.ll_check.proofs.Walk.{IsOf, IsText, Names, marked, none_more}
+use Rattle.ll_check.proofs.Walk.{IsOfChannel, IsText, Names, marked, none_more}
 
 -- something follows
 follows : (more : List (List ℕ)) (before : Option Chain) (r : Result (Option Chain) CheckFault) → 1 ≤ length more → ended_line more before r ≡ r
@@ -235,14 +235,14 @@ same_channel : (ch : Chain) (c : Configuration) → ch.settings.channel ≡ c.ch
 same_channel ch c e = (bytes_eq-Decides ch.settings.channel c.channel).1 e
 
 -- further runs of the channel
-runs-on : (ch : Chain) (runs : List Run) → All IsRun runs → All (IsOf ch.settings.channel) runs → All IsText (lines_of runs)
+runs-on : (ch : Chain) (runs : List Run) → All IsRun runs → All (IsOfChannel ch.settings.channel) runs → All IsText (lines_of runs)
     → counted (checked_from (Between (Some ch)) (lines_of runs)) ≡ Ok (entries (Some ch) + events_in runs)
 runs-on ch [] right named texts = ap Ok (none_more (entries (Some ch)))
 runs-on ch (r ∷ runs) right named texts =
-    let of = All-head (IsOf ch.settings.channel) r runs named in
+    let of = All-head (IsOfChannel ch.settings.channel) r runs named in
     let now = chain_after (Some ch) r in
     ap counted (run-on (Some ch) r (lines_of runs) (All-head IsRun r runs right) (same_channel ch r.settings (sym of)) texts (some_lines runs))
-    ∙ runs-on now runs (All-tail IsRun r runs right) (subst (λ channel. All (IsOf channel) runs) (sym of) (All-tail (IsOf ch.settings.channel) r runs named))
+    ∙ runs-on now runs (All-tail IsRun r runs right) (subst (λ channel. All (IsOfChannel channel) runs) (sym of) (All-tail (IsOfChannel ch.settings.channel) r runs named))
     (later_text 0 (chunks r) (lines_of runs) texts)
     ∙ ap Ok (added (entries (Some ch)) (length r.events) (events_in runs))
   where
@@ -251,13 +251,13 @@ runs-on ch (r ∷ runs) right named texts =
 
 -- ---- the whole
 
-all-on : (channel : List ℕ) (runs : List Run) → 1 ≤ length runs → All IsRun runs → All (IsOf channel) runs → All IsText (lines_of runs)
+all-on : (channel : List ℕ) (runs : List Run) → 1 ≤ length runs → All IsRun runs → All (IsOfChannel channel) runs → All IsText (lines_of runs)
     → counted (checked_from (Between None) (lines_of runs)) ≡ Ok (events_in runs)
 all-on channel [] some right named texts = absurd (omega (arith, some))
 all-on channel (r ∷ runs) some right named texts =
-    let of = All-head (IsOf channel) r runs named in
+    let of = All-head (IsOfChannel channel) r runs named in
     ap counted (run-on None r (lines_of runs) (All-head IsRun r runs right) refl texts (some_lines runs))
-    ∙ runs-on (chain_after None r) runs (All-tail IsRun r runs right) (subst (λ channel. All (IsOf channel) runs) (sym of) (All-tail (IsOf channel) r runs named))
+    ∙ runs-on (chain_after None r) runs (All-tail IsRun r runs right) (subst (λ channel. All (IsOfChannel channel) runs) (sym of) (All-tail (IsOfChannel channel) r runs named))
     (later_text 0 (chunks r) (lines_of runs) texts)
     ∙ ap Ok (from_none (length r.events) (events_in runs))
   where

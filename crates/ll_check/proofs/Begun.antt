@@ -49,35 +49,35 @@ pub data Next (before : Option Chain) (ch : Chain) : Type 0 where
   Another : (is_channel before ch.settings ≡ true) × (ch ≡ new_chain before ch.version ch.settings) → Next before ch
   Onward : GoesOn before ch → Next before ch
 
-record IsJoined (before : Option Chain) (v : Version) (c : Configuration) (n : ℕ) (ch : Chain) : Type 0 where
+record JoinedParts (before : Option Chain) (v : Version) (c : Configuration) (n : ℕ) (ch : Chain) : Type 0 where
   version : v ≡ ch.version
   settings : c ≡ ch.settings
   place : n ≡ length ch.events
   next : Next before ch
 
 another-is : (before : Option Chain) (v : Version) (c : Configuration) (ch : Chain) (b : Bool) → is_channel before c ≡ b
-    → cond b (Ok (new_chain before v c)) (Err OtherChannel) ≡ Ok ch → IsJoined before v c 0 ch
+    → cond b (Ok (new_chain before v c)) (Err OtherChannel) ≡ Ok ch → JoinedParts before v c 0 ch
 another-is before v c ch true is h =
     let same : new_chain before v c ≡ ch = cc in
-    subst (IsJoined before v c 0) same (record { version = refl; settings = refl; place = refl; next = Another (is, refl) })
+    subst (JoinedParts before v c 0) same (record { version = refl; settings = refl; place = refl; next = Another (is, refl) })
 another-is before v c ch false is h = cc
 
 abbrev onward_if : Chain → Version → Bool → Bool → Bool → Result Chain CheckKind
 onward_if old v older here same = cond older (Err BadChunk) (cond (not here) (Err Gap) (cond same (Ok (record old { version = v })) (Err OtherChannel)))
 
 onward-is : (old : Chain) (v : Version) (c : Configuration) (n : ℕ) (ch : Chain) (older here same : Bool) → is_older v old.version ≡ older → (n == length old.events) ≡ here
-    → same_settings old.settings c ≡ same → 1 ≤ n → onward_if old v older here same ≡ Ok ch → IsJoined (Some old) v c n ch
+    → same_settings old.settings c ≡ same → 1 ≤ n → onward_if old v older here same ≡ Ok ch → JoinedParts (Some old) v c n ch
 onward-is old v c n ch false true true newer at same some h =
     let is : record old { version = v } ≡ ch = cc in
     let place = same_number n (length old.events) at in
     let settings = (settings_decided old.settings c (same_settings old.settings c) refl).0 same in
-    subst (IsJoined (Some old) v c n) is
+    subst (JoinedParts (Some old) v c n) is
     (record { version = refl; settings = sym settings; place = place; next = Onward (subst (λ m. 1 ≤ m) place some, newer, refl) })
 onward-is old v c n ch older here same newer at is some h = cc
 
 joined-is : (before : Option Chain) (v : Version) (c : Configuration) (n : ℕ) (ch : Chain) (b : Bool) → (n == 0) ≡ b
-    → cond b (another before v c) (continued before v c n) ≡ Ok ch → IsJoined before v c n ch
-joined-is before v c n ch true zero h = subst (λ m. IsJoined before v c m ch) (sym (same_number n 0 zero)) (another-is before v c ch (is_channel before c) refl h)
+    → cond b (another before v c) (continued before v c n) ≡ Ok ch → JoinedParts before v c n ch
+joined-is before v c n ch true zero h = subst (λ m. JoinedParts before v c m ch) (sym (same_number n 0 zero)) (another-is before v c ch (is_channel before c) refl h)
 joined-is None v c n ch false some h = cc
 joined-is (Some old) v c n ch false some h =
     onward-is old v c n ch (is_older v old.version) (n == length old.events) (same_settings old.settings c) refl refl refl (not_zero n some) h
@@ -109,7 +109,7 @@ version_by line v false false a b h = cc
 version_is : (line : List ℕ) (v : Version) → version.read line ≡ Some v → line ≡ first_line v
 version_is line v h = version_by line v (bytes_eq line (first_line One)) (bytes_eq line (first_line Two)) refl refl h
 
-pub record IsBegun (before : Option Chain) (first settings at : List ℕ) (ch : Chain) : Type 0 where
+pub record BegunParts (before : Option Chain) (first settings at : List ℕ) (ch : Chain) : Type 0 where
   pub begins : first ≡ first_line ch.version
   pub names : settings_in settings ≡ Ok ch.settings
   pub place : at ≡ codes "at " ++ decimal (length ch.events)
@@ -120,19 +120,19 @@ abbrev text_if : Bool → List ℕ → Option (List ℕ)
 text_if b line = cond b (Some line) None
 
 begun_if : (before : Option Chain) (first settings at : List ℕ) (ch : Chain) (a b e : Bool) → is_utf8 first ≡ a → is_utf8 settings ≡ b → is_utf8 at ≡ e
-    → begun before (text_if a first) (text_if b settings) (text_if e at) ≡ Ok ch → IsBegun before first settings at ch
+    → begun before (text_if a first) (text_if b settings) (text_if e at) ≡ Ok ch → BegunParts before first settings at ch
 begun_if before first settings at ch true true true p q r h =
     let parts = begun_parts before (version.read first) (settings_in settings) (place.read at) ch h in
     record { begins = version_is first ch.version parts.0; names = parts.1; place = place_is at (length ch.events) parts.2; next = parts.3; utf8 = (p, q, r) }
 begun_if before first settings at ch a b e p q r h = cc
 
 pub begun_lines : (before : Option Chain) (first settings at : List ℕ) (ch : Chain) → begun before (text_in first) (text_in settings) (text_in at) ≡ Ok ch
-    → IsBegun before first settings at ch
+    → BegunParts before first settings at ch
 begun_lines before first settings at ch h = begun_if before first settings at ch (is_utf8 first) (is_utf8 settings) (is_utf8 at) refl refl refl h
 
 -- ---- one entry
 
-pub record IsEntry (ch : Chain) (line : List ℕ) (now : Chain) : Type 0 where
+pub record EntryParts (ch : Chain) (line : List ℕ) (now : Chain) : Type 0 where
   pub event : Event
   pub utf8 : is_utf8 line ≡ true
   pub told : IsToldBy ch.settings (ch.version, line) (record { before = ch.events; event = event })
@@ -147,7 +147,7 @@ mapped_from f None y h = cc
 mapped_from f (Some x) y h = (x, refl, cc)
 
 entry_read : (ch now : Chain) (line : List ℕ) (r : Result Recorded EntryFault) → is_utf8 line ≡ true → entry_in ch.version ch.settings line ≡ r
-    → joined ch r ≡ Ok now → IsEntry ch line now
+    → joined ch r ≡ Ok now → EntryParts ch line now
 entry_read ch now line (Ok entry) utf8 is h =
     let v = ch.version in
     let c = ch.settings in
@@ -156,9 +156,9 @@ entry_read ch now line (Ok entry) utf8 is h =
     record { event = event_of entry; utf8 = utf8; told = record { entry = x.0; happens = x.1; read = is ∙ ap Ok x.2 }; next = p.1 }
 entry_read ch now line (Err fault) utf8 is h = cc
 
-entry_if : (ch now : Chain) (line : List ℕ) (b : Bool) → is_utf8 line ≡ b → joined ch (entry_at ch.version ch.settings (text_if b line)) ≡ Ok now → IsEntry ch line now
+entry_if : (ch now : Chain) (line : List ℕ) (b : Bool) → is_utf8 line ≡ b → joined ch (entry_at ch.version ch.settings (text_if b line)) ≡ Ok now → EntryParts ch line now
 entry_if ch now line true utf8 h = entry_read ch now line (entry_in ch.version ch.settings line) utf8 refl h
 entry_if ch now line false utf8 h = cc
 
-pub entry_line : (ch now : Chain) (line : List ℕ) → with_line ch line ≡ Ok now → IsEntry ch line now
+pub entry_line : (ch now : Chain) (line : List ℕ) → with_line ch line ≡ Ok now → EntryParts ch line now
 entry_line ch now line h = entry_if ch now line (is_utf8 line) refl h

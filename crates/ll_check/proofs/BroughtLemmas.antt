@@ -1,17 +1,15 @@
 -- The replies that entries bring.
-use Rattle.std.proofs.Common.{◌≡◌, ℕ, List, [], ◌∷◌, ◌++◌, Option, Some, None, Result, Ok, Err, IfOk, false, refl, ap, ap₂, sym, subst, ◌∙◌, bytes_eq, option_map}
+use Rattle.std.proofs.Common.{◌≡◌, ℕ, List, [], ◌∷◌, ◌++◌, Option, Some, None, Result, Ok, Err, IfOk, false, refl, ap, ap₂, sym, subst, ◌∙◌, option_map}
 use Rattle.ll_attr.specs.Words.{pieces_at}
-use Rattle.ll_check.proofs.StepLemmas.{line-is}
-use Rattle.ll_check.specs.Brought.{brought, brought_by, brought_in}
+use Rattle.ll_check.specs.Brought.{IsBrought, brought_by, brought_in}
 use Rattle.ll_check.specs.Found.{ChainValue, IsOf}
+use Rattle.ll_check.specs.Lines.{IsText}
 use Rattle.ll_directive.specs.Targets.{WantValue}
-use Rattle.ll_entry.specs.Chain.{Chain, Inside, checked_from, entry_at, joined, joined_by, text_in, with_line, wrong}
+use Rattle.ll_entry.specs.Chain.{Chain, entry_at, joined, joined_by}
 use Rattle.ll_entry.specs.Entered.{event_of, fault_in}
 use Rattle.ll_entry.specs.Entries.{entry_in}
-use Rattle.ll_entry.specs.Frame.{last_line}
 use Rattle.ll_entry.specs.declared.entry.Recorded.{Recorded}
 use Rattle.ll_entry.specs.declared.fault.CheckKind.{CheckKind}
-use Rattle.ll_entry.specs.declared.fault.CheckKind.TheVariants.{BadChunk}
 use Rattle.ll_entry.specs.declared.version.Version.{Version}
 use Rattle.ll_item.specs.Settings.{Configuration}
 use Rattle.ll_room.specs.Answers.{asked, collected_at, now_in}
@@ -32,40 +30,19 @@ pub collected_is : (h : RoomValue) (ask : ℕ) (o : Option Settled) → option_m
 collected_is h ask None = refl
 collected_is h ask (Some settled) = refl
 
-same_line : (line other : List ℕ) (rest lines : List (List ℕ)) → line ∷ rest ≡ other ∷ lines → line ≡ other
-same_line line other rest lines h = cc
-
-line_read : (ch : Chain) (line cut text : List ℕ) (lines rest tail : List (List ℕ)) → lines ≡ line ∷ rest → lines ≡ cut ∷ tail → Some text ≡ text_in cut
-    → entry_at ch.version ch.settings (text_in line) ≡ entry_in ch.version ch.settings text
-line_read ch line cut text lines rest tail is begins utf8 =
-    let same : cut ≡ line = same_line cut line tail rest (sym begins ∙ is) in
-    ap (λ l. entry_at ch.version ch.settings (text_in l)) (sym same) ∙ ap (entry_at ch.version ch.settings) (sym utf8)
-
--- the reply that the entry of a line brings, which is text
-pub brought-line : (ch : Chain) (line cut text : List ℕ) (lines rest tail : List (List ℕ)) (x : Option Reply) → lines ≡ line ∷ rest → lines ≡ cut ∷ tail
-    → Some text ≡ text_in cut
+-- what the entry of a chunk's next line brings
+pub brought-line : (ch : Chain) (text : List ℕ) (lines : List (List ℕ)) (rest : List ℕ) (x : Option Reply) → IsText text lines (pieces_at 10 rest)
     → ((now : Chain) × (joined ch (entry_in ch.version ch.settings text) ≡ Ok now)) × (x ≡ brought_in ch (entry_in ch.version ch.settings text))
-    → ((now : Chain) × (with_line ch line ≡ Ok now)) × (x ≡ brought ch line)
-brought-line ch line cut text lines rest tail x is begins utf8 h =
-    let read = line_read ch line cut text lines rest tail is begins utf8 in
-    ((h.0.0, ap (joined ch) read ∙ h.0.1), h.1 ∙ ap (brought_in ch) (sym read))
-
--- how the entry of a line isn't right, which is text
-pub brought-wrong : (ch : Chain) (line cut text : List ℕ) (rest : List (List ℕ)) (lines : List (List ℕ)) (tail : List ℕ) (kind : CheckKind) → lines ≡ line ∷ rest
-    → lines ≡ cut ∷ pieces_at 10 tail → Some text ≡ text_in cut → bytes_eq line last_line ≡ false → joined ch (entry_in ch.version ch.settings text) ≡ Err kind
-    → checked_from (Inside ch) lines ≡ wrong (Some ch) kind
-brought-wrong ch line cut text rest lines tail kind is begins utf8 other fails =
-    let same : cut ≡ line = same_line cut line (pieces_at 10 tail) rest (sym begins ∙ is) in
-    line-is ch lines line tail false (Err kind) (begins ∙ ap (λ l. l ∷ pieces_at 10 tail) same) other
-    (ap (joined ch) (line_read ch line cut text lines rest (pieces_at 10 tail) is begins utf8) ∙ fails)
-
--- a line that is no text
-pub brought-no_text : (ch : Chain) (line cut : List ℕ) (rest : List (List ℕ)) (lines : List (List ℕ)) (tail : List ℕ) → lines ≡ line ∷ rest
-    → lines ≡ cut ∷ pieces_at 10 tail → None ≡ text_in cut → bytes_eq line last_line ≡ false → checked_from (Inside ch) lines ≡ wrong (Some ch) BadChunk
-brought-no_text ch line cut rest lines tail is begins utf8 other =
-    let same : cut ≡ line = same_line cut line (pieces_at 10 tail) rest (sym begins ∙ is) in
-    line-is ch lines line tail false (Err BadChunk) (begins ∙ ap (λ l. l ∷ pieces_at 10 tail) same) other
-    (ap (λ l. with_line ch l) (sym same) ∙ ap (λ o. joined ch (entry_at ch.version ch.settings o)) (sym utf8))
+    → IsBrought ch text x lines
+brought-line ch text lines rest x is h =
+    let read = ap (entry_at ch.version ch.settings) is.read in record {
+      rest = rest;
+      are = is.are;
+      other = is.other;
+      now = h.0.0;
+      right = ap (joined ch) read ∙ h.0.1;
+      brings = h.1 ∙ ap (brought_in ch) (sym read);
+    }
 
 -- the entry of a line brings what its event does
 pub brought-of : (k : ChainValue) (ch : Chain) (text : List ℕ) (version : Version) (settings : Configuration) (room : RoomValue) (entry : Recorded)

@@ -1,7 +1,8 @@
 -- The chain of a chunk, from its first three lines and what is kept of the chains before it.
 use Rattle.std.proofs.Common.{◌≡◌, ◌≢◌, ℕ, [], true, cond, Option, Some, None, Result, Ok, Err, IsOk, MatchOption, refl, ap, ap₂, ◌∙◌, sym, subst, true≢false}
 use Rattle.std.specs.Option.{unwrap_or}
-use Rattle.ll_check.specs.Found.{ChainValue, IsBegun, met}
+use Rattle.ll_check.specs.Found.{ChainValue}
+use Rattle.ll_check.specs.Joined.{IsBegun, met}
 use Rattle.ll_entry.specs.Chain.{Chain, another, begun_by, entries, is_channel, joined_at}
 use Rattle.ll_entry.specs.declared.fault.CheckKind.{CheckKind}
 use Rattle.ll_entry.specs.declared.fault.CheckKind.TheVariants.{Memory, OtherChannel}
@@ -14,9 +15,9 @@ use Rattle.ll_verdict.specs.State.{state_of}
 -- another chain begins with a room to which nothing has happened
 pub another-is : (before : Option Chain) (v : Version) (c : Configuration) (room : RoomValue) (earlier : ℕ) → is_channel before c ≡ true
     → room ≡ room_value 0 c (state_of c []) → earlier ≡ entries before
-    → IsBegun (Some (record { room = room; version = v; earlier = earlier })) (another before v c)
+    → IsBegun (Some (record { room = room; version = v; earlier = earlier; inside = true })) (another before v c)
 another-is before v c room earlier is new n =
-    let kept : ChainValue = record { room = room; version = v; earlier = earlier } in
+    let kept : ChainValue = record { room = room; version = v; earlier = earlier; inside = true } in
     let ch : Chain = record { settings = c; version = v; earlier = entries before; events = [] } in
     subst (λ b. IsBegun (Some kept) (cond b (Ok ch) (Err OtherChannel))) (sym is)
     (record {

@@ -3,7 +3,8 @@ use Rattle.std.proofs.Common.{◌≡◌, ℕ, ◌+◌, ◌==◌, ◌≤◌, List
 use Rattle.std.proofs.lemmas.Bool.Decides.{nat_tests}
 use Rattle.std.proofs.lemmas.List.{length-append}
 use Rattle.ll_attr.specs.Words.{pieces_at}
-use Rattle.ll_check.specs.Found.{ChainValue, IsAt}
+use Rattle.ll_check.proofs.Places.{first-at}
+use Rattle.ll_check.specs.Found.{ChainValue, IsAt, so_far}
 use Rattle.ll_entry.specs.Chain.{Between, Chain, Inside, Position, another, begun, begun_by, checked_from, continued, counted, ended_line, entries, entry_at, go_on, is_channel, joined, joined_at, joined_by, not_before, text_in, wrong}
 use Rattle.ll_entry.specs.Entered.{event_of, fault_in}
 use Rattle.ll_entry.specs.Frame.{is_older, last_line, place, version}
@@ -40,7 +41,7 @@ last-later before kind false = own (entries before + 1)
 -- ---- the first three lines
 
 -- a chunk's chain has as many entries, with those before it, as the chains before the chunk
-abbrev Keeps : Option Chain → Result Chain CheckKind → Type 0
+abbrev pub Keeps : Option Chain → Result Chain CheckKind → Type 0
 Keeps before (Ok ch) = entries (Some ch) ≡ entries before
 Keeps before (Err kind) = Unit
 
@@ -72,7 +73,7 @@ keeps_by before (Some v) (Ok c) None = tt
 keeps_by before (Some v) (Err fault) at = tt
 keeps_by before None s at = tt
 
-keeps_begun : (before : Option Chain) (first settings at : Option (List ℕ)) → Keeps before (begun before first settings at)
+pub keeps_begun : (before : Option Chain) (first settings at : Option (List ℕ)) → Keeps before (begun before first settings at)
 keeps_begun before (Some first) (Some settings) (Some at) = keeps_by before (version.read first) (settings_in settings) (place.read at)
 keeps_begun before (Some first) (Some settings) None = tt
 keeps_begun before (Some first) None at = tt
@@ -106,10 +107,6 @@ either-later n false x y h k = k
 
 -- ---- all lines
 
-abbrev so_far : Position → Option Chain
-so_far (Between before) = before
-so_far (Inside ch) = Some ch
-
 pub later : (p : Position) (lines : List (List ℕ)) → Later (so_far p) (checked_from p lines)
 later (Between before) [] = own (entries before + 1)
 later (Between before) (rest ∷ []) = last-later before BadChunk (bytes_eq rest [])
@@ -137,8 +134,8 @@ counts P None = λ kind. absurd (true≢false (ap no_memory kind))
 counts P (Some ch) = tt
 
 pub wants-none : (P : CheckFault → Type 0) (first kept : Option ChainValue) (bytes : List ℕ) (r : Result ℕ CheckFault) → first ≡ None
-    → ((before : Option Chain) → IsAt first before → (now : Option Chain) × IsAt kept now × (checked_from (Between before) (pieces_at 10 bytes) ≡ Ok now))
-    → ((before : Option Chain) → IsAt kept before → r ≡ counted (Ok before)) → IfErr r (λ f. f.kind ≡ Memory → P f)
+    → ((p : Position) → IsAt first p → (now : Option Chain) × IsAt kept (Between now) × (checked_from p (pieces_at 10 bytes) ≡ Ok now))
+    → ((p : Position) → IsAt kept p → r ≡ counted (Ok (so_far p))) → IfErr r (λ f. f.kind ≡ Memory → P f)
 wants-none P first kept bytes r e read count =
-    let got = read None (subst (λ k. IsAt k None) (sym e) tt) in
-    subst (λ r. IfErr r (λ f. f.kind ≡ Memory → P f)) (sym (count got.0 got.1)) (counts P got.0)
+    let got = read (Between None) (first-at first e) in
+    subst (λ r. IfErr r (λ f. f.kind ≡ Memory → P f)) (sym (count (Between got.0) got.1)) (counts P got.0)

@@ -5,9 +5,8 @@ pub mod Few
 pub mod HeaderLemmas
 pub mod LaterLemmas
 pub mod LineLemmas
+pub mod Places
+pub mod ReachedLemmas
 pub mod StepLemmas
-pub mod UpgradeLines
-pub mod UpgradeProof
-pub mod UpgradedLemmas
 pub mod Walk
 pub mod Whole

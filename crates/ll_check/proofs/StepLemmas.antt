@@ -1,12 +1,12 @@
 -- What lines come to, by what the first of them tell.
-use Rattle.std.proofs.Common.{◌≡◌, ℕ, List, [], ◌∷◌, Bool, true, false, cond, Option, Some, None, Result, Ok, Err, refl, ap, sym, subst, ◌∙◌, ◌==◌, bytes_eq, length, option_map, arith}
-use Rattle.std.proofs.lemmas.Bool.Decides.{nat_tests}
-use Rattle.std.specs.Str.{is_utf8}
+use Rattle.std.proofs.Common.{◌≡◌, ℕ, List, [], ◌∷◌, Bool, true, false, cond, Option, Some, None, Result, Ok, Err, refl, ap, ap₂, sym, subst, ◌∙◌, bytes_eq, length, option_map, MatchOption}
 use Rattle.ll_attr.specs.Words.{pieces_at}
 use Rattle.ll_check.proofs.Begun.{begun_parts}
-use Rattle.ll_check.specs.Found.{ChainValue, IsAt, IsBegun, IsJoined, IsOf}
-use Rattle.ll_check.specs.Steps.{IsBegunBy, IsEntry, IsHeader, IsThere, IsTold, Leads, Moves, in_full, leads_inside, so_far, without_item}
-use Rattle.ll_check.specs.declared.told.Entered.{Entered}
+use Rattle.ll_check.specs.Found.{AreKept, ChainValue, IsAt, IsOf, so_far}
+use Rattle.ll_check.specs.Joined.{IsBegun, IsJoined}
+use Rattle.ll_check.specs.Lines.{IsText}
+use Rattle.ll_check.specs.Steps.{IsBegunBy, IsEntry, IsHeader, IsOver, Moves, Tells, in_full, without_item}
+use Rattle.ll_check.specs.declared.told.FullEntry.{FullEntry}
 use Rattle.ll_check.specs.declared.told.Told.{Told}
 use Rattle.ll_check.specs.declared.told.Told.TheVariants as told
 use Rattle.ll_entry.proofs.ChainLemmas.{ended-parts, header-is}
@@ -56,7 +56,7 @@ line-is ch lines line rest last r e end is =
 
 -- ---- what is told
 
-pub moved : (p next : Position) (t : Told) (lines : List (List ℕ)) (rest : List ℕ) → IsTold p t next lines (pieces_at 10 rest)
+pub moved : (p next : Position) (t : Told) (lines : List (List ℕ)) (rest : List ℕ) → Tells p t next lines (pieces_at 10 rest)
     → checked_from p lines ≡ checked_from next (pieces_at 10 rest)
 moved (Between before) (Inside ch) (told.Begun settings at) lines rest h =
     header-is before lines h.header.first settings.now h.header.place rest (Ok ch) h.header.are h.header.begun
@@ -75,7 +75,7 @@ moved (Inside ch) (Inside now) told.Ended lines rest h = absurd h
 -- the chain that they begin or go on with
 pub begun-parts : (before : Option Chain) (kept : Option ChainValue) (v : Version) (s : Result Configuration SettingsFault) (at : ℕ) (settings : List ℕ)
     (lines rest : List (List ℕ)) (r : Result Chain CheckKind) → begun_by before (Some v) s (Some at) ≡ r → IsHeader before r settings lines rest → IsBegun kept r
-    → (ch : Chain) × IsAt kept (Some ch) × IsBegunBy before settings at ch lines rest
+    → (ch : Chain) × AreKept kept (Some ch) × IsBegunBy before settings at ch lines rest
 begun-parts before (Some k) v s at settings lines rest (Ok ch) e h b =
     (ch, b, record { header = h; many = some_same at (length ch.events) (begun_parts before (Some v) s (Some at) ch e).2 })
   where
@@ -91,33 +91,33 @@ header-wrong before settings lines rest r kind h e =
 
 -- ---- the line of an entry
 
-text-same : (line text : List ℕ) (b : Bool) → is_utf8 line ≡ b → Some text ≡ cond b (Some line) None → text ≡ line
-text-same line text true utf8 h = cc
-text-same line text false utf8 h = cc
-
 joined-of : (k : ChainValue) (r : Result Chain CheckKind) → IsJoined k r → (now : Chain) × (r ≡ Ok now) × IsOf k now
 joined-of k (Ok now) j = (now, refl, j)
 joined-of k (Err kind) j = absurd j
 
 -- the chain with its event
-pub entry-parts : (k : ChainValue) (ch : Chain) (lines rest : List (List ℕ)) (line text : List ℕ) (version : Version) (e : Entered) → lines ≡ line ∷ rest
-    → bytes_eq line last_line ≡ false → Some text ≡ text_in line → version ≡ ch.version → IsJoined k (joined ch (entry_in ch.version ch.settings text))
+pub entry-parts : (k : ChainValue) (ch : Chain) (lines rest : List (List ℕ)) (text : List ℕ) (version : Version) (e : FullEntry) → IsText text lines rest
+    → version ≡ ch.version → IsJoined k (joined ch (entry_in ch.version ch.settings text))
     → option_map without_item (in_full ch (entry_in ch.version ch.settings text)) ≡ Some e
     → (now : Chain) × IsOf k now × IsEntry ch version text e now lines rest
-entry-parts k ch lines rest line text version e is other utf8 of j full =
-    let same : text ≡ line = text-same line text (is_utf8 line) refl utf8 in
-    let read : text_in text ≡ Some text = ap text_in same ∙ sym utf8 in
+entry-parts k ch lines rest text version e is of j full =
     let p = joined-of k (joined ch (entry_in ch.version ch.settings text)) j in (
       p.0,
       p.2,
       record {
-        are = is ∙ ap (λ l. l ∷ rest) (sym same);
-        other = ap (λ l. bytes_eq l last_line) same ∙ other;
-        joined = ap (λ o. joined ch (entry_at ch.version ch.settings o)) read ∙ p.1;
+        are = is.are;
+        other = is.other;
+        joined = ap (λ o. joined ch (entry_at ch.version ch.settings o)) is.read ∙ p.1;
         format = of;
-        told = ap (λ o. option_map without_item (in_full ch (entry_at ch.version ch.settings o))) read ∙ full;
+        told = ap (λ o. option_map without_item (in_full ch (entry_at ch.version ch.settings o))) is.read ∙ full;
       },
     )
+
+-- how the entry of a line isn't right
+pub entry-wrong : (ch : Chain) (text : List ℕ) (lines : List (List ℕ)) (rest : List ℕ) (kind : CheckKind) → IsText text lines (pieces_at 10 rest)
+    → joined ch (entry_in ch.version ch.settings text) ≡ Err kind → checked_from (Inside ch) lines ≡ wrong (Some ch) kind
+entry-wrong ch text lines rest kind is fails =
+    line-is ch lines text rest false (Err kind) is.are is.other (ap (λ o. joined ch (entry_at ch.version ch.settings o)) is.read ∙ fails)
 
 -- an entry in which nothing is wrong in format 2 is in full what it tells
 pub full_of : (c : Configuration) (events : List Event) (entry : Recorded) → fault_in Two c events entry ≡ None
@@ -144,42 +144,42 @@ collected-full h events ask o reply stands answer is =
 
 -- ---- one after another
 
-pub there-at : (inside : Bool) (kept : Option ChainValue) (p : Position) → IsThere inside kept p → IsAt kept (so_far p)
-there-at false kept (Between before) there = there
-there-at true kept (Inside ch) there = there
-there-at false kept (Inside ch) there = absurd there
-there-at true kept (Between before) there = absurd there
+-- lines come from a position to what the rest of them comes to from where it is
+pub record GoesTo (kept : Option ChainValue) (p : Position) (lines rest : List (List ℕ)) : Type 0 where
+  pub now : Position
+  pub at : IsAt kept now
+  pub same : checked_from p lines ≡ checked_from now rest
 
-pub leads-first : (kept : Option ChainValue) (before : Option Chain) (lines : List (List ℕ)) → IsAt kept before → Leads false kept before lines lines
-leads-first kept before lines at = record { now = Between before; there = at; same = refl }
+pub goes-first : (kept : Option ChainValue) (p : Position) (lines : List (List ℕ)) → IsAt kept p → GoesTo kept p lines lines
+goes-first kept p lines at = record { now = p; at = at; same = refl }
 
-pub leads-on : (inside more : Bool) (kept new : Option ChainValue) (before : Option Chain) (lines : List (List ℕ)) (mid rest : List ℕ) (t : Told)
-    → Leads inside kept before lines (pieces_at 10 mid)
-    → ((p : Position) → IsThere inside kept p → Moves new p t (pieces_at 10 mid) (pieces_at 10 rest)) → more ≡ leads_inside t
-    → Leads more new before lines (pieces_at 10 rest)
-leads-on inside more kept new before lines mid rest t l on is =
-    let m = on l.now l.there in
-    record { now = m.next; there = subst (λ b. IsThere b new m.next) (sym is) m.there; same = l.same ∙ moved l.now m.next t (pieces_at 10 mid) rest m.by }
+pub goes-on : (kept new : Option ChainValue) (p : Position) (lines mid : List (List ℕ)) (rest : List ℕ) (t : Told) → GoesTo kept p lines mid
+    → ((q : Position) → IsAt kept q → Moves new q t mid (pieces_at 10 rest)) → GoesTo new p lines (pieces_at 10 rest)
+goes-on kept new p lines mid rest t g on =
+    let m = on g.now g.at in
+    record { now = m.next; at = m.at; same = g.same ∙ moved g.now m.next t mid rest m.by }
 
-pub leads-wrong : (inside : Bool) (kept : Option ChainValue) (before : Option Chain) (lines mid : List (List ℕ)) (f : CheckFault) → Leads inside kept before lines mid
-    → ((p : Position) → IsThere inside kept p → checked_from p mid ≡ Err f) → checked_from (Between before) lines ≡ Err f
-leads-wrong inside kept before lines mid f l fails = l.same ∙ fails l.now l.there
+pub goes-wrong : (kept : Option ChainValue) (p : Position) (lines mid : List (List ℕ)) (f : CheckFault) → GoesTo kept p lines mid
+    → ((q : Position) → IsAt kept q → checked_from q mid ≡ Err f) → checked_from p lines ≡ Err f
+goes-wrong kept p lines mid f g fails = g.same ∙ fails g.now g.at
 
-pub at_end : (kept : Option ChainValue) (p : Position) (lines : List (List ℕ)) → IsThere false kept p → lines ≡ [] ∷ []
-    → (now : Option Chain) × IsAt kept now × (p ≡ Between now) × (checked_from p lines ≡ Ok now)
-at_end kept (Between now) lines there e = (now, there, refl, ap (checked_from (Between now)) e)
-at_end kept (Inside ch) lines there e = absurd there
+-- where no text is left between chunks
+pub over-at : (kept new : Option ChainValue) (q : Position) (rest : List ℕ) → IsAt kept q → IsOver kept new q rest
+    → IsAt new (Between (so_far q)) × (checked_from q (pieces_at 10 rest) ≡ Ok (so_far q))
+over-at kept new q rest at o = (
+  subst (λ k. IsAt k (Between (so_far q))) (sym o.same) (subst (IsAt kept) o.between at),
+  ap₂ (λ q r. checked_from q (pieces_at 10 r)) o.between o.none,
+)
 
-zero : (n : ℕ) → (n == 0) ≡ true → n ≡ 0
-zero n h = grind (arith, nat_tests)
+pub goes-over : (kept new : Option ChainValue) (p : Position) (lines : List (List ℕ)) (rest : List ℕ) → GoesTo kept p lines (pieces_at 10 rest)
+    → ((q : Position) → IsAt kept q → IsOver kept new q rest) → (now : Option Chain) × IsAt new (Between now) × (checked_from p lines ≡ Ok now)
+goes-over kept new p lines rest g over =
+    let o = over-at kept new g.now rest g.at (over g.now g.at) in
+    (so_far g.now, o.0, g.same ∙ o.1)
 
-pub no_bytes : (bytes : List ℕ) → (length bytes == 0) ≡ true → bytes ≡ []
-no_bytes [] h = refl
-no_bytes (b ∷ bs) h = absurd (omega (arith, zero (length (b ∷ bs)) h))
+-- what is said of something that is there, or of nothing
+pub some-of : {A : Type 0} (o : Option A) (x : A) (N : Type 0) (S : A → Type 0) → o ≡ Some x → MatchOption o N S → S x
+some-of o x N S is h = subst (λ o. MatchOption o N S) is h
 
--- nothing is left between chunks
-pub leads-end : (kept : Option ChainValue) (before : Option Chain) (lines : List (List ℕ)) (rest : List ℕ) → Leads false kept before lines (pieces_at 10 rest)
-    → rest ≡ [] → (now : Option Chain) × IsAt kept now × (checked_from (Between before) lines ≡ Ok now)
-leads-end kept before lines rest l e =
-    let p = at_end kept l.now (pieces_at 10 rest) l.there (ap (pieces_at 10) e) in
-    (p.0, p.1, l.same ∙ p.3)
+pub none-of : {A : Type 0} (o : Option A) (N : Type 0) (S : A → Type 0) → o ≡ None → MatchOption o N S → N
+none-of o N S is h = subst (λ o. MatchOption o N S) is h

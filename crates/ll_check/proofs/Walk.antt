@@ -16,7 +16,7 @@ use Rattle.ll_entry.proofs.ChunkProof.{plain}
 use Rattle.ll_item.specs.Settings.{Configuration, settings_in}
 use Rattle.ll_verdict.specs.Events.{Event, steps_from}
 use Rattle.ll_check.specs.Records.{AreToldBy, Chunk, IsRecord, IsRun, Run, are_in_order, chunk_lines, entries_in, events_in, lines_of}
-use Rattle.ll_check.proofs.Begun.{Another, IsBegun, IsEntry, Next, Onward, begun_lines, entry_line, new_chain, same_bytes}
+use Rattle.ll_check.proofs.Begun.{Another, BegunParts, EntryParts, Next, Onward, begun_lines, entry_line, new_chain, same_bytes}
 
 abbrev pub IsText : List ℕ → Type 0
 IsText line = is_utf8 line ≡ true
@@ -24,8 +24,8 @@ IsText line = is_utf8 line ≡ true
 abbrev pub Names : Configuration → Chunk → Type 0
 Names c k = settings_in k.settings ≡ Ok c
 
-abbrev pub IsOf : List ℕ → Run → Type 0
-IsOf channel r = r.settings.channel ≡ channel
+abbrev pub IsOfChannel : List ℕ → Run → Type 0
+IsOfChannel channel r = r.settings.channel ≡ channel
 
 -- lines of a chunk of this format
 abbrev pub marked : Version → List (List ℕ) → List (Version × List ℕ)
@@ -43,7 +43,7 @@ record Runs (before : Option Chain) (lines : List (List ℕ)) (end : Option Chai
   text : lines ≡ lines_of runs
   utf8 : All IsText lines
   right : All IsRun runs
-  named : All (IsOf channel) runs
+  named : All (IsOfChannel channel) runs
   many : entries end ≡ entries before + events_in runs
   ends : length runs ≡ 0 → end ≡ before
 
@@ -60,7 +60,7 @@ record Left (ch : Chain) (own lines : List (List ℕ)) (end : Option Chain) : Ty
   begun : 1 ≤ length others → 1 ≤ length ch.events + length own
   told : AreToldBy ch.settings (marked ch.version own ++ flat_map entries_in others) (steps_from ch.events events)
   right : All IsRun runs
-  same : All (IsOf ch.settings.channel) runs
+  same : All (IsOfChannel ch.settings.channel) runs
   many : entries end ≡ ch.earlier + length ch.events + length events + events_in runs
 
 -- the same from inside that chunk
@@ -103,7 +103,7 @@ runs-left (Some ch) end lines x = record {
   begun = λ some. absurd (omega (arith, some));
   told = tt;
   right = x.right;
-  same = subst (λ channel. All (IsOf channel) x.runs) (sym x.has) x.named;
+  same = subst (λ channel. All (IsOfChannel channel) x.runs) (sym x.has) x.named;
   many = omega (arith, x.many);
 }
 
@@ -124,7 +124,7 @@ at_end before end rest true e h =
       text = ap (λ line. line ∷ []) nothing;
       utf8 = All-cons IsText rest [] (ap is_utf8 nothing ∙ plain [] refl) (All-nil IsText);
       right = All-nil IsRun;
-      named = All-nil (IsOf name.0);
+      named = All-nil (IsOfChannel name.0);
       many = omega (arith, ap entries same);
       ends = λ none. same;
     }
@@ -151,7 +151,7 @@ one_more : (before events : List Event) (e : Event) (earlier runs all : ℕ) →
 one_more before events e earlier runs all h = omega (arith, h, length-append before (e ∷ []))
 
 -- the line of an entry
-entry-of : (ch now : Chain) (end : Option Chain) (line : List ℕ) (lines : List (List ℕ)) → IsEntry ch line now → Inner now lines end → Inner ch (line ∷ lines) end
+entry-of : (ch now : Chain) (end : Option Chain) (line : List ℕ) (lines : List (List ℕ)) → EntryParts ch line now → Inner now lines end → Inner ch (line ∷ lines) end
 entry-of ch now end line lines n x =
     let y : Inner (record ch { events = ch.events ++ n.event ∷ [] }) lines end = subst (λ ch. Inner ch lines end) n.next x in
     let l = y.left in
@@ -176,7 +176,7 @@ entry-of ch now end line lines n x =
       };
     }
 
-three_texts : (before : Option Chain) (ch : Chain) (first settings at : List ℕ) (lines : List (List ℕ)) → IsBegun before first settings at ch → All IsText lines
+three_texts : (before : Option Chain) (ch : Chain) (first settings at : List ℕ) (lines : List (List ℕ)) → BegunParts before first settings at ch → All IsText lines
     → All IsText (first ∷ settings ∷ at ∷ lines)
 three_texts before ch first settings at lines b utf8 =
     All-cons IsText first (settings ∷ at ∷ lines) b.utf8.0 (All-cons IsText settings (at ∷ lines) b.utf8.1 (All-cons IsText at lines b.utf8.2 utf8))
@@ -187,7 +187,7 @@ has_name (Some ch) c h = same_bytes ch.settings.channel c.channel h
 
 -- the first three lines of the first chunk of a run
 another-of : (before end : Option Chain) (v : Version) (c : Configuration) (first settings at : List ℕ) (lines : List (List ℕ)) → is_channel before c ≡ true
-    → IsBegun before first settings at (new_chain before v c) → Inner (new_chain before v c) lines end → Runs before (first ∷ settings ∷ at ∷ lines) end
+    → BegunParts before first settings at (new_chain before v c) → Inner (new_chain before v c) lines end → Runs before (first ∷ settings ∷ at ∷ lines) end
 another-of before end v c first settings at lines is b x =
     let l = x.left in
     let k : Chunk = record { version = v; settings = settings; entries = x.own } in
@@ -205,7 +205,7 @@ another-of before end v c first settings at lines is b x =
       text = ap₂ (λ l ls. l ∷ settings ∷ ls) b.begins (ap₂ (λ l ls. l ∷ ls) b.place (x.text ∙ ap (λ ls. x.own ++ last_line ∷ ls) l.text));
       utf8 = three_texts before (new_chain before v c) first settings at lines b x.utf8;
       right = All-cons IsRun r l.runs run l.right;
-      named = All-cons (IsOf c.channel) r l.runs refl l.same;
+      named = All-cons (IsOfChannel c.channel) r l.runs refl l.same;
       many = omega (arith, l.many);
       ends = λ none. absurd (omega (arith, none));
     }
@@ -215,7 +215,7 @@ none_more n = omega arith
 
 -- the first three lines of a further chunk
 onward-of : (old : Chain) (end : Option Chain) (v : Version) (first settings at : List ℕ) (lines : List (List ℕ)) → 1 ≤ length old.events → is_older v old.version ≡ false
-    → IsBegun (Some old) first settings at (record old { version = v }) → Inner (record old { version = v }) lines end
+    → BegunParts (Some old) first settings at (record old { version = v }) → Inner (record old { version = v }) lines end
     → Left old [] (first ∷ settings ∷ at ∷ lines) end
 onward-of old end v first settings at lines some newer b x =
     let l = x.left in
@@ -239,16 +239,16 @@ onward-of old end v first settings at lines some newer b x =
     }
 
 -- the first three lines of a chunk
-first-of : (before end : Option Chain) (ch : Chain) (first settings at : List ℕ) (lines : List (List ℕ)) → Next before ch → IsBegun before first settings at ch
+first-of : (before end : Option Chain) (ch : Chain) (first settings at : List ℕ) (lines : List (List ℕ)) → Next before ch → BegunParts before first settings at ch
     → Inner ch lines end → Walked (Between before) (first ∷ settings ∷ at ∷ lines) end
 first-of before end ch first settings at lines (Another p) b x =
     let v = ch.version in
     let c = ch.settings in
     runs-left before end (first ∷ settings ∷ at ∷ lines)
-    (another-of before end v c first settings at lines p.0 (subst (IsBegun before first settings at) p.1 b) (subst (λ ch. Inner ch lines end) p.1 x))
+    (another-of before end v c first settings at lines p.0 (subst (BegunParts before first settings at) p.1 b) (subst (λ ch. Inner ch lines end) p.1 x))
 first-of None end ch first settings at lines (Onward p) b x = absurd p
 first-of (Some old) end ch first settings at lines (Onward p) b x =
-    onward-of old end ch.version first settings at lines p.0 p.1 (subst (IsBegun (Some old) first settings at) p.2 b) (subst (λ ch. Inner ch lines end) p.2 x)
+    onward-of old end ch.version first settings at lines p.0 p.1 (subst (BegunParts (Some old) first settings at) p.2 b) (subst (λ ch. Inner ch lines end) p.2 x)
 
 -- ---- the whole
 

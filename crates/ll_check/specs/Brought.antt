@@ -1,7 +1,11 @@
 -- The replies that the entries of a record bring.
-use Rattle.std.specs.Prelude.{List, Option, None, Result, Ok, Err, ℕ, option_map}
-use Rattle.ll_entry.specs.Chain.{Chain, entry_at, text_in}
+use Rattle.std.specs.Prelude.{◌≡◌, List, ◌∷◌, Option, None, Result, Ok, Err, ℕ, bytes_eq, false, option_map}
+use Rattle.ll_attr.specs.Words.{pieces_at}
+use Rattle.ll_check.specs.Found.{ChainValue}
+use Rattle.ll_check.specs.Steps.{has_entry}
+use Rattle.ll_entry.specs.Chain.{Between, Chain, Inside, Position, entry_at, text_in, with_line}
 use Rattle.ll_entry.specs.Entered.{event_of}
+use Rattle.ll_entry.specs.Frame.{last_line}
 use Rattle.ll_entry.specs.declared.entry.EntryFault.{EntryFault}
 use Rattle.ll_entry.specs.declared.entry.Recorded.{Recorded}
 use Rattle.ll_item.specs.Settings.{Configuration}
@@ -26,3 +30,22 @@ brought_in ch (Err fault) = None
 -- what the entry of a line brings after a chain
 abbrev pub brought : Chain → List ℕ → Option Reply
 brought ch line = brought_in ch (entry_at ch.version ch.settings (text_in line))
+
+-- the first of these lines is that of an entry which is right after a chain, and brings this
+pub record IsBrought (ch : Chain) (line : List ℕ) (reply : Option Reply) (lines : List (List ℕ)) : Type 0 where
+  pub rest : List ℕ
+  pub are : lines ≡ line ∷ pieces_at 10 rest
+  pub other : bytes_eq line last_line ≡ false
+  pub now : Chain
+  pub right : with_line ch line ≡ Ok now
+  pub brings : reply ≡ brought ch line
+
+-- the same at a position
+abbrev pub Brings : Position → List ℕ → Option Reply → List (List ℕ) → Type 0
+Brings (Inside ch) line reply lines = IsBrought ch line reply lines
+Brings (Between before) line reply lines = ⊥
+
+-- no entry comes next, and what is kept stays as it is
+pub record BringsNone (old new : Option ChainValue) (p : Position) (lines : List (List ℕ)) : Type 0 where
+  pub none : has_entry p lines ≡ false
+  pub same : new ≡ old

@@ -1,11 +1,7 @@
 -- What a checker keeps of the chains of a record.
-use Rattle.std.specs.Prelude.{◌≡◌, ℕ, suc, zero, Option, Some, None, Result, Ok, Err, if◌then◌else◌}
-use Rattle.ll_entry.specs.Chain.{Chain, another}
-use Rattle.ll_entry.specs.declared.fault.CheckKind.{CheckKind}
-use Rattle.ll_entry.specs.declared.fault.CheckKind.TheVariants.{Gap, OtherChannel}
+use Rattle.std.specs.Prelude.{◌≡◌, ℕ, Bool, true, false, Option, Some, None}
+use Rattle.ll_entry.specs.Chain.{Between, Chain, Inside, Position}
 use Rattle.ll_entry.specs.declared.version.Version.{Version}
-use Rattle.ll_item.specs.Same.{same_settings}
-use Rattle.ll_item.specs.Settings.{Configuration}
 use Rattle.ll_room.specs.RoomValue.{RoomValue, Stands}
 
 pub record ChainValue : Type 0 where
@@ -15,6 +11,8 @@ pub record ChainValue : Type 0 where
   pub version : Version
   -- how many entries the chains before it have
   pub earlier : ℕ
+  -- whether the last line of its last chunk is still to come
+  pub inside : Bool
 
 -- it is what is kept of a chain
 pub record IsOf (k : ChainValue) (ch : Chain) : Type 0 where
@@ -22,23 +20,27 @@ pub record IsOf (k : ChainValue) (ch : Chain) : Type 0 where
   pub stands : Stands k.room ch.events
 
 -- it is what is kept of the chains so far
-abbrev pub IsAt : Option ChainValue → Option Chain → Type 0
-IsAt None None = Unit
-IsAt (Some k) (Some ch) = IsOf k ch
-IsAt kept before = ⊥
+abbrev pub AreKept : Option ChainValue → Option Chain → Type 0
+AreKept None None = Unit
+AreKept (Some k) (Some ch) = IsOf k ch
+AreKept kept before = ⊥
 
--- it is what is kept of the chain that a chunk begins or goes on with
-abbrev pub IsBegun : Option ChainValue → Result Chain CheckKind → Type 0
-IsBegun (Some k) (Ok ch) = IsOf k ch
-IsBegun kept joined = ⊥
+-- whether it is kept inside of a chunk
+abbrev pub is_inside : Option ChainValue → Bool
+is_inside None = false
+is_inside (Some k) = k.inside
 
--- it is what is kept of a chain with one more entry
-abbrev pub IsJoined : ChainValue → Result Chain CheckKind → Type 0
-IsJoined k (Ok ch) = IsOf k ch
-IsJoined k (Err kind) = ⊥
+-- the chains so far
+abbrev pub so_far : Position → Option Chain
+so_far (Between before) = before
+so_far (Inside ch) = Some ch
 
--- the chain of a chunk in this format, of a channel of these settings, that can come where it stands: after no entries of its chain, or after so many
-abbrev pub met : Option Chain → Version → Configuration → ℕ → Result Chain CheckKind
-met before v c zero = another before v c
-met None v c (suc at) = Err Gap
-met (Some ch) v c (suc at) = if same_settings ch.settings c then Ok (record ch { version = v }) else Err OtherChannel
+-- whether a position is inside of a chunk
+abbrev pub stands_inside : Position → Bool
+stands_inside (Between before) = false
+stands_inside (Inside ch) = true
+
+-- it is what is kept at a position
+pub record IsAt (kept : Option ChainValue) (p : Position) : Type 0 where
+  pub chains : AreKept kept (so_far p)
+  pub inside : is_inside kept ≡ stands_inside p

@@ -1,8 +1,9 @@
 //! The first three lines of a chunk, which say whose it is and where it stands.
-ghost use Rattle.std.specs.Prelude.{◌≡◌, ◌≢◌, ◌<◌, IfErr, IfOk, IfSome, MatchOption, OnOk, Option, Some, Err, is_some, length, true};
+ghost use Rattle.std.specs.Prelude.{◌≡◌, ◌≢◌, ◌<◌, IfErr, IfOk, IfSome, MatchOption, OnOk, Option, Some, Err, length, true};
 ghost use Rattle.std.specs.Bool.{Decides};
 ghost use Rattle.ll_attr.specs.Words.{pieces_at};
-ghost use Rattle.ll_check.specs.Found.{IsAt, IsBegun, met};
+ghost use Rattle.ll_check.specs.Found.{AreKept, is_inside};
+ghost use Rattle.ll_check.specs.Joined.{IsBegun, met};
 ghost use Rattle.ll_check.specs.Steps.{IsHeader, Moves};
 ghost use Rattle.ll_entry.specs.Chain as spec;
 ghost use Rattle.ll_entry.specs.Chain.{Between, another, begun, begun_by, checked_from, joined_at, wrong};
@@ -36,11 +37,10 @@ pub(crate) fn begin<'a>(
     text: &'a [u8],
 ) -> Result<(Told<'a>, &'a [u8]), CheckKind>
     requires { 0 < length text.now }
-    ensures right { (before : Option spec.Chain) → IsAt chain.old before
+    ensures right { (before : Option spec.Chain) → AreKept chain.old before
         → IfOk result (λ r. Moves chain.new (Between before) r.0 (pieces_at 10 text.now) (pieces_at 10 r.1.now)) }
-    ensures wrong { (before : Option spec.Chain) → IsAt chain.old before
+    ensures wrong { (before : Option spec.Chain) → AreKept chain.old before
         → IfErr result (λ k. k ≢ CheckKind.Memory → checked_from (Between before) (pieces_at 10 text.now) ≡ wrong before k) }
-    ensures begun { OnOk result (is_some chain.new ≡ true) }
     ensures shorter { IfOk result (λ r. length r.1.now < length text.now) }
 {
     let Some((header, rest)) = header_of(text) else {
@@ -99,11 +99,11 @@ fn told_by<'a>(first: &'a str, settings: &'a str, at: &'a str) -> Option<Header<
 
 /// Begins the chain that a chunk begins, or goes on with the one that it goes on with. Want of memory comes after the faults that need no settings.
 fn join(alloc: Global, chain: &mut Option<Chain>, header: Header<'_>) -> Result<(), CheckKind>
-    ensures right { (before : Option spec.Chain) → IsAt chain.old before
+    ensures right { (before : Option spec.Chain) → AreKept chain.old before
         → OnOk result (IsBegun chain.new (begun_by before (Some header.entry.version) (settings_in header.entry.settings.now) (Some header.entry.at))) }
-    ensures wrong { (before : Option spec.Chain) → IsAt chain.old before
+    ensures wrong { (before : Option spec.Chain) → AreKept chain.old before
         → IfErr result (λ k. k ≢ CheckKind.Memory → begun_by before (Some header.entry.version) (settings_in header.entry.settings.now) (Some header.entry.at) ≡ Err k) }
-    ensures kept { OnOk result (is_some chain.new ≡ true) }
+    ensures inside { OnOk result (is_inside chain.new ≡ true) }
 {
     let fault = place_fault(chain, header);
     match Settings::read(alloc, header.settings) {
@@ -118,7 +118,7 @@ fn join(alloc: Global, chain: &mut Option<Chain>, header: Header<'_>) -> Result<
 
 /// Why a chunk of this format can't stand at this place after the chains so far, whatever its settings; none where it can.
 fn place_fault(chain: &Option<Chain>, header: Header<'_>) -> Option<CheckKind>
-    ensures { (before : Option spec.Chain) (c : Configuration) → IsAt chain.now before
+    ensures { (before : Option spec.Chain) (c : Configuration) → AreKept chain.now before
         → MatchOption result (joined_at before header.entry.version c header.entry.at ≡ met before header.entry.version c header.entry.at)
         (λ k. joined_at before header.entry.version c header.entry.at ≡ Err k) }
 {
@@ -144,11 +144,11 @@ fn meet(
     header: Header<'_>,
     settings: Settings,
 ) -> Result<(), CheckKind>
-    ensures right { (before : Option spec.Chain) → IsAt chain.old before
+    ensures right { (before : Option spec.Chain) → AreKept chain.old before
         → OnOk result (IsBegun chain.new (met before header.entry.version settings header.entry.at)) }
-    ensures wrong { (before : Option spec.Chain) → IsAt chain.old before
+    ensures wrong { (before : Option spec.Chain) → AreKept chain.old before
         → IfErr result (λ k. k ≢ CheckKind.Memory → met before header.entry.version settings header.entry.at ≡ Err k) }
-    ensures kept { OnOk result (is_some chain.new ≡ true) }
+    ensures inside { OnOk result (is_inside chain.new ≡ true) }
 {
     if header.at == 0 {
         return begin_another(alloc, chain, header.version, settings);
@@ -160,6 +160,7 @@ fn meet(
         return Err(CheckKind::OtherChannel);
     }
     chain.version = header.version;
+    chain.inside = true;
     Ok(())
 }
 
@@ -170,9 +171,9 @@ fn begin_another(
     version: Version,
     settings: Settings,
 ) -> Result<(), CheckKind>
-    ensures right { (before : Option spec.Chain) → IsAt chain.old before → OnOk result (IsBegun chain.new (another before version settings)) }
-    ensures wrong { (before : Option spec.Chain) → IsAt chain.old before → IfErr result (λ k. k ≢ CheckKind.Memory → another before version settings ≡ Err k) }
-    ensures kept { OnOk result (is_some chain.new ≡ true) }
+    ensures right { (before : Option spec.Chain) → AreKept chain.old before → OnOk result (IsBegun chain.new (another before version settings)) }
+    ensures wrong { (before : Option spec.Chain) → AreKept chain.old before → IfErr result (λ k. k ≢ CheckKind.Memory → another before version settings ≡ Err k) }
+    ensures inside { OnOk result (is_inside chain.new ≡ true) }
 {
     if !is_channel(chain, &settings) {
         return Err(CheckKind::OtherChannel);
@@ -185,6 +186,7 @@ fn begin_another(
         replayer: Replayer::new(alloc, 0, settings)?,
         version,
         earlier,
+        inside: true,
     });
     Ok(())
 }

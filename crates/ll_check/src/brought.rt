@@ -1,13 +1,12 @@
 //! The replies that entries bring, with their playlists.
-ghost use Rattle.std.specs.Prelude.{◌≡◌, ◌≢◌, ◌∷◌, List, ℕ, IfErr, IfOk, None, Ok, Some, Err, bytes_eq, false, is_some, option_map, true};
+ghost use Rattle.std.specs.Prelude.{◌≡◌, ◌≢◌, ◌+◌, List, IfErr, IfOk, MatchOption, None, Ok, Some, Err, option_map, true};
 ghost use Rattle.ll_attr.specs.Words.{pieces_at};
-ghost use Rattle.ll_check.specs.Brought.{brought, brought_by, brought_in};
-ghost use Rattle.ll_check.specs.Found.{IsAt, IsOf};
+ghost use Rattle.ll_check.specs.Brought.{Brings, BringsNone, IsBrought, brought_by, brought_in};
+ghost use Rattle.ll_check.specs.Found.{IsAt, IsOf, so_far};
 ghost use Rattle.ll_entry.specs.Chain as spec;
-ghost use Rattle.ll_entry.specs.Chain.{Inside, checked_from, joined, not_before, with_line, wrong};
+ghost use Rattle.ll_entry.specs.Chain.{Inside, Position, checked_from, entries, joined, not_before, wrong};
 ghost use Rattle.ll_entry.specs.Entered.{event_of, fault_in};
 ghost use Rattle.ll_entry.specs.Entries.{entry_in};
-ghost use Rattle.ll_entry.specs.Frame.{last_line};
 ghost use Rattle.ll_entry.specs.declared.entry.Recorded.TheVariants as recorded;
 ghost use Rattle.ll_room.specs.RoomValue.{Stands};
 ghost use Rattle.ll_room.specs.StampedValue.{StampedValue};
@@ -16,53 +15,82 @@ ghost use Rattle.ll_verdict.specs.Events.{Event};
 ghost use Rattle.ll_verdict.specs.Outcome.{outcome_of};
 ghost use Rattle.ll_verdict.specs.declared.reply.Reply as verdict;
 
-use crate::chain::Chain;
+use crate::chain::{Chain, is_inside};
 use crate::checker::Checker;
 use crate::entry::{enter, is_after, is_same, told};
-use crate::lines::{cut_line, text_in};
+use crate::lines::chunk_line;
 use ll_directive::Want;
 use ll_entry::{CheckFault, CheckKind, Recorded, Version};
 use ll_room::{Replayer, Stamped};
 use ll_verdict::{Outcome, Reply};
 use std::alloc::Global;
 
+/// An entry's line, and the reply that the entry brings.
+#[derive(Drop)]
+pub struct EntryReply<'a> {
+    /// The line.
+    pub line: &'a str,
+    /// What a request gets at once, or what is handed out to it; none where it brings none.
+    pub reply: Option<Reply>,
+}
+
 impl Checker {
-    /// The reply that the entry of the next line brings, where the entry is right: what a request gets at once, or what is handed out to it; none where
-    /// it brings none. It is for the line of an entry, inside of a chunk.
-    pub fn reply(&mut self, text: &[u8]) -> Result<Option<Reply>, CheckFault>
-        requires { is_some self.old ≡ true }
-        ensures right { (ch : spec.Chain) (line : List ℕ) (rest : List (List ℕ)) → IsAt self.old (Some ch) → pieces_at 10 text.now ≡ line ∷ rest
-            → IfOk result (λ r. ((now : spec.Chain) × (with_line ch line ≡ Ok now)) × (r ≡ brought ch line)) }
-        ensures wrong { (ch : spec.Chain) (line : List ℕ) (rest : List (List ℕ)) → IsAt self.old (Some ch) → pieces_at 10 text.now ≡ line ∷ rest
-            → bytes_eq line last_line ≡ false → IfErr result (λ f. f.kind ≢ CheckKind.Memory → checked_from (Inside ch) (pieces_at 10 text.now) ≡ Err f) }
-        ensures memory { (ch : spec.Chain) → IsAt self.old (Some ch) → IfErr result (λ f. not_before f.entry (checked_from (Inside ch) (pieces_at 10 text.now)) ≡ true) }
+    /// What the next entry brings, where it is right; none where no entry comes next: then nothing changes. What comes after the entry is for another
+    /// checker.
+    pub fn reply<'a>(&mut self, text: &'a [u8]) -> Result<Option<EntryReply<'a>>, CheckFault>
+        ensures right { (p : Position) → IsAt self.old p → IfOk result (λ r. MatchOption r (BringsNone self.old self.new p (pieces_at 10 text.now))
+            (λ b. Brings p b.line.now b.reply (pieces_at 10 text.now))) }
+        ensures wrong { (p : Position) → IsAt self.old p
+            → IfErr result (λ f. f.kind ≢ CheckKind.Memory → checked_from p (pieces_at 10 text.now) ≡ Err f) }
+        ensures memory { (p : Position) → IsAt self.old p → IfErr result (λ f. not_before f.entry (checked_from p (pieces_at 10 text.now)) ≡ true) }
+        ensures place { (p : Position) → IsAt self.old p → IfErr result (λ f. f.entry ≡ entries (so_far p) + 1) }
     {
         let entry = self.entries() + 1;
-        let Some(chain) = &mut self.chain else {
-            unreachable!()
-        };
-        match reply_of(self.alloc, chain, text) {
-            Ok(reply) => Ok(reply),
+        match next_reply(self.alloc, &mut self.chain, text) {
+            Ok(brought) => Ok(brought),
             Err(kind) => Err(CheckFault { entry, kind }),
         }
     }
 }
 
-/// The reply that the entry of the next line brings.
-fn reply_of(alloc: Global, chain: &mut Chain, text: &[u8]) -> Result<Option<Reply>, CheckKind>
-    ensures right { (ch : spec.Chain) (line : List ℕ) (rest : List (List ℕ)) → IsOf chain.old ch → pieces_at 10 text.now ≡ line ∷ rest
-        → IfOk result (λ r. ((now : spec.Chain) × (with_line ch line ≡ Ok now)) × (r ≡ brought ch line)) }
-    ensures wrong { (ch : spec.Chain) (line : List ℕ) (rest : List (List ℕ)) → IsOf chain.old ch → pieces_at 10 text.now ≡ line ∷ rest → bytes_eq line last_line ≡ false
+/// What the next entry brings; none where no entry comes next.
+fn next_reply<'a>(
+    alloc: Global,
+    chain: &mut Option<Chain>,
+    text: &'a [u8],
+) -> Result<Option<EntryReply<'a>>, CheckKind>
+    ensures right { (p : Position) → IsAt chain.old p → IfOk result (λ r. MatchOption r (BringsNone chain.old chain.new p (pieces_at 10 text.now))
+        (λ b. Brings p b.line.now b.reply (pieces_at 10 text.now))) }
+    ensures wrong { (p : Position) → IsAt chain.old p
+        → IfErr result (λ k. k ≢ CheckKind.Memory → checked_from p (pieces_at 10 text.now) ≡ wrong (so_far p) k) }
+{
+    if !is_inside(chain) {
+        return Ok(None);
+    }
+    match chain {
+        Some(chain) => reply_of(alloc, chain, text),
+        None => unreachable!(),
+    }
+}
+
+/// What the entry of a chunk's next line brings; none for its last line.
+fn reply_of<'a>(
+    alloc: Global,
+    chain: &mut Chain,
+    text: &'a [u8],
+) -> Result<Option<EntryReply<'a>>, CheckKind>
+    ensures right { (ch : spec.Chain) → IsOf chain.old ch
+        → IfOk result (λ r. MatchOption r (BringsNone (Some chain.old) (Some chain.new) (Inside ch) (pieces_at 10 text.now))
+        (λ b. IsBrought ch b.line.now b.reply (pieces_at 10 text.now))) }
+    ensures wrong { (ch : spec.Chain) → IsOf chain.old ch
         → IfErr result (λ k. k ≢ CheckKind.Memory → checked_from (Inside ch) (pieces_at 10 text.now) ≡ wrong (Some ch) k) }
 {
-    let Some((line, _rest)) = cut_line(text) else {
-        return Err(CheckKind::BadChunk);
-    };
-    let Some(line) = text_in(line) else {
-        return Err(CheckKind::BadChunk);
+    let (line, _rest) = chunk_line(text)?;
+    let Some(line) = line else {
+        return Ok(None);
     };
     match reply_to(alloc, chain, line) {
-        Ok(reply) => Ok(reply),
+        Ok(reply) => Ok(Some(EntryReply { line, reply })),
         Err(kind) => Err(kind),
     }
 }
@@ -78,6 +106,7 @@ fn reply_to(alloc: Global, chain: &mut Chain, line: &str) -> Result<Option<Reply
         replayer,
         version,
         earlier: _,
+        inside: _,
     } = chain;
     let entry = Recorded::read(alloc, *version, replayer.room().settings(), line)?;
     bring(replayer, *version, entry)

@@ -1,6 +1,7 @@
 //! What is kept of the chains of a record while they are checked.
 ghost use Rattle.std.specs.Prelude.{◌≡◌, ◌+◌, ◌≤◌, ◌^◌, Option};
-ghost use Rattle.ll_check.specs.Found.{IsAt, IsOf};
+ghost use Rattle.ll_check.specs.Found as found;
+ghost use Rattle.ll_check.specs.Found.{AreKept, IsOf};
 ghost use Rattle.ll_entry.specs.Chain as spec;
 
 use ll_entry::Version;
@@ -19,6 +20,8 @@ pub(crate) struct Chain {
     pub(crate) version: Version,
     /// How many entries the chains before it have.
     pub(crate) earlier: u64,
+    /// Whether the last line of its last chunk is still to come.
+    pub(crate) inside: bool,
 }
 
 impl Model for Chain {
@@ -27,7 +30,7 @@ impl Model for Chain {
 
     ghost Value = { ChainValue };
 
-    ghost view = { λ c. record { room = c.replayer; version = c.version; earlier = c.earlier } };
+    ghost view = { λ c. record { room = c.replayer; version = c.version; earlier = c.earlier; inside = c.inside } };
 
     ghost invariant = { λ c. c.earlier ≤ 2 ^ 62 };
 }
@@ -51,7 +54,7 @@ impl Chain {
 
 /// How many entries all chains so far have.
 pub(crate) fn entries_of(chain: &Option<Chain>) -> u64
-    ensures value { (before : Option spec.Chain) → IsAt chain.now before → result ≡ spec.entries before }
+    ensures value { (before : Option spec.Chain) → AreKept chain.now before → result ≡ spec.entries before }
     ensures few { result ≤ 2 ^ 63 }
 {
     match chain {
@@ -60,9 +63,19 @@ pub(crate) fn entries_of(chain: &Option<Chain>) -> u64
     }
 }
 
+/// Whether what comes next stands inside of a chunk.
+pub(crate) fn is_inside(chain: &Option<Chain>) -> bool
+    ensures { result ≡ found.is_inside chain.now }
+{
+    match chain {
+        Some(chain) => chain.inside,
+        None => false,
+    }
+}
+
 /// Whether these settings are of the channel of the chains so far.
 pub(crate) fn is_channel(chain: &Option<Chain>, settings: &Settings) -> bool
-    ensures { (before : Option spec.Chain) → IsAt chain.now before → result ≡ spec.is_channel before settings.now }
+    ensures { (before : Option spec.Chain) → AreKept chain.now before → result ≡ spec.is_channel before settings.now }
 {
     match chain {
         Some(chain) => chain.settings().channel() == settings.channel(),

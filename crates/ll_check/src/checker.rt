@@ -1,13 +1,14 @@
 //! Records: the chains of a channel, one after another.
-ghost use Rattle.std.specs.Prelude.{◌≡◌, ◌≢◌, ◌<◌, ◌≤◌, ◌^◌, IfErr, IfOk, OnOk, Option, None, Ok, Err, false, is_some, length, true};
+ghost use Rattle.std.specs.Prelude.{◌≡◌, ◌≢◌, ◌+◌, ◌<◌, ◌≤◌, ◌^◌, IfErr, IfOk, IfSome, MatchOption, OnOk, Option, None, Ok, Err, false, length, true};
 ghost use Rattle.ll_attr.specs.Words.{pieces_at};
 ghost use Rattle.ll_entry.specs.Chain as spec;
 ghost use Rattle.ll_entry.specs.Chain.{Between, Position, checked, checked_from, counted, not_before, wrong};
-ghost use Rattle.ll_check.specs.Found.{IsAt};
-ghost use Rattle.ll_check.specs.Steps.{IsThere, Moves, leads_inside, so_far};
+ghost use Rattle.ll_check.specs.Found as found;
+ghost use Rattle.ll_check.specs.Found.{IsAt, so_far};
+ghost use Rattle.ll_check.specs.Steps.{IsOver, Moves};
 
 use crate::begin::begin;
-use crate::chain::{Chain, entries_of};
+use crate::chain::{Chain, entries_of, is_inside};
 use crate::chunk::go_on;
 use crate::told::Told;
 use ll_entry::{CheckFault, CheckKind};
@@ -50,32 +51,24 @@ impl Checker {
         Checker { alloc, chain: None }
     }
 
-    /// Goes through any number of whole chunks, which come next.
+    /// Goes through lines, which come next and the last of which ends a chunk; none where it stands between chunks.
     pub fn read(&mut self, bytes: &[u8]) -> Result<(), CheckFault>
-        ensures right { (before : Option spec.Chain) → IsAt self.old before
-            → OnOk result ((now : Option spec.Chain) × IsAt self.new now × (checked_from (Between before) (pieces_at 10 bytes.now) ≡ Ok now)) }
-        ensures wrong { (before : Option spec.Chain) → IsAt self.old before
-            → IfErr result (λ f. f.kind ≢ CheckKind.Memory → checked_from (Between before) (pieces_at 10 bytes.now) ≡ Err f) }
-        ensures memory { (before : Option spec.Chain) → IsAt self.old before
-            → IfErr result (λ f. not_before f.entry (checked_from (Between before) (pieces_at 10 bytes.now)) ≡ true) }
+        ensures right { (p : Position) → IsAt self.old p
+            → OnOk result ((now : Option spec.Chain) × IsAt self.new (Between now) × (checked_from p (pieces_at 10 bytes.now) ≡ Ok now)) }
+        ensures wrong { (p : Position) → IsAt self.old p
+            → IfErr result (λ f. f.kind ≢ CheckKind.Memory → checked_from p (pieces_at 10 bytes.now) ≡ Err f) }
+        ensures memory { (p : Position) → IsAt self.old p → IfErr result (λ f. not_before f.entry (checked_from p (pieces_at 10 bytes.now)) ≡ true) }
     {
         let mut rest = bytes;
-        let mut inside = false;
-        while inside || !rest.is_empty() {
-            match self.step(inside, rest) {
-                Ok((told, more)) => {
-                    inside = told.leads_inside();
-                    rest = more;
-                }
-                Err(fault) => return Err(fault),
-            }
+        while let Some((_told, more)) = self.next(rest)? {
+            rest = more;
         }
         Ok(())
     }
 
-    /// How many entries the chunks have. A record has one chunk or more.
+    /// How many entries the chunks have so far. A record has one chunk or more.
     pub fn count(&self) -> Result<u64, CheckFault>
-        ensures { (before : Option spec.Chain) → IsAt self.now before → result ≡ counted (Ok before) }
+        ensures { (p : Position) → IsAt self.now p → result ≡ counted (Ok (so_far p)) }
     {
         match &self.chain {
             Some(chain) => Ok(chain.entries()),
@@ -86,32 +79,31 @@ impl Checker {
         }
     }
 
-    /// How many entries the chunks have so far.
+    /// How many entries the chunks have so far; 0 where there is none.
     pub fn entries(&self) -> u64
-        ensures value { (before : Option spec.Chain) → IsAt self.now before → result ≡ spec.entries before }
+        ensures value { (p : Position) → IsAt self.now p → result ≡ spec.entries (so_far p) }
         ensures few { result ≤ 2 ^ 63 }
     {
         entries_of(&self.chain)
     }
 
-    /// Goes over the next lines, and answers what they tell and what stands after them: the first three of a chunk, or, inside of one, one line.
-    pub fn step<'a>(
-        &mut self,
-        inside: bool,
-        text: &'a [u8],
-    ) -> Result<(Told<'a>, &'a [u8]), CheckFault>
-        requires some { inside ≡ false → 0 < length text.now }
-        requires begun { inside ≡ true → is_some self.old ≡ true }
-        ensures right { (p : Position) → IsThere inside self.old p → IfOk result (λ r. Moves self.new p r.0 (pieces_at 10 text.now) (pieces_at 10 r.1.now)) }
-        ensures wrong { (p : Position) → IsThere inside self.old p
+    /// Goes over the next lines, and answers what they tell and what stands after them: the first three of a chunk, or, inside of one, one line. None
+    /// where no text is left between chunks: then nothing changes.
+    pub fn next<'a>(&mut self, text: &'a [u8]) -> Result<Option<(Told<'a>, &'a [u8])>, CheckFault>
+        ensures right { (p : Position) → IsAt self.old p → IfOk result (λ r. MatchOption r (IsOver self.old self.new p text.now)
+            (λ s. Moves self.new p s.0 (pieces_at 10 text.now) (pieces_at 10 s.1.now))) }
+        ensures wrong { (p : Position) → IsAt self.old p
             → IfErr result (λ f. f.kind ≢ CheckKind.Memory → checked_from p (pieces_at 10 text.now) ≡ Err f) }
-        ensures memory { (p : Position) → IsThere inside self.old p → IfErr result (λ f. not_before f.entry (checked_from p (pieces_at 10 text.now)) ≡ true) }
-        ensures begun { IfOk result (λ r. leads_inside r.0 ≡ true → is_some self.new ≡ true) }
-        ensures shorter { IfOk result (λ r. length r.1.now < length text.now) }
+        ensures memory { (p : Position) → IsAt self.old p → IfErr result (λ f. not_before f.entry (checked_from p (pieces_at 10 text.now)) ≡ true) }
+        ensures place { (p : Position) → IsAt self.old p → IfErr result (λ f. f.entry ≡ spec.entries (so_far p) + 1) }
+        ensures shorter { IfOk result (λ r. IfSome r (λ s. length s.1.now < length text.now)) }
     {
+        if text.is_empty() && !is_inside(&self.chain) {
+            return Ok(None);
+        }
         let entry = self.entries() + 1;
-        match go_over(self.alloc, &mut self.chain, inside, text) {
-            Ok(step) => Ok(step),
+        match go_over(self.alloc, &mut self.chain, text) {
+            Ok(step) => Ok(Some(step)),
             Err(kind) => Err(CheckFault { entry, kind }),
         }
     }
@@ -121,18 +113,15 @@ impl Checker {
 fn go_over<'a>(
     alloc: Global,
     chain: &mut Option<Chain>,
-    inside: bool,
     text: &'a [u8],
 ) -> Result<(Told<'a>, &'a [u8]), CheckKind>
-    requires some { inside ≡ false → 0 < length text.now }
-    requires begun { inside ≡ true → is_some chain.old ≡ true }
-    ensures right { (p : Position) → IsThere inside chain.old p → IfOk result (λ r. Moves chain.new p r.0 (pieces_at 10 text.now) (pieces_at 10 r.1.now)) }
-    ensures wrong { (p : Position) → IsThere inside chain.old p
+    requires { found.is_inside chain.old ≡ false → 0 < length text.now }
+    ensures right { (p : Position) → IsAt chain.old p → IfOk result (λ r. Moves chain.new p r.0 (pieces_at 10 text.now) (pieces_at 10 r.1.now)) }
+    ensures wrong { (p : Position) → IsAt chain.old p
         → IfErr result (λ k. k ≢ CheckKind.Memory → checked_from p (pieces_at 10 text.now) ≡ wrong (so_far p) k) }
-    ensures begun { IfOk result (λ r. leads_inside r.0 ≡ true → is_some chain.new ≡ true) }
     ensures shorter { IfOk result (λ r. length r.1.now < length text.now) }
 {
-    if !inside {
+    if !is_inside(chain) {
         return begin(alloc, chain, text);
     }
     match chain {

@@ -1,7 +1,8 @@
 //! The lines of a chunk after its first three.
 ghost use Rattle.std.specs.Prelude.{◌≡◌, ◌≢◌, ◌<◌, IfErr, IfOk, Err, Some, length, option_map};
 ghost use Rattle.ll_attr.specs.Words.{pieces_at};
-ghost use Rattle.ll_check.specs.Found.{IsJoined, IsOf};
+ghost use Rattle.ll_check.specs.Found.{IsAt, IsOf};
+ghost use Rattle.ll_check.specs.Joined.{IsJoined};
 ghost use Rattle.ll_check.specs.Steps.{Moves, in_full, without_item};
 ghost use Rattle.ll_entry.specs.Chain as spec;
 ghost use Rattle.ll_entry.specs.Chain.{Inside, checked_from, joined, wrong};
@@ -9,9 +10,9 @@ ghost use Rattle.ll_entry.specs.Entries.{entry_in};
 
 use crate::chain::Chain;
 use crate::entry::enter;
-use crate::lines::{cut_line, text_in};
-use crate::told::{Entered, Told};
-use ll_entry::{CheckKind, LAST_LINE, Recorded};
+use crate::lines::chunk_line;
+use crate::told::{FullEntry, Told};
+use ll_entry::{CheckKind, Recorded};
 use std::alloc::Global;
 
 /// Goes over the next line of a chunk, and answers what it tells and what stands after it.
@@ -20,20 +21,16 @@ pub(crate) fn go_on<'a>(
     chain: &mut Chain,
     text: &'a [u8],
 ) -> Result<(Told<'a>, &'a [u8]), CheckKind>
-    ensures right { (ch : spec.Chain) → IsOf chain.old ch
+    ensures right { (ch : spec.Chain) → IsAt (Some chain.old) (Inside ch)
         → IfOk result (λ r. Moves (Some chain.new) (Inside ch) r.0 (pieces_at 10 text.now) (pieces_at 10 r.1.now)) }
-    ensures wrong { (ch : spec.Chain) → IsOf chain.old ch
+    ensures wrong { (ch : spec.Chain) → IsAt (Some chain.old) (Inside ch)
         → IfErr result (λ k. k ≢ CheckKind.Memory → checked_from (Inside ch) (pieces_at 10 text.now) ≡ wrong (Some ch) k) }
     ensures shorter { IfOk result (λ r. length r.1.now < length text.now) }
 {
-    let Some((line, rest)) = cut_line(text) else {
-        return Err(CheckKind::BadChunk);
-    };
-    if line == LAST_LINE.as_bytes() {
+    let (line, rest) = chunk_line(text)?;
+    let Some(line) = line else {
+        chain.inside = false;
         return Ok((Told::Ended, rest));
-    }
-    let Some(line) = text_in(line) else {
-        return Err(CheckKind::BadChunk);
     };
     let version = chain.version;
     match take(alloc, chain, line) {
@@ -43,16 +40,18 @@ pub(crate) fn go_on<'a>(
 }
 
 /// Takes the event that a line's entry tells, where the entry is right, and answers what the entry is in full.
-fn take(alloc: Global, chain: &mut Chain, line: &str) -> Result<Entered, CheckKind>
+fn take(alloc: Global, chain: &mut Chain, line: &str) -> Result<FullEntry, CheckKind>
     ensures right { (ch : spec.Chain) → IsOf chain.old ch → IfOk result (λ entry. IsJoined chain.new (joined ch (entry_in ch.version ch.settings line.now))
         × (option_map without_item (in_full ch (entry_in ch.version ch.settings line.now)) ≡ Some entry)) }
     ensures wrong { (ch : spec.Chain) → IsOf chain.old ch
         → IfErr result (λ k. k ≢ CheckKind.Memory → joined ch (entry_in ch.version ch.settings line.now) ≡ Err k) }
+    ensures inside { chain.new.inside ≡ chain.old.inside }
 {
     let Chain {
         replayer,
         version,
         earlier: _,
+        inside: _,
     } = chain;
     let entry = Recorded::read(alloc, *version, replayer.room().settings(), line)?;
     enter(replayer, *version, entry)

@@ -14,10 +14,10 @@ ghost use Rattle.ll_verdict.specs.Events.{Event};
 ghost use Rattle.ll_verdict.specs.Outcome.{outcome_of};
 ghost use Rattle.ll_verdict.specs.declared.reply.Reply as verdict;
 
-use crate::told::Entered;
+use crate::told::FullEntry;
 use ll_directive::Want;
 use ll_entry::{CheckKind, Recorded, Version};
-use ll_item::{Item, SkipKind};
+use ll_item::Item;
 use ll_room::{Replayer, Stamped};
 use ll_verdict::{Outcome, PublishFault, Reply};
 use std::alloc::AllocError;
@@ -29,7 +29,7 @@ pub(crate) fn enter(
     replayer: &mut Replayer,
     version: Version,
     entry: Recorded,
-) -> Result<Entered, CheckKind>
+) -> Result<FullEntry, CheckKind>
     ensures right { (events : List Event) → Stands replayer.old events → OnOk result
         ((fault_in version replayer.old.settings events entry ≡ None) × Stands replayer.new (events ++ event_of entry ∷ [])) }
     ensures full { (events : List Event) → Stands replayer.old events
@@ -42,23 +42,23 @@ pub(crate) fn enter(
     match entry {
         Recorded::Publish(item) => {
             publish(replayer, item)?;
-            Ok(Entered::Publish)
+            Ok(FullEntry::Publish)
         }
         Recorded::Ask(ask, want, outcome) => {
             let outcome = make_request(replayer, version, ask, &want, outcome)?;
-            Ok(Entered::Ask(ask, want, outcome))
+            Ok(FullEntry::Ask(ask, want, outcome))
         }
         Recorded::Clock(ms) => {
             read_clock(replayer, ms)?;
-            Ok(Entered::Clock(ms))
+            Ok(FullEntry::Clock(ms))
         }
         Recorded::Collect(ask, outcome) => {
             let outcome = collect(replayer, version, ask, outcome)?;
-            Ok(Entered::Collect(ask, outcome))
+            Ok(FullEntry::Collect(ask, outcome))
         }
         Recorded::Close(ask) => {
             close(replayer, ask)?;
-            Ok(Entered::Close(ask))
+            Ok(FullEntry::Close(ask))
         }
     }
 }
@@ -199,36 +199,5 @@ pub(crate) fn told(version: Version, outcome: Option<Outcome>) -> Option<Outcome
 pub(crate) fn is_same(a: Option<Outcome>, b: Option<Outcome>) -> bool
     ensures { result ≡ spec.same_answer a b }
 {
-    match (a, b) {
-        (None, None) => true,
-        (Some(a), Some(b)) => is_same_outcome(a, b),
-        _ => false,
-    }
-}
-
-/// Whether two replies come to the same.
-fn is_same_outcome(a: Outcome, b: Outcome) -> bool
-    ensures { result ≡ spec.same_outcome a b }
-{
-    match (a, b) {
-        (Outcome::Text(a, update), Outcome::Text(b, other)) => a == b
-            && is_same_update(update, other),
-        (Outcome::NotFound, Outcome::NotFound) => true,
-        (Outcome::TooFar, Outcome::TooFar) => true,
-        (Outcome::Busy, Outcome::Busy) => true,
-        (Outcome::Timeout, Outcome::Timeout) => true,
-        _ => false,
-    }
-}
-
-/// Whether two playlists are the same delta update, or both full.
-fn is_same_update(a: Option<SkipKind>, b: Option<SkipKind>) -> bool
-    ensures { result ≡ spec.same_update a b }
-{
-    match (a, b) {
-        (None, None) => true,
-        (Some(SkipKind::Yes), Some(SkipKind::Yes)) => true,
-        (Some(SkipKind::V2), Some(SkipKind::V2)) => true,
-        _ => false,
-    }
+    a == b
 }

@@ -1,5 +1,4 @@
 ghost use Rattle.ll_check.specs.Records.{RecordLaw};
-ghost use Rattle.ll_check.specs.Upgrade.{UpgradeLaw};
 
 /// A text is found right by [`check`](crate::check), with so many entries, exactly where it is the record of so many events of a channel: of one
 /// run of it or more, one after another. Each is cut into chunks, none of format 1 after one of format 2, which name the channel, the run's
@@ -10,10 +9,4 @@ ghost use Rattle.ll_check.specs.Upgrade.{UpgradeLaw};
 /// further item, request or reading. It does nothing.
 pub fn record_law()
     ensures { RecordLaw }
-{}
-
-/// What [`upgrade`](crate::upgrade) makes of a record is a record of the same channel in format 2: of the same runs, with the same events, in chunks
-/// of the same settings lines that begin at the same entries. So it is found right, with as many entries.
-pub fn upgrade_law()
-    ensures { UpgradeLaw }
 {}

@@ -11,11 +11,9 @@ mod entry;
 mod laws;
 mod lines;
 mod told;
-mod upgraded;
 
 pub use answer::answer_line;
+pub use brought::EntryReply;
 pub use checker::{Checker, check};
-pub use laws::{record_law, upgrade_law};
-pub use lines::entry_line;
-pub use told::{Entered, Told};
-pub use upgraded::upgrade;
+pub use laws::record_law;
+pub use told::{FullEntry, Told};

@@ -1,10 +1,11 @@
 //! Lines of bytes.
-ghost use Rattle.std.specs.Prelude.{◌≡◌, ◌<◌, ◌∷◌, [], IfSome, List, MatchOption, Some, None, bytes_eq, false, length, option_map, ℕ};
+ghost use Rattle.std.specs.Prelude.{◌≡◌, ◌<◌, ◌∷◌, [], IfErr, IfOk, IfSome, MatchOption, Some, length, option_map};
 ghost use Rattle.ll_attr.specs.Words.{pieces_at};
 ghost use Rattle.ll_entry.specs.Chain as spec;
-ghost use Rattle.ll_entry.specs.Frame.{last_line};
+ghost use Rattle.ll_check.specs.Lines.{IsLast, IsText};
+ghost use Rattle.ll_entry.specs.Chain.{Inside, checked_from, wrong};
 
-use ll_entry::LAST_LINE;
+use ll_entry::{CheckKind, LAST_LINE};
 use memchr::memchr;
 use std::str;
 
@@ -18,15 +19,23 @@ pub(crate) fn cut_line(bytes: &[u8]) -> Option<(&[u8], &[u8])>
     Some((&bytes[..end], &bytes[end + 1..]))
 }
 
-/// The first line, where it is text and isn't the last one of a chunk.
-pub fn entry_line(text: &[u8]) -> Option<&str>
-    ensures { IfSome result (λ line. (bytes_eq line.now last_line ≡ false) × ((rest : List ℕ) × (pieces_at 10 text.now ≡ line.now ∷ pieces_at 10 rest))) }
+/// The text of the next line of a chunk after its first three, or none for its last line; and what stands after it.
+pub(crate) fn chunk_line(bytes: &[u8]) -> Result<(Option<&str>, &[u8]), CheckKind>
+    ensures right { IfOk result (λ r. MatchOption r.0 (IsLast (pieces_at 10 bytes.now) (pieces_at 10 r.1.now))
+        (λ line. IsText line.now (pieces_at 10 bytes.now) (pieces_at 10 r.1.now))) }
+    ensures wrong { (ch : spec.Chain) → IfErr result (λ k. checked_from (Inside ch) (pieces_at 10 bytes.now) ≡ wrong (Some ch) k) }
+    ensures shorter { IfOk result (λ r. length r.1.now < length bytes.now) }
 {
-    let (line, _rest) = cut_line(text)?;
+    let Some((line, rest)) = cut_line(bytes) else {
+        return Err(CheckKind::BadChunk);
+    };
     if line == LAST_LINE.as_bytes() {
-        return None;
+        return Ok((None, rest));
     }
-    text_in(line)
+    match text_in(line) {
+        Some(text) => Ok((Some(text), rest)),
+        None => Err(CheckKind::BadChunk),
+    }
 }
 
 /// A line that is text.

@@ -1,7 +1,4 @@
 //! What the lines of a record tell, one after another.
-ghost use Rattle.std.specs.Prelude.{◌≡◌};
-ghost use Rattle.ll_check.specs.Steps as spec;
-
 use ll_directive::Want;
 use ll_entry::Version;
 use ll_verdict::Outcome;
@@ -12,14 +9,14 @@ pub enum Told<'a> {
     /// A chunk begins, with this settings line, after so many entries of its chain.
     Begun(&'a str, u64),
     /// An entry in this format, of this line, and what it tells in full.
-    Entry(Version, &'a str, Entered),
+    Entry(Version, &'a str, FullEntry),
     /// The chunk has its last line.
     Ended,
 }
 
 /// An entry as it is told in full: with what a reply comes to, whatever the format of its line tells of that. An item's words are the line's.
 #[derive(Drop)]
-pub enum Entered {
+pub enum FullEntry {
     /// An item was accepted.
     Publish,
     /// The request of this number was made, and what it got at once; none where it was held.
@@ -30,16 +27,4 @@ pub enum Entered {
     Collect(u64, Outcome),
     /// The request of this number was given up.
     Close(u64),
-}
-
-impl Told<'_> {
-    /// Whether what comes next is inside of a chunk.
-    pub fn leads_inside(self) -> bool
-        ensures { result ≡ spec.leads_inside self.entry }
-    {
-        match self {
-            Told::Begun(..) | Told::Entry(..) => true,
-            Told::Ended => false,
-        }
-    }
 }

@@ -5,15 +5,16 @@ ghost use Rattle.ll_apply.specs.Texts.{applied_text};
 ghost use Rattle.ll_apply.specs.declared.fault.ApplyFault.{ApplyFault};
 ghost use Rattle.ll_apply.specs.declared.fault.ApplyFault.TheVariants as apply_fault;
 ghost use Rattle.ll_check.specs.Answer as spec;
-ghost use Rattle.ll_check.specs.Upgrade.{upgraded};
 ghost use Rattle.ll_entry.specs.Chain.{checked};
-ghost use Rattle.ll_explain.specs.Words.{IsTold};
+ghost use Rattle.ll_explain.specs.Explained.{HasNoEntry};
+ghost use Rattle.ll_explain.specs.Upgrade.{upgraded};
+ghost use Rattle.ll_explain.specs.Words.{IsExplanation};
 
 use crate::fault::Fault;
 use ll_apply::apply;
-use ll_check::{answer_line, check, upgrade};
+use ll_check::{answer_line, check};
 use ll_entry::{CheckFault, CheckKind};
-use ll_explain::{ExplainFault, explain, summarize, summary_text};
+use ll_explain::{ExplainFault, explain, summarize, summary_text, upgrade};
 use std::alloc::{AllocError, Global};
 use std::io::Write;
 
@@ -65,8 +66,8 @@ pub fn write_explained<W: Write>(
     entry: u64,
     out: &mut W,
 ) -> Result<bool, Fault>
-    ensures written { IfOk result (λ right. (text : List ℕ) × IsTold chunks.now entry right text × Appends (W.contents out.old) (W.contents out.new) text) }
-    ensures none { IsErrOf result Fault.NoEntry → IsOk (checked chunks.now) }
+    ensures written { IfOk result (λ right. (text : List ℕ) × IsExplanation chunks.now entry right text × Appends (W.contents out.old) (W.contents out.new) text) }
+    ensures none { IsErrOf result Fault.NoEntry → HasNoEntry chunks.now entry }
     ensures kinds { IfErr result (λ f. f ≢ Fault.Write → f ≢ Fault.NoEntry → f ≡ Fault.Memory) }
 {
     match explain(alloc, chunks, entry) {

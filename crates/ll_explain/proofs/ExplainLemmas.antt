@@ -1,46 +1,229 @@
--- What is told of an entry's line, inside of a chunk.
-use Rattle.std.proofs.Common.{◌≡◌, Bool, List, ℕ, true, Option, Some, None, Err, ap, ◌∙◌, subst, sym}
+-- What is kept while an entry is looked for: where the lines so far lead, the time by then, and that the entry is still to come.
+use Rattle.std.proofs.Common.{◌≡◌, ◌≢◌, ◌⊎◌, inl, inr, ◌+◌, ◌<◌, ◌≤◌, ℕ, zero, suc, List, [], ◌∷◌, ◌++◌, true, false, not, Option, Some, None, Ok, Err, refl, ap, ◌∙◌, subst, sym, true≢false, bytes_eq, length, length-append, option_map, arith}
 use Rattle.ll_attr.specs.Words.{pieces_at}
-use Rattle.ll_check.proofs.StepLemmas.{moved}
-use Rattle.ll_check.specs.Found.{ChainValue, IsAt}
-use Rattle.ll_check.specs.Steps.{IsThere, Leads, Moves, leads_inside}
+use Rattle.ll_check.proofs.Begun.{Another, EntryParts, GoesOn, Next, Onward, begun_lines, entry_line, new_chain}
+use Rattle.ll_check.proofs.LaterLemmas.{Keeps, keeps_begun}
+use Rattle.ll_check.proofs.Places.{first-at}
+use Rattle.ll_check.proofs.ReachedLemmas.{Passed, passed-first, passed-then, passed-told}
+use Rattle.ll_check.proofs.StepLemmas.{moved, over-at}
+use Rattle.ll_check.specs.Brought.{Brings}
+use Rattle.ll_check.specs.Found.{ChainValue, IsAt, so_far}
+use Rattle.ll_check.specs.Steps.{IsOver, Moves, Tells, full_entry, has_entry, without_item}
+use Rattle.ll_check.specs.declared.told.FullEntry.{FullEntry}
 use Rattle.ll_check.specs.declared.told.Told.{Told}
-use Rattle.ll_entry.specs.Chain.{Between, Chain, Inside, Position, checked, checked_from, counted}
+use Rattle.ll_check.specs.declared.told.Told.TheVariants as told
+use Rattle.ll_entry.proofs.ToldLemmas.{told-right, whole-entry}
+use Rattle.ll_entry.specs.Chain.{Between, Chain, Inside, Position, begun, checked, checked_from, counted, entries, text_in}
+use Rattle.ll_entry.specs.Entered.{event_of}
+use Rattle.ll_entry.specs.Frame.{last_line}
+use Rattle.ll_entry.specs.Told.{entry_after}
+use Rattle.ll_entry.specs.declared.entry.Recorded.{Recorded}
+use Rattle.ll_entry.specs.declared.entry.Recorded.TheVariants as recorded
 use Rattle.ll_entry.specs.declared.fault.CheckFault.{CheckFault}
-use Rattle.ll_explain.specs.Explained.{Passes}
+use Rattle.ll_entry.specs.declared.fault.CheckKind.{CheckKind}
+use Rattle.ll_entry.specs.declared.version.Version.TheVariants.{Two}
+use Rattle.ll_explain.proofs.UpgradeLines.{full-is}
+use Rattle.ll_explain.specs.Explained.{HasNoEntry, IsExplained}
+use Rattle.ll_explain.specs.Seeking.{IsElsewhere, IsHere, time_after_entry, time_told}
+use Rattle.ll_item.specs.Settings.{Configuration}
+use Rattle.ll_verdict.proofs.StateLemmas.{time-snoc}
+use Rattle.ll_verdict.specs.Events.{Event, later, time}
+use Rattle.ll_verdict.specs.declared.reply.Reply.{Reply}
 
--- the chain that the lines so far lead into
-pub record IsInside (k : Option ChainValue) (lines mid : List (List ℕ)) : Type 0 where
-  pub chain : Chain
-  pub at : IsAt k (Some chain)
-  pub leads : checked_from (Between None) lines ≡ checked_from (Inside chain) mid
+-- ---- the time
 
-inside-at : (k : Option ChainValue) (lines mid : List (List ℕ)) (p : Position) → IsThere true k p → checked_from (Between None) lines ≡ checked_from p mid
-    → IsInside k lines mid
-inside-at k lines mid (Inside ch) there leads = record { chain = ch; at = there; leads = leads }
-inside-at k lines mid (Between before) there leads = absurd there
+-- the time of the channel of the last chain so far
+abbrev pub time_of : Option Chain → ℕ
+time_of None = 0
+time_of (Some ch) = time ch.events
 
-pub inside-of : (inside : Bool) (k : Option ChainValue) (lines mid : List (List ℕ)) → Leads inside k None lines mid → inside ≡ true → IsInside k lines mid
-inside-of inside k lines mid l is =
-    let at : Leads true k None lines mid = subst (λ b. Leads b k None lines mid) is l in inside-at k lines mid at.now at.there at.same
+no_events : (events : List Event) → 0 ≡ length events → 0 ≡ time events
+no_events [] h = refl
+no_events (e ∷ es) h = absurd (omega (arith, h))
 
-pub first-at : (k : Option ChainValue) → k ≡ None → IsAt k None
-first-at k none = subst (λ k. IsAt k None) (sym none) tt
+same_some : (a b : FullEntry) → Some a ≡ Some b → a ≡ b
+same_some a b h = cc
 
--- what is wrong with the line is what is wrong with the record
-pub wrong-at : (k : Option ChainValue) (bytes : List ℕ) (mid : List (List ℕ)) (i : IsInside k (pieces_at 10 bytes) mid) (f : CheckFault)
-    → checked_from (Inside i.chain) mid ≡ Err f → checked bytes ≡ Err f
-wrong-at k bytes mid i f h = ap counted (i.leads ∙ h)
+goes_on : (before : Option Chain) (ch : Chain) → GoesOn before ch → time_of before ≡ time ch.events
+goes_on None ch g = absurd g
+goes_on (Some old) ch g = ap (λ (c : Chain). time c.events) (sym g.2)
+
+-- a chunk that has entries before it goes on with the last chain
+time-onward : (before : Option Chain) (ch : Chain) (at : ℕ) → suc at ≡ length ch.events → Next before ch → time_of before ≡ time ch.events
+time-onward before ch at many (Another a) = absurd (omega (arith, many, ap (λ (c : Chain). length c.events) a.1))
+time-onward before ch at many (Onward g) = goes_on before ch g
+
+later-is : (ms : ℕ) (entry : Recorded) → later ms (event_of entry) ≡ time_after_entry ms (without_item entry)
+later-is ms (recorded.Publish item) = refl
+later-is ms (recorded.Ask ask want reply) = refl
+later-is ms (recorded.Clock reading) = refl
+later-is ms (recorded.Collect ask reply) = refl
+later-is ms (recorded.Close ask) = refl
+
+-- the entry of an event tells it
+event-is : (c : Configuration) (before : List Event) (e : Event) (entry : Recorded) → entry_after c before e ≡ Some entry → event_of entry ≡ e
+event-is c before e entry h = ap event_of (sym (whole-entry entry)) ∙ (told-right Two c before e entry h).1
+
+entry-time : (ch now : Chain) (line : List ℕ) (entry : FullEntry) → EntryParts ch line now → option_map without_item (full_entry ch line) ≡ Some entry
+    → time_after_entry (time ch.events) entry ≡ time now.events
+entry-time ch now line entry x told =
+    let own = x.told.entry in
+    let is : without_item own ≡ entry =
+    same_some (without_item own) entry
+    (ap (option_map without_item) (sym (full-is ch line x.event own x.utf8 x.told.happens x.told.read)) ∙ told) in
+    ap (time_after_entry (time ch.events)) (sym is)
+    ∙ sym (later-is (time ch.events) own)
+    ∙ ap (later (time ch.events)) (event-is ch.settings ch.events x.event own x.told.happens)
+    ∙ sym (time-snoc ch.events x.event)
+    ∙ ap (λ (c : Chain). time c.events) (sym x.next)
+
+pub time-told : (p next : Position) (t : Told) (lines rest : List (List ℕ)) → Tells p t next lines rest → time_told (time_of (so_far p)) t ≡ time_of (so_far next)
+time-told (Between before) (Inside ch) (told.Begun settings zero) lines rest h = no_events ch.events h.many
+time-told (Between before) (Inside ch) (told.Begun settings (suc at)) lines rest h =
+    time-onward before ch at h.many (begun_lines before h.header.first settings.now h.header.place ch h.header.begun).next
+time-told (Inside ch) (Inside now) (told.Entry version line entry) lines rest h = entry-time ch now line.now entry (entry_line ch now line.now h.joined) h.told
+time-told (Inside ch) (Between before) told.Ended lines rest h = ap time_of (sym h.same)
+time-told (Between before) (Between after) (told.Begun settings at) lines rest h = absurd h
+time-told (Between before) next (told.Entry version line entry) lines rest h = absurd h
+time-told (Between before) next told.Ended lines rest h = absurd h
+time-told (Inside ch) next (told.Begun settings at) lines rest h = absurd h
+time-told (Inside ch) (Between before) (told.Entry version line entry) lines rest h = absurd h
+time-told (Inside ch) (Inside now) told.Ended lines rest h = absurd h
+
+-- ---- how many entries were passed
+
+-- the entry of this number comes after so many, or there is none of that number
+abbrev IsAhead : ℕ → ℕ → Type 0
+IsAhead entry n = (entry ≡ 0) ⊎ (n < entry)
+
+next_ahead : (entry n m : ℕ) → m ≡ n + 1 → n + 1 ≢ entry → IsAhead entry n → IsAhead entry m
+next_ahead entry n m is other (inl none) = inl none
+next_ahead entry n m is other (inr less) = inr (omega (arith, is, other, less))
+
+one_more : (ch now : Chain) (e : Event) → now ≡ record ch { events = ch.events ++ e ∷ [] } → entries (Some now) ≡ entries (Some ch) + 1
+one_more ch now e is = ap (λ (c : Chain). entries (Some c)) is ∙ omega (arith, length-append ch.events (e ∷ []))
+
+ahead-told : (entry : ℕ) (p next : Position) (t : Told) (lines rest : List (List ℕ)) → Tells p t next lines rest
+    → (entries (so_far p) + 1 ≡ entry → has_entry p lines ≡ false) → IsAhead entry (entries (so_far p)) → IsAhead entry (entries (so_far next))
+ahead-told entry (Between before) (Inside ch) (told.Begun settings at) lines rest h none ahead =
+    let keeps : Keeps before (Ok ch) =
+    subst (Keeps before) h.header.begun (keeps_begun before (text_in h.header.first) (text_in settings.now) (text_in h.header.place)) in
+    subst (IsAhead entry) (sym keeps) ahead
+ahead-told entry (Inside ch) (Inside now) (told.Entry version line e) lines rest h none ahead =
+    let x = entry_line ch now line.now h.joined in
+    let has : has_entry (Inside ch) lines ≡ true = ap (has_entry (Inside ch)) h.are ∙ ap not h.other in
+    next_ahead entry (entries (Some ch)) (entries (Some now)) (one_more ch now x.event x.next) (λ is. true≢false (sym has ∙ none is)) ahead
+ahead-told entry (Inside ch) (Between before) told.Ended lines rest h none ahead = subst (λ o. IsAhead entry (entries o)) (sym h.same) ahead
+ahead-told entry (Between before) (Between after) (told.Begun settings at) lines rest h none ahead = absurd h
+ahead-told entry (Between before) next (told.Entry version line e) lines rest h none ahead = absurd h
+ahead-told entry (Between before) next told.Ended lines rest h none ahead = absurd h
+ahead-told entry (Inside ch) next (told.Begun settings at) lines rest h none ahead = absurd h
+ahead-told entry (Inside ch) (Between before) (told.Entry version line e) lines rest h none ahead = absurd h
+ahead-told entry (Inside ch) (Inside now) told.Ended lines rest h none ahead = absurd h
 
 -- ---- one step after another
 
-pub passes-told : (inside : Bool) (k : Option ChainValue) (p : Position) (t : Told) (lines : List (List ℕ)) (rest : List ℕ) → inside ≡ leads_inside t
-    → Moves k p t lines (pieces_at 10 rest) → Passes inside k p lines (pieces_at 10 rest)
-passes-told inside k p t lines rest is m =
-    record { next = m.next; there = subst (λ b. IsThere b k m.next) (sym is) m.there; same = moved p m.next t lines rest m.by }
+-- what is kept stands where the lines so far lead, and the entry of this number comes later, if at all
+pub record Seeks (kept : Option ChainValue) (entry ms : ℕ) (lines rest : List (List ℕ)) : Type 0 where
+  pub now : Position
+  pub at : IsAt kept now
+  pub same : checked_from (Between None) lines ≡ checked_from now rest
+  pub passed : Passed (Between None) now lines rest
+  pub clock : ms ≡ time_of (so_far now)
+  pub ahead : (entry ≡ 0) ⊎ (entries (so_far now) < entry)
+  pub none : entries (so_far now) + 1 ≡ entry → has_entry now rest ≡ false
 
-pub passes-on : (inside more : Bool) (k new : Option ChainValue) (lines mid rest : List (List ℕ)) → Leads inside k None lines mid
-    → ((p : Position) → IsThere inside k p → Passes more new p mid rest) → Leads more new None lines rest
-passes-on inside more k new lines mid rest l on =
-    let x = on l.now l.there in
-    record { now = x.next; there = x.there; same = l.same ∙ x.same }
+from_zero : (entry : ℕ) → IsAhead entry 0
+from_zero zero = inl refl
+from_zero (suc n) = inr (omega arith)
+
+pub seeks-first : (kept : Option ChainValue) (entry : ℕ) (lines : List (List ℕ)) → kept ≡ None → Seeks kept entry 0 lines lines
+seeks-first kept entry lines none = record {
+  now = Between None;
+  at = first-at kept none;
+  same = refl;
+  passed = passed-first (Between None) lines;
+  clock = refl;
+  ahead = from_zero entry;
+  none = λ e. refl;
+}
+
+-- where one step leads
+pub record Comes (kept : Option ChainValue) (entry ms : ℕ) (lines rest : List (List ℕ)) : Type 0 where
+  pub now : Position
+  pub at : IsAt kept now
+  pub same : checked_from (Between None) lines ≡ checked_from now rest
+  pub passed : Passed (Between None) now lines rest
+  pub clock : ms ≡ time_of (so_far now)
+  pub ahead : (entry ≡ 0) ⊎ (entries (so_far now) < entry)
+
+pub seeks-comes : (kept new : Option ChainValue) (entry ms then : ℕ) (lines mid : List (List ℕ)) (rest : List ℕ) (t : Told) → Seeks kept entry ms lines mid
+    → ((q : Position) → IsAt kept q → Moves new q t mid (pieces_at 10 rest)) → then ≡ time_told ms t → Comes new entry then lines (pieces_at 10 rest)
+seeks-comes kept new entry ms then lines mid rest t s on is =
+    let m = on s.now s.at in record {
+      now = m.next;
+      at = m.at;
+      same = s.same ∙ moved s.now m.next t mid rest m.by;
+      passed = passed-then (Between None) s.now m.next lines mid (pieces_at 10 rest) s.passed (passed-told s.now m.next t mid (pieces_at 10 rest) m.by);
+      clock = is ∙ ap (λ n. time_told n t) s.clock ∙ time-told s.now m.next t mid (pieces_at 10 rest) m.by;
+      ahead = ahead-told entry s.now m.next t mid (pieces_at 10 rest) m.by s.none s.ahead;
+    }
+
+pub comes-elsewhere : (kept new : Option ChainValue) (entry ms : ℕ) (lines rest : List (List ℕ)) → Comes kept entry ms lines rest
+    → ((q : Position) → IsAt kept q → IsElsewhere kept new q entry rest) → Seeks new entry ms lines rest
+comes-elsewhere kept new entry ms lines rest c on =
+    let e = on c.now c.at in record {
+      now = c.now;
+      at = subst (λ k. IsAt k c.now) (sym e.same) c.at;
+      same = c.same;
+      passed = c.passed;
+      clock = c.clock;
+      ahead = c.ahead;
+      none = e.none;
+    }
+
+explained_at : (bytes : List ℕ) (entry ms : ℕ) (rest : List (List ℕ)) (line : List ℕ) (reply : Option Reply) (p : Position)
+    → Passed (Between None) p (pieces_at 10 bytes) rest → ms ≡ time_of (so_far p) → entries (so_far p) + 1 ≡ entry → Brings p line reply rest
+    → IsExplained bytes entry ms line reply
+explained_at bytes entry ms rest line reply (Between before) passed clock place b = absurd b
+explained_at bytes entry ms rest line reply (Inside ch) passed clock place b = record {
+  passed = passed.passed;
+  rest = b.rest;
+  stands = passed.are ∙ ap (λ l. passed.passed ++ l) b.are;
+  before = ch;
+  leads = passed.leads;
+  place = place;
+  clock = clock;
+  now = b.now;
+  right = b.right;
+  brings = b.brings;
+}
+
+pub comes-here : (kept : Option ChainValue) (bytes : List ℕ) (entry ms : ℕ) (rest : List (List ℕ)) (line : List ℕ) (reply : Option Reply)
+    → Comes kept entry ms (pieces_at 10 bytes) rest → ((q : Position) → IsAt kept q → IsHere q entry line reply rest) → IsExplained bytes entry ms line reply
+comes-here kept bytes entry ms rest line reply c on =
+    let e = on c.now c.at in
+    explained_at bytes entry ms rest line reply c.now c.passed c.clock e.place e.brings
+
+-- ---- the end, and what is wrong
+
+no_entry : (bytes : List ℕ) (entry n : ℕ) (now : Option Chain) → checked_from (Between None) (pieces_at 10 bytes) ≡ Ok now → Ok n ≡ counted (Ok now)
+    → IsAhead entry (entries now) → HasNoEntry bytes entry
+no_entry bytes entry n None is count ahead = cc
+no_entry bytes entry n (Some ch) is count ahead =
+    let many : entries (Some ch) ≡ n = cc in
+    (n, ap counted is ∙ sym count, subst (IsAhead entry) many ahead)
+
+pub seeks-none : (kept new : Option ChainValue) (bytes : List ℕ) (entry ms n : ℕ) (rest : List ℕ) → Seeks kept entry ms (pieces_at 10 bytes) (pieces_at 10 rest)
+    → ((q : Position) → IsAt kept q → IsOver kept new q rest) → ((q : Position) → IsAt new q → Ok n ≡ counted (Ok (so_far q))) → HasNoEntry bytes entry
+seeks-none kept new bytes entry ms n rest s over count =
+    let o = over-at kept new s.now rest s.at (over s.now s.at) in
+    no_entry bytes entry n (so_far s.now) (s.same ∙ o.1) (count (Between (so_far s.now)) o.0) s.ahead
+
+early_by : (entry n m : ℕ) → m ≡ n + 1 → IsAhead entry n → (entry ≡ 0) ⊎ (m ≤ entry)
+early_by entry n m is (inl none) = inl none
+early_by entry n m is (inr less) = inr (omega (arith, is, less))
+
+pub seeks-early : (kept : Option ChainValue) (entry ms : ℕ) (lines rest : List (List ℕ)) (n : ℕ) → Seeks kept entry ms lines rest
+    → ((q : Position) → IsAt kept q → n ≡ entries (so_far q) + 1) → (entry ≡ 0) ⊎ (n ≤ entry)
+seeks-early kept entry ms lines rest n s place = early_by entry (entries (so_far s.now)) n (place s.now s.at) s.ahead

@@ -1,1 +1,4 @@
 pub mod ExplainLemmas
+pub mod UpgradeLines
+pub mod UpgradeProof
+pub mod UpgradedLemmas

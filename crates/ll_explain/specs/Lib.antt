@@ -1,2 +1,4 @@
 pub mod Explained
+pub mod Seeking
+pub mod Upgrade
 pub mod Words

@@ -55,7 +55,7 @@ explained_text entry time line reply =
     (event_words line reply ++ (reply_words reply ++ (codes "\n" ++ playlist_text reply)))))))))
 
 -- what is written of the entry of this number: what the record tells of it; or, where the record isn't right up to it, the line that tells how
-abbrev pub IsTold : List ℕ → ℕ → Bool → List ℕ → Type 0
-IsTold bytes entry true text =
-    (time : ℕ) × (line : List ℕ) × (reply : Option Reply) × IsExplained bytes entry line reply × (text ≡ explained_text entry time line reply)
-IsTold bytes entry false text = (f : CheckFault) × (checked bytes ≡ Err f) × (text ≡ answer_line (Err f))
+abbrev pub IsExplanation : List ℕ → ℕ → Bool → List ℕ → Type 0
+IsExplanation bytes entry true text =
+    (ms : ℕ) × (line : List ℕ) × (reply : Option Reply) × IsExplained bytes entry ms line reply × (text ≡ explained_text entry ms line reply)
+IsExplanation bytes entry false text = (f : CheckFault) × (checked bytes ≡ Err f) × (text ≡ answer_line (Err f))

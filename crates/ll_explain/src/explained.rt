@@ -1,10 +1,13 @@
 //! One entry of a record.
-ghost use Rattle.std.specs.Prelude.{◌≡◌, ◌≢◌, IfOk, IsErrOf, IsOk, Err};
-ghost use Rattle.ll_entry.specs.Chain.{checked};
+ghost use Rattle.std.specs.Prelude.{◌≡◌, ◌≢◌, ◌≤◌, ◌⊎◌, IfErr, IfOk, IsErrOf, MatchOption, None, Err, true};
+ghost use Rattle.ll_attr.specs.Words.{pieces_at};
+ghost use Rattle.ll_check.specs.Found.{IsAt};
+ghost use Rattle.ll_entry.specs.Chain.{Between, Position, checked, checked_from, not_before};
 ghost use Rattle.ll_entry.specs.declared.fault.CheckFault.{CheckFault};
-ghost use Rattle.ll_explain.specs.Explained.{IsExplained};
+ghost use Rattle.ll_explain.specs.Explained.{HasNoEntry, IsExplained};
+ghost use Rattle.ll_explain.specs.Seeking.{IsElsewhere, IsHere, time_told};
 
-use ll_check::{Checker, Entered, Told, entry_line};
+use ll_check::{Checker, EntryReply, FullEntry, Told};
 use ll_entry::{CheckFault, CheckKind};
 use ll_verdict::Reply;
 use std::alloc::Global;
@@ -31,43 +34,69 @@ pub enum ExplainFault {
 
 /// What a record tells of the entry of this number, from 1. What comes after the entry isn't looked at.
 pub fn explain(alloc: Global, chunks: &[u8], entry: u64) -> Result<Explained<'_>, ExplainFault>
-    ensures right { IfOk result (λ e. IsExplained chunks.now entry e.line.now e.reply) }
+    ensures right { IfOk result (λ e. IsExplained chunks.now entry e.time e.line.now e.reply) }
     ensures wrong { (f : CheckFault) → IsErrOf result (ExplainFault.Wrong f) → f.kind ≢ CheckKind.Memory → checked chunks.now ≡ Err f }
-    ensures none { IsErrOf result ExplainFault.NoEntry → IsOk (checked chunks.now) }
+    ensures memory { (f : CheckFault) → IsErrOf result (ExplainFault.Wrong f)
+        → f.kind ≡ CheckKind.Memory → not_before f.entry (checked_from (Between None) (pieces_at 10 chunks.now)) ≡ true }
+    ensures early { (f : CheckFault) → IsErrOf result (ExplainFault.Wrong f) → (entry ≡ 0) ⊎ (f.entry ≤ entry) }
+    ensures none { IsErrOf result ExplainFault.NoEntry → HasNoEntry chunks.now entry }
 {
-    let mut checker = Checker::new(alloc);
-    let mut rest = chunks;
-    let mut inside = false;
-    let mut time = 0;
-    while inside || !rest.is_empty() {
-        if inside && checker.entries() + 1 == entry {
-            if let Some(line) = entry_line(rest) {
-                return match checker.reply(rest) {
-                    Ok(reply) => Ok(Explained { time, line, reply }),
-                    Err(fault) => Err(ExplainFault::Wrong(fault)),
-                };
-            }
-        }
-        match checker.step(inside, rest) {
-            Ok((told, more)) => {
-                time = time_after(time, &told);
-                inside = told.leads_inside();
-                rest = more;
-            }
-            Err(fault) => return Err(ExplainFault::Wrong(fault)),
-        }
-    }
-    match checker.count() {
-        Ok(_) => Err(ExplainFault::NoEntry),
+    match find(alloc, chunks, entry) {
+        Ok(Some(explained)) => Ok(explained),
+        Ok(None) => Err(ExplainFault::NoEntry),
         Err(fault) => Err(ExplainFault::Wrong(fault)),
     }
 }
 
-/// The channel's time after lines that tell this, from that before them: the largest reading of the chain.
-fn time_after(time: u64, told: &Told<'_>) -> u64 {
+/// What a record tells of the entry of this number; none where it has no such entry.
+fn find(alloc: Global, chunks: &[u8], entry: u64) -> Result<Option<Explained<'_>>, CheckFault>
+    ensures right { IfOk result (λ r. MatchOption r (HasNoEntry chunks.now entry) (λ e. IsExplained chunks.now entry e.time e.line.now e.reply)) }
+    ensures wrong { IfErr result (λ f. f.kind ≢ CheckKind.Memory → checked chunks.now ≡ Err f) }
+    ensures memory { IfErr result (λ f. f.kind ≡ CheckKind.Memory → not_before f.entry (checked_from (Between None) (pieces_at 10 chunks.now)) ≡ true) }
+    ensures early { IfErr result (λ f. (entry ≡ 0) ⊎ (f.entry ≤ entry)) }
+{
+    let mut checker = Checker::new(alloc);
+    let mut rest = chunks;
+    let mut time = 0;
+    while let Some((told, more)) = checker.next(rest)? {
+        time = time_after(time, &told);
+        rest = more;
+        match reply_at(&mut checker, entry, rest) {
+            Ok(Some(EntryReply { line, reply })) => return Ok(Some(Explained { time, line, reply })),
+            Ok(None) => {}
+            Err(fault) => return Err(fault),
+        }
+    }
+    checker.count()?;
+    Ok(None)
+}
+
+/// What the next entry brings, where it is the one of this number; else none, and nothing changes.
+fn reply_at<'a>(
+    checker: &mut Checker,
+    entry: u64,
+    text: &'a [u8],
+) -> Result<Option<EntryReply<'a>>, CheckFault>
+    ensures right { (p : Position) → IsAt checker.old p → IfOk result (λ r. MatchOption r (IsElsewhere checker.old checker.new p entry (pieces_at 10 text.now))
+        (λ b. IsHere p entry b.line.now b.reply (pieces_at 10 text.now))) }
+    ensures wrong { (p : Position) → IsAt checker.old p
+        → IfErr result (λ f. f.kind ≢ CheckKind.Memory → checked_from p (pieces_at 10 text.now) ≡ Err f) }
+    ensures memory { (p : Position) → IsAt checker.old p → IfErr result (λ f. not_before f.entry (checked_from p (pieces_at 10 text.now)) ≡ true) }
+    ensures place { IfErr result (λ f. f.entry ≡ entry) }
+{
+    if checker.entries() + 1 != entry {
+        return Ok(None);
+    }
+    checker.reply(text)
+}
+
+/// The time of a chain's channel after lines that tell this, from that before them: the largest reading of the chain.
+fn time_after(time: u64, told: &Told<'_>) -> u64
+    ensures { result ≡ time_told time told.now }
+{
     match told {
         Told::Begun(_, 0) => 0,
-        Told::Entry(_, _, Entered::Clock(ms)) => time.max(*ms),
+        Told::Entry(_, _, FullEntry::Clock(ms)) => time.max(*ms),
         _ => time,
     }
 }

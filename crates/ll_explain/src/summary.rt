@@ -1,11 +1,9 @@
 //! How much of what there is in each chain of a record.
-ghost use Rattle.std.specs.Prelude.{◌≡◌, ◌≢◌, ◌<◌, IfErr, IfOk, List, None, OnOk, Ok, Err, false, is_some, length, true, ℕ};
+ghost use Rattle.std.specs.Prelude.{◌≡◌, ◌≢◌, IfErr, None, OnOk, Ok, Err, true, ℕ};
 ghost use Rattle.ll_attr.specs.Words.{pieces_at};
-ghost use Rattle.ll_check.specs.Steps.{IsThere};
-ghost use Rattle.ll_entry.specs.Chain.{Between, Position, checked, checked_from, not_before};
-ghost use Rattle.ll_explain.specs.Explained.{Passes};
+ghost use Rattle.ll_entry.specs.Chain.{Between, checked, checked_from, not_before};
 
-use ll_check::{Checker, Entered, Told};
+use ll_check::{Checker, FullEntry, Told};
 use ll_entry::{CheckFault, CheckKind};
 use ll_verdict::Outcome;
 use std::alloc::{AllocError, Global};
@@ -62,27 +60,27 @@ impl Summary {
     }
 
     /// Counts one more entry.
-    fn add(&mut self, entry: &Entered) {
+    fn add(&mut self, entry: &FullEntry) {
         count(&mut self.entries);
         match entry {
-            Entered::Publish => count(&mut self.items),
-            Entered::Ask(_, _, Some(outcome)) => self.add_answer(*outcome),
-            Entered::Ask(_, _, None) => {
+            FullEntry::Publish => count(&mut self.items),
+            FullEntry::Ask(_, _, Some(outcome)) => self.add_answer(*outcome),
+            FullEntry::Ask(_, _, None) => {
                 count(&mut self.open);
                 self.most_open = self.most_open.max(self.open);
             }
-            Entered::Clock(ms) => {
+            FullEntry::Clock(ms) => {
                 self.first = self.first.or(Some(*ms));
                 self.last = Some(*ms);
             }
-            Entered::Collect(_, outcome) => {
+            FullEntry::Collect(_, outcome) => {
                 self.open = self.open.saturating_sub(1);
                 match outcome {
                     Outcome::Timeout => count(&mut self.timed_out),
                     _ => count(&mut self.answered),
                 }
             }
-            Entered::Close(_) => {
+            FullEntry::Close(_) => {
                 self.open = self.open.saturating_sub(1);
                 count(&mut self.given_up);
             }
@@ -114,45 +112,17 @@ pub fn summarize(alloc: Global, chunks: &[u8]) -> Result<Vec<Summary>, CheckFaul
     let mut checker = Checker::new(alloc);
     let mut chains = Vec::new(alloc);
     let mut rest = chunks;
-    let mut inside = false;
-    while inside || !rest.is_empty() {
-        match add_step(&mut checker, inside, rest, &mut chains) {
-            Ok((now, more)) => {
-                inside = now;
-                rest = more;
-            }
-            Err(fault) => return Err(fault),
+    while let Some((told, more)) = checker.next(rest)? {
+        if add(&mut chains, &told).is_err() {
+            return Err(CheckFault {
+                entry: checker.entries() + 1,
+                kind: CheckKind::Memory,
+            });
         }
+        rest = more;
     }
     checker.count()?;
     Ok(chains)
-}
-
-/// Goes over the next lines, counts what they tell, and answers whether what comes next is inside of a chunk, and what stands after them.
-fn add_step<'a>(
-    checker: &mut Checker,
-    inside: bool,
-    rest: &'a [u8],
-    chains: &mut Vec<Summary>,
-) -> Result<(bool, &'a [u8]), CheckFault>
-    requires some { inside ≡ false → 0 < length rest.now }
-    requires begun { inside ≡ true → is_some checker.old ≡ true }
-    ensures right { (p : Position) → IsThere inside checker.old p → IfOk result (λ r. Passes r.0 checker.new p (pieces_at 10 rest.now) (pieces_at 10 r.1.now)) }
-    ensures wrong { (p : Position) → IsThere inside checker.old p
-        → IfErr result (λ f. f.kind ≢ CheckKind.Memory → checked_from p (pieces_at 10 rest.now) ≡ Err f) }
-    ensures memory { (p : Position) → IsThere inside checker.old p → IfErr result (λ f. not_before f.entry (checked_from p (pieces_at 10 rest.now)) ≡ true) }
-    ensures begun { IfOk result (λ r. r.0 ≡ true → is_some checker.new ≡ true) }
-    ensures shorter { IfOk result (λ r. length r.1.now < length rest.now) }
-{
-    let entry = checker.entries() + 1;
-    let (told, more) = checker.step(inside, rest)?;
-    match add(chains, &told) {
-        Ok(()) => Ok((told.leads_inside(), more)),
-        Err(AllocError) => Err(CheckFault {
-            entry,
-            kind: CheckKind::Memory,
-        }),
-    }
 }
 
 /// Counts what lines tell: a chain begins with a chunk that has no entries before it.

@@ -11,7 +11,7 @@ returns-in-Ok-clause-right c before at =
     let h = c.in-Some.header in
     let r = begun_by before (Some h.version) (settings_in h.settings.now) (Some h.at) in
     let p = begun-parts before c.join.new.chain h.version (settings_in h.settings.now) h.at h.settings.now _ _ r refl (c.in-Some.ensures.header before) (c.in-Ok.ensures.right before at) in
-    record { next = Inside p.0; there = p.1; by = p.2 }
+    record { next = Inside p.0; at = record { chains = p.1; inside = c.in-Ok.ensures.inside }; by = p.2 }
 
 pub returns-in-Err-clause-wrong : goal.returns-in-Err-clause-wrong
 returns-in-Err-clause-wrong c before at other =

@@ -1,14 +1,10 @@
--- The next line is the one that is read.
+-- What is wrong with the next line's entry is wrong with the line.
 use Rattle.ll_attr.specs.Words.{pieces_at}
-use Rattle.ll_check.proofs.BroughtLemmas.{brought-line, brought-wrong}
+use Rattle.ll_check.proofs.StepLemmas.{entry-wrong}
+use Rattle.ll_check.specs.Lines.{IsText}
 use Rattle.ll_check.proofs.brought.reply_of.Goals as goal
 
-pub returns-in-Ok-clause-right : goal.returns-in-Ok-clause-right
-returns-in-Ok-clause-right c ch line rest of is =
-    brought-line ch line c.in-Some.line.now c.in-Some-text_in.line.now (pieces_at 10 c.args.text.now) rest (pieces_at 10 c.in-Some._rest.now) c.in-Ok.reply is c.in-Some.ensures.parts c.in-Some-text_in.ensures
-    (c.in-Ok.ensures.right ch of)
-
 pub returns-in-Err-clause-wrong : goal.returns-in-Err-clause-wrong
-returns-in-Err-clause-wrong c ch line rest of is other kind =
-    brought-wrong ch line c.in-Some.line.now c.in-Some-text_in.line.now rest (pieces_at 10 c.args.text.now) c.in-Some._rest.now c.in-Err.kind is c.in-Some.ensures.parts c.in-Some-text_in.ensures other
-    (c.in-Err.ensures.wrong ch of kind)
+returns-in-Err-clause-wrong c ch of other =
+    let is : IsText c.in-Some.line.now (pieces_at 10 c.args.text.now) (pieces_at 10 c.in_ok-line._rest.now) = rw c.in-Some.is at c.in_ok-line.ensures.right in
+    entry-wrong ch c.in-Some.line.now (pieces_at 10 c.args.text.now) c.in_ok-line._rest.now c.in-Err.kind is (c.in-Err.ensures.wrong ch of other)

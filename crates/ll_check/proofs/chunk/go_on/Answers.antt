@@ -1,33 +1,34 @@
 -- A line is the last one, or tells an entry.
-use Rattle.std.proofs.Common.{Some, Err, ap, bytes_eq, refl, sym, ◌∙◌}
+use Rattle.std.proofs.Common.{Some, ap, refl, subst, sym, ◌∙◌}
 use Rattle.ll_attr.specs.Words.{pieces_at}
-use Rattle.ll_check.proofs.StepLemmas.{entry-parts, line-is}
-use Rattle.ll_check.specs.Found.{ChainValue}
-use Rattle.ll_entry.specs.Chain.{Between, Chain, Inside, entry_at, joined}
+use Rattle.ll_check.proofs.Places.{of-inside}
+use Rattle.ll_check.proofs.StepLemmas.{entry-parts, entry-wrong}
+use Rattle.ll_check.specs.Found.{ChainValue, IsOf}
+use Rattle.ll_check.specs.Lines.{IsLast, IsText}
+use Rattle.ll_entry.specs.Chain.{Between, Chain, Inside}
 use Rattle.ll_check.proofs.chunk.go_on.Goals as goal
 
-pub returns-then-eq-clause-right : goal.returns-then-eq-clause-right
-returns-then-eq-clause-right c ch of = record {
-  next = Between (Some ch);
-  there = of;
-  by = record {
-    line = c.in-Some.line.now;
-    are = c.in-Some.ensures.parts;
-    last = ap (bytes_eq c.in-Some.line.now) (sym c.as_bytes.ensures.value) ∙ sym c.if-eq.ensures;
-    same = refl;
-  };
-}
-
-pub returns-in-Err-clause-wrong : goal.returns-in-Err-clause-wrong
-returns-in-Err-clause-wrong c ch of kind =
-    line-is ch (pieces_at 10 c.args.text.now) c.in-Some.line.now c.in-Some.rest.now _ (Err c.in-Err.kind) c.in-Some.ensures.parts
-    (ap (bytes_eq c.in-Some.line.now) (sym c.as_bytes.ensures.value) ∙ sym c.if-eq.ensures)
-    (ap (λ o. joined ch (entry_at ch.version ch.settings o)) (sym c.in-Some-text_in.ensures) ∙ c.in-Err.ensures.wrong ch of kind)
+pub returns-in_default-clause-right : goal.returns-in_default-clause-right
+returns-in_default-clause-right c ch at =
+    let of = subst (λ k. IsOf k ch) (sym c.chain.view_is) (of-inside c.args.chain.now ch at) in
+    let l : IsLast (pieces_at 10 c.args.text.now) (pieces_at 10 c.in_ok-line.rest.now) = rw c.in_default.is at c.in_ok-line.ensures.right in
+    record {
+      next = Between (Some ch);
+      at = record { chains = record { chain = of.chain; stands = of.stands }; inside = refl };
+      by = record { line = l.line; are = l.are; last = l.last; same = refl };
+    }
 
 pub returns-in-Ok-clause-right : goal.returns-in-Ok-clause-right
-returns-in-Ok-clause-right c ch of =
+returns-in-Ok-clause-right c ch at =
+    let of = of-inside c.args.chain.now ch at in
+    let is : IsText c.in-Some.line.now (pieces_at 10 c.args.text.now) (pieces_at 10 c.in_ok-line.rest.now) = rw c.in-Some.is at c.in_ok-line.ensures.right in
     let r = c.in-Ok.ensures.right ch of in
-    let p = entry-parts c.take.new.chain ch (pieces_at 10 c.args.text.now) (pieces_at 10 c.in-Some.rest.now) c.in-Some.line.now c.in-Some-text_in.line.now c.chain.inside.version
-    c.in-Ok.entry c.in-Some.ensures.parts (ap (bytes_eq c.in-Some.line.now) (sym c.as_bytes.ensures.value) ∙ sym c.if-eq.ensures) c.in-Some-text_in.ensures
+    let p = entry-parts c.take.new.chain ch (pieces_at 10 c.args.text.now) (pieces_at 10 c.in_ok-line.rest.now) c.in-Some.line.now c.chain.inside.version c.in-Ok.entry is
     (ap (λ (k : ChainValue). k.version) c.chain.view_is ∙ sym (ap (λ (x : Chain). x.version) of.chain)) r.0 r.1 in
-    record { next = Inside p.0; there = p.1; by = p.2 }
+    record { next = Inside p.0; at = record { chains = p.1; inside = c.in-Ok.ensures.inside ∙ at.inside }; by = p.2 }
+
+pub returns-in-Err-clause-wrong : goal.returns-in-Err-clause-wrong
+returns-in-Err-clause-wrong c ch at other =
+    let is : IsText c.in-Some.line.now (pieces_at 10 c.args.text.now) (pieces_at 10 c.in_ok-line.rest.now) = rw c.in-Some.is at c.in_ok-line.ensures.right in
+    entry-wrong ch c.in-Some.line.now (pieces_at 10 c.args.text.now) c.in_ok-line.rest.now c.in-Err.kind is
+    (c.in-Err.ensures.wrong ch (of-inside c.args.chain.now ch at) other)

@@ -1,13 +1,11 @@
-use Rattle.std.specs.Prelude.{◌≡◌, None, is_some, length, true}
+use Rattle.std.specs.Prelude.{None, length}
 use Rattle.ll_attr.specs.Words.{pieces_at}
-use Rattle.ll_check.specs.Steps.{Leads}
+use Rattle.ll_check.proofs.StepLemmas.{GoesTo}
+use Rattle.ll_entry.specs.Chain.{Between}
 use Rattle.ll_explain.proofs.summary.summarize.Given as goal
 
-abbrev pub invariant-loop-inside : goal.invariant-loop-inside
-invariant-loop-inside l = record {
-  leads : Leads l.inside l.checker None (pieces_at 10 l.initial.chunks) (pieces_at 10 l.rest);
-  begun : l.inside ≡ true → is_some l.checker ≡ true;
-}
+abbrev pub invariant-loop-chains : goal.invariant-loop-chains
+invariant-loop-chains l = GoesTo l.checker (Between None) (pieces_at 10 l.initial.chunks) (pieces_at 10 l.rest)
 
-abbrev pub decreases-loop-inside : goal.decreases-loop-inside
-decreases-loop-inside l = length l.rest
+abbrev pub decreases-loop-chains : goal.decreases-loop-chains
+decreases-loop-chains l = length l.rest

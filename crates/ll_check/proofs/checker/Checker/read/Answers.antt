@@ -1,27 +1,24 @@
 -- Each step leads on, and at the end nothing is left.
-use Rattle.std.proofs.Common.{sym, subst, ◌∙◌}
 use Rattle.ll_attr.specs.Words.{pieces_at}
-use Rattle.ll_check.proofs.StepLemmas.{leads-end, leads-first, leads-on, no_bytes}
-use Rattle.ll_check.specs.Steps.{Leads}
+use Rattle.ll_check.proofs.StepLemmas.{GoesTo, goes-on}
+use Rattle.ll_check.specs.Found.{IsAt}
+use Rattle.ll_check.specs.Steps.{Moves}
+use Rattle.ll_entry.specs.Chain.{Position}
 use Rattle.ll_check.proofs.checker.Checker.read.Goals as goal
+use Rattle.ll_check.proofs.checker.Checker.read.Goals.{In-Some}
 
-pub loop-inside-init : goal.loop-inside-init
-loop-inside-init c = record {
-  leads = λ before at. leads-first c.args.self.now before (pieces_at 10 c.args.bytes.now) at;
-  begun = λ e. cc;
-}
+on : (c : In-Some) (p : Position) → IsAt c.args.self.now p → GoesTo c.next.new.self p (pieces_at 10 c.args.bytes.now) (pieces_at 10 c.in-Some.more.now)
+on c p at =
+    let told : (q : Position) → IsAt c.loop-told.self q
+    → Moves c.next.new.self q c.in-Some._told (pieces_at 10 c.loop-told.rest.now) (pieces_at 10 c.in-Some.more.now) = λ q there. rw c.in-Some.is at (c.in_ok-_told.ensures.right q there) in
+    goes-on c.loop-told.self c.next.new.self p (pieces_at 10 c.args.bytes.now) (pieces_at 10 c.loop-told.rest.now) c.in-Some.more.now c.in-Some._told
+    (c.loop-told.invariant p at) told
 
-pub loop-inside-preserved : goal.loop-inside-preserved
-loop-inside-preserved c = record {
-  leads = λ before at.
-      leads-on c.loop-inside.inside c.leads_inside-inside.result c.loop-inside.self c.step.new.self before (pieces_at 10 c.args.bytes.now) c.loop-inside.rest.now c.in-Ok.more.now
-      c.in-Ok.told (c.loop-inside.invariant.leads before at) c.in-Ok.ensures.right c.leads_inside-inside.ensures;
-  begun = λ e. c.in-Ok.ensures.begun (sym c.leads_inside-inside.ensures ∙ e);
-}
+pub loop-told-preserved : goal.loop-told-preserved
+loop-told-preserved c = on (goal.at.loop-told-preserved c).In-Some
 
-pub returns-clause-right : goal.returns-clause-right
-returns-clause-right c before at =
-    leads-end c.loop-inside.self before (pieces_at 10 c.args.bytes.now) c.loop-inside.rest.now
-    (subst (λ b. Leads b c.loop-inside.self before (pieces_at 10 c.args.bytes.now) (pieces_at 10 c.loop-inside.rest.now)) c.if-inside.false
-    (c.loop-inside.invariant.leads before at))
-    (no_bytes c.loop-inside.rest.now (sym c.is_empty.ensures ∙ c.if-not-is_empty.false))
+pub loop-told-preserved-in-Some : goal.loop-told-preserved-in-Some
+loop-told-preserved-in-Some c = on (goal.at.loop-told-preserved-in-Some c).In-Some
+
+pub loop-told-preserved-in-Some-2 : goal.loop-told-preserved-in-Some-2
+loop-told-preserved-in-Some-2 c = on (goal.at.loop-told-preserved-in-Some-2 c).In-Some

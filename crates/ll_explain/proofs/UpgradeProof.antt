@@ -8,11 +8,11 @@ use Rattle.std.specs.List.{AllByRecursion, AllZip, flat_map, onto_first}
 use Rattle.std.specs.Option.{option_map_or}
 use Rattle.ll_attr.specs.Words.{pieces_at}
 use Rattle.ll_check.proofs.Few.{few}
-use Rattle.ll_check.proofs.UpgradeLines.{IsLine, full-is, new-line, not-last, within-limits}
-use Rattle.ll_check.proofs.Walk.{IsOf, IsText, Names, marked}
+use Rattle.ll_explain.proofs.UpgradeLines.{IsLine, full-is, new-line, not-last, within-limits}
+use Rattle.ll_check.proofs.Walk.{IsOfChannel, IsText, Names, marked}
 use Rattle.ll_check.specs.Records.{AreToldBy, Chunk, IsRun, IsToldBy, Run, are_in_order, chunk_lines, chunks, entries_in, events_in, lines_of}
 use Rattle.ll_check.specs.Steps.{without_item}
-use Rattle.ll_check.specs.Upgrade.{IsSameChunk, IsSameRun, UpgradeLaw, upgraded_entry, upgraded_from, upgraded_line, where_right}
+use Rattle.ll_explain.specs.Upgrade.{IsSameChunk, IsSameRun, UpgradeLaw, upgraded_entry, upgraded_from, upgraded_line, where_right}
 use Rattle.ll_entry.proofs.ChainLemmas.{three}
 use Rattle.ll_entry.proofs.ChunkProof.{another_is, at_line, begun_is, continued_is, first_utf8, plain}
 use Rattle.ll_entry.proofs.LeadLemmas.{joined-right}
@@ -300,7 +300,7 @@ record Runs (channel : List ℕ) (before : Option Chain) (runs : List Run) : Typ
   text : pieces_at 10 (upgraded_from (Between before) (lines_of runs)) ≡ lines_of news
   texts : AllByRecursion IsText (lines_of news)
   right : AllByRecursion IsRun news
-  named : AllByRecursion (IsOf channel) news
+  named : AllByRecursion (IsOfChannel channel) news
   same : AllZip IsSameRun runs news
   many : events_in news ≡ events_in runs
 
@@ -309,7 +309,7 @@ abbrev IsBefore : List ℕ → Option Chain → Type 0
 IsBefore channel before = (c : Configuration) → c.channel ≡ channel → is_channel before c ≡ true
 
 runs-new : (channel : List ℕ) (before : Option Chain) (runs : List Run) → IsBefore channel before → AllByRecursion IsRun runs
-    → AllByRecursion (IsOf channel) runs → AllByRecursion IsLine (lines_of runs) → Runs channel before runs
+    → AllByRecursion (IsOfChannel channel) runs → AllByRecursion IsLine (lines_of runs) → Runs channel before runs
 runs-new channel before [] is right named ls = record {
   news = [];
   text = refl;
@@ -352,14 +352,14 @@ runs-new channel before (r ∷ runs) is right named ls =
 pub same_in_two : UpgradeLaw
 same_in_two text n r =
     let ls = all_lines (lines_of r.runs) (recursion_from_All IsText (lines_of r.runs) r.utf8) (subst (AllByRecursion HasNoEnd) r.lines (pieces_lack text)) in
-    let named = recursion_from_All (IsOf r.channel) r.runs r.named in
+    let named = recursion_from_All (IsOfChannel r.channel) r.runs r.named in
     let x = runs-new r.channel None r.runs (λ c of. refl) (recursion_from_All IsRun r.runs r.right) named ls in (
       record {
         channel = r.channel;
         runs = x.news;
         some = omega (arith, r.some, length_all_zip IsSameRun r.runs x.news x.same);
         right = All-from_recursion IsRun x.news x.right;
-        named = All-from_recursion (IsOf r.channel) x.news x.named;
+        named = All-from_recursion (IsOfChannel r.channel) x.news x.named;
         lines = ap (λ ls. pieces_at 10 (upgraded_from (Between None) ls)) r.lines ∙ x.text;
         utf8 = All-from_recursion IsText (lines_of x.news) x.texts;
         many = x.many ∙ r.many;

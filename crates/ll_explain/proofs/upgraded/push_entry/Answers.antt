@@ -1,8 +1,8 @@
 -- The line that is written for a request, or for a reply.
 use Rattle.std.proofs.Common.{OnOk, ap₂, ◌++◌, ◌≡◌, ◌∙◌, subst, sym}
-use Rattle.ll_check.proofs.UpgradedLemmas.{added}
-use Rattle.ll_check.specs.Upgrade.{upgraded_line}
-use Rattle.ll_check.proofs.upgraded.push_entry.Goals as goal
+use Rattle.ll_explain.proofs.UpgradedLemmas.{added}
+use Rattle.ll_explain.specs.Upgrade.{upgraded_line}
+use Rattle.ll_explain.proofs.upgraded.push_entry.Goals as goal
 
 pub returns-in_ok-ask_line-in-One-Ask : goal.returns-in_ok-ask_line-in-One-Ask
 returns-in_ok-ask_line-in-One-Ask c s =

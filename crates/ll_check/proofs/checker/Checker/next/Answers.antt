@@ -2,19 +2,16 @@
 use Rattle.std.proofs.Common.{IfErr, ap, ◌+◌, subst, sym, true, refl, ◌≡◌}
 use Rattle.ll_attr.specs.Words.{pieces_at}
 use Rattle.ll_check.proofs.LaterLemmas.{later-as}
-use Rattle.ll_check.proofs.StepLemmas.{there-at}
-use Rattle.ll_check.specs.Steps.{so_far}
 use Rattle.ll_entry.specs.Chain.{checked_from, not_before}
 use Rattle.ll_entry.specs.declared.fault.CheckFault.{CheckFault}
-use Rattle.ll_check.proofs.checker.Checker.step.Goals as goal
-use Rattle.ll_check.proofs.checker.Checker.step.Goals.{in-Ok, in-Err}
+use Rattle.ll_check.proofs.checker.Checker.next.Goals as goal
+use Rattle.ll_check.proofs.checker.Checker.next.Goals.{in-Ok, in-Err}
 
 pub returns-clause-memory : goal.returns-clause-memory
-returns-clause-memory c p there =
+returns-clause-memory c p at =
     let found = checked_from p (pieces_at 10 c.args.text.now) in
     elim c.match-go_over.branch [
       | in-Ok w ↦ subst (λ r. IfErr r (λ (f : CheckFault). not_before f.entry found ≡ true)) (sym w.result-is) tt
       | in-Err w ↦ subst (λ r. IfErr r (λ (f : CheckFault). not_before f.entry found ≡ true)) (sym w.result-is)
-          (later-as (c.entries-entry.result + 1) p (pieces_at 10 c.args.text.now) found refl
-          (ap (λ n. n + 1) (c.entries-entry.ensures.value (so_far p) (there-at c.args.inside c.args.self.now p there))))
+          (later-as (c.entries-entry.result + 1) p (pieces_at 10 c.args.text.now) found refl (ap (λ n. n + 1) (c.entries-entry.ensures.value p at)))
     ]

@@ -1,16 +1,15 @@
 -- A record in format 2, whichever formats its chunks are in.
-use Rattle.std.specs.Prelude.{◌≡◌, ℕ, List, [], ◌∷◌, ◌++◌, Bool, false, Option, Some, None, Result, Ok, Err, bytes_eq, codes, if◌then◌else◌, length}
+use Rattle.std.specs.Prelude.{◌≡◌, ℕ, List, [], ◌∷◌, ◌++◌, false, Option, Some, None, Result, Ok, Err, bytes_eq, codes, if◌then◌else◌, length}
 use Rattle.std.specs.List.{AllZip}
 use Rattle.std.specs.Option.{option_map_or}
 use Rattle.ll_attr.specs.Words.{after, pieces_at}
-use Rattle.ll_check.specs.Found.{ChainValue}
 use Rattle.ll_check.specs.Records.{Chunk, IsRecord, Run, chunks}
-use Rattle.ll_check.specs.Steps.{IsThere, full_entry, without_item}
-use Rattle.ll_check.specs.declared.told.Entered.{Entered}
-use Rattle.ll_check.specs.declared.told.Entered.TheVariants as entered
+use Rattle.ll_check.specs.Steps.{full_entry, without_item}
+use Rattle.ll_check.specs.declared.told.FullEntry.{FullEntry}
+use Rattle.ll_check.specs.declared.told.FullEntry.TheVariants as full
 use Rattle.ll_check.specs.declared.told.Told.{Told}
 use Rattle.ll_check.specs.declared.told.Told.TheVariants as told
-use Rattle.ll_entry.specs.Chain.{Between, Chain, Inside, Position, begun, checked_from, text_in, with_line}
+use Rattle.ll_entry.specs.Chain.{Between, Chain, Inside, Position, begun, text_in, with_line}
 use Rattle.ll_entry.specs.Entries.{is_part_line}
 use Rattle.ll_entry.specs.Frame.{header_text, last_line}
 use Rattle.ll_entry.specs.Leads.{with_end}
@@ -27,13 +26,13 @@ media_text line = if option_map_or is_part_line (after (codes "P ") line) false 
 
 -- The line of an entry in format 2, where its line in a format is given. An item's words stay as they are given. A request asks for the delta
 -- update that it was answered with in format 1, and a playlist is told with the delta update that it is.
-abbrev pub upgraded_line : Version → Configuration → List ℕ → Entered → List ℕ
+abbrev pub upgraded_line : Version → Configuration → List ℕ → FullEntry → List ℕ
 upgraded_line Two c line entry = line
-upgraded_line One c line entered.Publish = line ++ media_text line
-upgraded_line One c line (entered.Ask ask want reply) = entry_line c (Ask ask want reply)
-upgraded_line One c line (entered.Clock ms) = line
-upgraded_line One c line (entered.Collect ask reply) = entry_line c (Collect ask reply)
-upgraded_line One c line (entered.Close ask) = line
+upgraded_line One c line full.Publish = line ++ media_text line
+upgraded_line One c line (full.Ask ask want reply) = entry_line c (Ask ask want reply)
+upgraded_line One c line (full.Clock ms) = line
+upgraded_line One c line (full.Collect ask reply) = entry_line c (Collect ask reply)
+upgraded_line One c line (full.Close ask) = line
 
 -- what lines that tell this are in format 2, each with its end
 abbrev pub told_text : Configuration → Told → List ℕ
@@ -64,13 +63,6 @@ upgraded_from (Inside ch) (line ∷ more) =
 -- a record in format 2
 abbrev pub upgraded : List ℕ → List ℕ
 upgraded bytes = upgraded_from (Between None) (pieces_at 10 bytes)
-
--- what is kept has gone from a position over lines, and what they are in format 2 was added to a text
-pub record Writes (inside : Bool) (k : Option ChainValue) (p : Position) (lines rest : List (List ℕ)) (old new : List ℕ) : Type 0 where
-  pub next : Position
-  pub there : IsThere inside k next
-  pub same : checked_from p lines ≡ checked_from next rest
-  pub text : old ++ upgraded_from p lines ≡ new ++ upgraded_from next rest
 
 -- ---- that it tells the same
 
