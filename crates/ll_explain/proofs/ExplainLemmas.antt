@@ -2,10 +2,10 @@
 use Rattle.std.proofs.Common.{◌≡◌, ◌≢◌, ◌⊎◌, inl, inr, ◌+◌, ◌<◌, ◌≤◌, ℕ, zero, suc, List, [], ◌∷◌, ◌++◌, true, false, not, Option, Some, None, Ok, Err, refl, ap, ◌∙◌, subst, sym, true≢false, bytes_eq, length, length-append, option_map, arith}
 use Rattle.ll_attr.specs.Words.{pieces_at}
 use Rattle.ll_check.proofs.Begun.{Another, EntryParts, GoesOn, Next, Onward, begun_lines, entry_line, new_chain}
-use Rattle.ll_check.proofs.LaterLemmas.{Keeps, keeps_begun}
+use Rattle.ll_check.proofs.LaterLemmas.{Keeps, keeps_begun, later-as}
 use Rattle.ll_check.proofs.Places.{first-at}
 use Rattle.ll_check.proofs.ReachedLemmas.{Passed, passed-first, passed-then, passed-told}
-use Rattle.ll_check.proofs.StepLemmas.{moved, over-at}
+use Rattle.ll_check.proofs.StepLemmas.{GoesTo, moved, over-at}
 use Rattle.ll_check.specs.Brought.{Brings}
 use Rattle.ll_check.specs.Found.{ChainValue, IsAt, so_far}
 use Rattle.ll_check.specs.Steps.{IsOver, Moves, Tells, full_entry, has_entry, without_item}
@@ -13,7 +13,7 @@ use Rattle.ll_check.specs.declared.told.FullEntry.{FullEntry}
 use Rattle.ll_check.specs.declared.told.Told.{Told}
 use Rattle.ll_check.specs.declared.told.Told.TheVariants as told
 use Rattle.ll_entry.proofs.ToldLemmas.{told-right, whole-entry}
-use Rattle.ll_entry.specs.Chain.{Between, Chain, Inside, Position, begun, checked, checked_from, counted, entries, text_in}
+use Rattle.ll_entry.specs.Chain.{Between, Chain, Inside, Position, begun, checked, checked_from, counted, entries, not_before, text_in}
 use Rattle.ll_entry.specs.Entered.{event_of}
 use Rattle.ll_entry.specs.Frame.{last_line}
 use Rattle.ll_entry.specs.Told.{entry_after}
@@ -26,7 +26,7 @@ use Rattle.ll_explain.proofs.UpgradeLines.{full-is}
 use Rattle.ll_explain.specs.Explained.{HasNoEntry, IsExplained}
 use Rattle.ll_explain.specs.Seeking.{IsElsewhere, IsHere, time_after_entry, time_told}
 use Rattle.ll_item.specs.Settings.{Configuration}
-use Rattle.ll_verdict.proofs.StateLemmas.{time-snoc}
+use Rattle.ll_verdict.proofs.StepLemmas.{time-snoc}
 use Rattle.ll_verdict.specs.Events.{Event, later, time}
 use Rattle.ll_verdict.specs.declared.reply.Reply.{Reply}
 
@@ -207,6 +207,14 @@ comes-here kept bytes entry ms rest line reply c on =
 
 -- ---- the end, and what is wrong
 
+pub comes-wrong : (kept : Option ChainValue) (bytes : List ℕ) (entry ms : ℕ) (rest : List (List ℕ)) (f : CheckFault) → Comes kept entry ms (pieces_at 10 bytes) rest
+    → ((q : Position) → IsAt kept q → checked_from q rest ≡ Err f) → checked bytes ≡ Err f
+comes-wrong kept bytes entry ms rest f c fails = ap counted (c.same ∙ fails c.now c.at)
+
+pub comes-later : (kept : Option ChainValue) (entry ms : ℕ) (lines rest : List (List ℕ)) (n : ℕ) → Comes kept entry ms lines rest
+    → ((q : Position) → IsAt kept q → not_before n (checked_from q rest) ≡ true) → not_before n (checked_from (Between None) lines) ≡ true
+comes-later kept entry ms lines rest n c later = ap (not_before n) c.same ∙ later c.now c.at
+
 no_entry : (bytes : List ℕ) (entry n : ℕ) (now : Option Chain) → checked_from (Between None) (pieces_at 10 bytes) ≡ Ok now → Ok n ≡ counted (Ok now)
     → IsAhead entry (entries now) → HasNoEntry bytes entry
 no_entry bytes entry n None is count ahead = cc
@@ -227,3 +235,8 @@ early_by entry n m is (inr less) = inr (omega (arith, is, less))
 pub seeks-early : (kept : Option ChainValue) (entry ms : ℕ) (lines rest : List (List ℕ)) (n : ℕ) → Seeks kept entry ms lines rest
     → ((q : Position) → IsAt kept q → n ≡ entries (so_far q) + 1) → (entry ≡ 0) ⊎ (n ≤ entry)
 seeks-early kept entry ms lines rest n s place = early_by entry (entries (so_far s.now)) n (place s.now s.at) s.ahead
+
+-- nothing is found wrong before the entry after those so far
+pub goes-later : (kept : Option ChainValue) (p : Position) (lines rest : List (List ℕ)) (n : ℕ) → GoesTo kept p lines rest
+    → ((q : Position) → IsAt kept q → n ≡ entries (so_far q) + 1) → not_before n (checked_from p lines) ≡ true
+goes-later kept p lines rest n g place = ap (not_before n) g.same ∙ later-as n g.now rest (checked_from g.now rest) refl (place g.now g.at)

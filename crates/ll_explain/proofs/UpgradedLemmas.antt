@@ -1,5 +1,5 @@
 -- What lines are in format 2, by what the first of them tell.
-use Rattle.std.proofs.Common.{◌≡◌, ℕ, List, [], ◌++◌, cond, length, Option, Some, None, Result, Ok, Err, OnOk, is_ok, refl, ap, ap₂, sym, ◌∙◌, append_assoc, append-nil, option_map}
+use Rattle.std.proofs.Common.{◌≡◌, ℕ, List, [], ◌++◌, cond, length, Option, Some, None, Result, Ok, Err, OnOk, false, is_err, is_ok, true≢false, refl, ap, ap₂, sym, ◌∙◌, append_assoc, append-nil, option_map}
 use Rattle.std.specs.Option.{option_map_or}
 use Rattle.ll_attr.specs.Words.{pieces_at}
 use Rattle.ll_check.proofs.Places.{first-at}
@@ -105,3 +105,7 @@ writes-over kept new bytes rest text n w over count =
 pub added : {T E : Type 0} (r : Result T E) (new x y : List ℕ) → new ≡ cond (is_ok r) x y → OnOk r (new ≡ x)
 added (Ok v) new x y e = e
 added (Err f) new x y e = tt
+
+pub ok-of : {T E : Type 0} (r : Result T E) (P : Type 0) → is_err r ≡ false → OnOk r P → P
+ok-of (Ok v) P fine h = h
+ok-of (Err f) P fine h = absurd (true≢false fine)

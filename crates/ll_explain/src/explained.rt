@@ -82,7 +82,7 @@ fn reply_at<'a>(
     ensures wrong { (p : Position) → IsAt checker.old p
         → IfErr result (λ f. f.kind ≢ CheckKind.Memory → checked_from p (pieces_at 10 text.now) ≡ Err f) }
     ensures memory { (p : Position) → IsAt checker.old p → IfErr result (λ f. not_before f.entry (checked_from p (pieces_at 10 text.now)) ≡ true) }
-    ensures place { IfErr result (λ f. f.entry ≡ entry) }
+    ensures place { (p : Position) → IsAt checker.old p → IfErr result (λ f. f.entry ≡ entry) }
 {
     if checker.entries() + 1 != entry {
         return Ok(None);
