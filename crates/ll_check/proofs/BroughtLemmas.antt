@@ -1,10 +1,10 @@
 -- The replies that entries bring.
 use Rattle.std.proofs.Common.{◌≡◌, ℕ, List, [], ◌∷◌, ◌++◌, Option, Some, None, Result, Ok, Err, IfOk, false, refl, ap, ap₂, sym, subst, ◌∙◌, option_map}
 use Rattle.ll_attr.specs.Words.{pieces_at}
-use Rattle.ll_check.specs.Brought.{IsBrought, brought_by, brought_in}
+use Rattle.ll_check.specs.Brought.{IsBrought, brought_in}
+use Rattle.ll_enter.specs.Brought.{brought_by}
 use Rattle.ll_check.specs.Found.{ChainValue, IsOf}
 use Rattle.ll_check.specs.Lines.{IsText}
-use Rattle.ll_directive.specs.Targets.{WantValue}
 use Rattle.ll_entry.specs.Chain.{Chain, entry_at, joined, joined_by}
 use Rattle.ll_entry.specs.Entered.{event_of, fault_in}
 use Rattle.ll_entry.specs.Entries.{entry_in}
@@ -12,23 +12,9 @@ use Rattle.ll_entry.specs.declared.entry.Recorded.{Recorded}
 use Rattle.ll_entry.specs.declared.fault.CheckKind.{CheckKind}
 use Rattle.ll_entry.specs.declared.version.Version.{Version}
 use Rattle.ll_item.specs.Settings.{Configuration}
-use Rattle.ll_room.specs.Answers.{asked, collected_at, now_in}
 use Rattle.ll_room.specs.RoomValue.{RoomValue, Stands}
-use Rattle.ll_room.specs.StampedValue.{StampedValue}
 use Rattle.ll_verdict.specs.Events.{Event}
-use Rattle.ll_verdict.specs.Verdict.{reply_of}
 use Rattle.ll_verdict.specs.declared.reply.Reply.{Reply}
-use Rattle.ll_verdict.specs.declared.reply.Settled.{Settled}
-
--- what a request is answered is what it gets at once
-pub asked_is : (h : RoomValue) (want : WantValue) (o : Option Reply) → option_map (λ (m : StampedValue Reply). m.value) (now_in (asked h want o)) ≡ o
-asked_is h want None = refl
-asked_is h want (Some reply) = refl
-
--- what is handed out is the reply that waits
-pub collected_is : (h : RoomValue) (ask : ℕ) (o : Option Settled) → option_map (λ (m : StampedValue Reply). m.value) (option_map (collected_at h ask) o) ≡ option_map reply_of o
-collected_is h ask None = refl
-collected_is h ask (Some settled) = refl
 
 -- what the entry of a chunk's next line brings
 pub brought-line : (ch : Chain) (text : List ℕ) (lines : List (List ℕ)) (rest : List ℕ) (x : Option Reply) → IsText text lines (pieces_at 10 rest)

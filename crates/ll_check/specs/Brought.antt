@@ -1,27 +1,15 @@
 -- The replies that the entries of a record bring.
-use Rattle.std.specs.Prelude.{◌≡◌, List, ◌∷◌, Option, None, Result, Ok, Err, ℕ, bytes_eq, false, option_map}
+use Rattle.std.specs.Prelude.{◌≡◌, List, ◌∷◌, Option, None, Result, Ok, Err, ℕ, bytes_eq, false}
 use Rattle.ll_attr.specs.Words.{pieces_at}
 use Rattle.ll_check.specs.Found.{ChainValue}
 use Rattle.ll_check.specs.Steps.{has_entry}
+use Rattle.ll_enter.specs.Brought.{brought_by}
 use Rattle.ll_entry.specs.Chain.{Between, Chain, Inside, Position, entry_at, text_in, with_line}
 use Rattle.ll_entry.specs.Entered.{event_of}
 use Rattle.ll_entry.specs.Frame.{last_line}
 use Rattle.ll_entry.specs.declared.entry.EntryFault.{EntryFault}
 use Rattle.ll_entry.specs.declared.entry.Recorded.{Recorded}
-use Rattle.ll_item.specs.Settings.{Configuration}
-use Rattle.ll_verdict.specs.Events.{Event, Publish, Ask, Clock, Collect, Close}
-use Rattle.ll_verdict.specs.State.{state_of}
-use Rattle.ll_verdict.specs.Verdict.{at_once, held, reply_of}
-use Rattle.ll_verdict.specs.Waiting.{reply_at}
 use Rattle.ll_verdict.specs.declared.reply.Reply.{Reply}
-
--- what an event brings after the events before it: what a request gets at once, or the reply that is handed out to it
-abbrev pub brought_by : Configuration → List Event → Event → Option Reply
-brought_by c before (Publish item) = None
-brought_by c before (Ask want) = at_once c (held c before) before want
-brought_by c before (Clock ms) = None
-brought_by c before (Collect ask) = option_map reply_of (reply_at ask (state_of c before).slots)
-brought_by c before (Close ask) = None
 
 abbrev pub brought_in : Chain → Result Recorded EntryFault → Option Reply
 brought_in ch (Ok entry) = brought_by ch.settings ch.events (event_of entry)

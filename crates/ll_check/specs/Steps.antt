@@ -1,17 +1,16 @@
 -- What the next lines of a record tell, and where they lead.
 use Rattle.std.specs.Prelude.{◌≡◌, ℕ, List, [], ◌∷◌, Bool, true, false, Option, Some, None, Result, Ok, Err, bytes_eq, if◌then◌else◌, length, not, option_map}
 use Rattle.ll_check.specs.Found.{ChainValue, IsAt, so_far}
-use Rattle.ll_check.specs.declared.told.FullEntry.{FullEntry}
-use Rattle.ll_check.specs.declared.told.FullEntry.TheVariants as full
 use Rattle.ll_check.specs.declared.told.Told.{Told}
 use Rattle.ll_check.specs.declared.told.Told.TheVariants as told
+use Rattle.ll_enter.specs.Full.{without_item}
+use Rattle.ll_enter.specs.declared.full.FullEntry.{FullEntry}
 use Rattle.ll_entry.specs.Chain.{Between, Chain, Inside, Position, begun, entry_at, text_in, with_line}
 use Rattle.ll_entry.specs.Entered.{event_of}
 use Rattle.ll_entry.specs.Frame.{last_line}
 use Rattle.ll_entry.specs.Told.{entry_after}
 use Rattle.ll_entry.specs.declared.entry.EntryFault.{EntryFault}
 use Rattle.ll_entry.specs.declared.entry.Recorded.{Recorded}
-use Rattle.ll_entry.specs.declared.entry.Recorded.TheVariants as recorded
 use Rattle.ll_entry.specs.declared.fault.CheckKind.{CheckKind}
 use Rattle.ll_entry.specs.declared.version.Version.{Version}
 
@@ -23,14 +22,6 @@ in_full ch (Err fault) = None
 -- the entry that a line tells after a chain, in full
 abbrev pub full_entry : Chain → List ℕ → Option Recorded
 full_entry ch line = in_full ch (entry_at ch.version ch.settings (text_in line))
-
--- an entry but for its item
-abbrev pub without_item : Recorded → FullEntry
-without_item (recorded.Publish item) = full.Publish
-without_item (recorded.Ask ask want reply) = full.Ask ask want reply
-without_item (recorded.Clock ms) = full.Clock ms
-without_item (recorded.Collect ask reply) = full.Collect ask reply
-without_item (recorded.Close ask) = full.Close ask
 
 -- They are the first three lines of a chunk with this settings line, and come to this.
 pub record IsHeader (before : Option Chain) (joined : Result Chain CheckKind) (settings : List ℕ) (lines rest : List (List ℕ)) : Type 0 where

@@ -3,15 +3,16 @@ ghost use Rattle.std.specs.Prelude.{◌≡◌, ◌≢◌, ◌<◌, IfErr, IfOk, 
 ghost use Rattle.ll_attr.specs.Words.{pieces_at};
 ghost use Rattle.ll_check.specs.Found.{IsAt, IsOf};
 ghost use Rattle.ll_check.specs.Joined.{IsJoined};
-ghost use Rattle.ll_check.specs.Steps.{Moves, in_full, without_item};
+ghost use Rattle.ll_check.specs.Steps.{Moves, in_full};
+ghost use Rattle.ll_enter.specs.Full.{without_item};
 ghost use Rattle.ll_entry.specs.Chain as spec;
 ghost use Rattle.ll_entry.specs.Chain.{Inside, checked_from, joined, wrong};
 ghost use Rattle.ll_entry.specs.Entries.{entry_in};
 
 use crate::chain::Chain;
-use crate::entry::enter;
 use crate::lines::chunk_line;
-use crate::told::{FullEntry, Told};
+use crate::told::Told;
+use ll_enter::{FullEntry, enter};
 use ll_entry::{CheckKind, Recorded};
 use std::alloc::Global;
 

@@ -1,7 +1,6 @@
 //! What the lines of a record tell, one after another.
-use ll_directive::Want;
+use ll_enter::FullEntry;
 use ll_entry::Version;
-use ll_verdict::Outcome;
 
 /// What the next lines of a record tell, where they are right.
 #[derive(Drop)]
@@ -12,19 +11,4 @@ pub enum Told<'a> {
     Entry(Version, &'a str, FullEntry),
     /// The chunk has its last line.
     Ended,
-}
-
-/// An entry as it is told in full: with what a reply comes to, whatever the format of its line tells of that. An item's words are the line's.
-#[derive(Drop)]
-pub enum FullEntry {
-    /// An item was accepted.
-    Publish,
-    /// The request of this number was made, and what it got at once; none where it was held.
-    Ask(u64, Want, Option<Outcome>),
-    /// The clock showed so many milliseconds.
-    Clock(u64),
-    /// The reply to the request of this number was handed out.
-    Collect(u64, Outcome),
-    /// The request of this number was given up.
-    Close(u64),
 }

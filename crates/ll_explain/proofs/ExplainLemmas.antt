@@ -8,8 +8,9 @@ use Rattle.ll_check.proofs.ReachedLemmas.{Passed, passed-first, passed-then, pas
 use Rattle.ll_check.proofs.StepLemmas.{GoesTo, moved, over-at}
 use Rattle.ll_check.specs.Brought.{Brings}
 use Rattle.ll_check.specs.Found.{ChainValue, IsAt, so_far}
-use Rattle.ll_check.specs.Steps.{IsOver, Moves, Tells, full_entry, has_entry, without_item}
-use Rattle.ll_check.specs.declared.told.FullEntry.{FullEntry}
+use Rattle.ll_check.specs.Steps.{IsOver, Moves, Tells, full_entry, has_entry}
+use Rattle.ll_enter.specs.Full.{without_item}
+use Rattle.ll_enter.specs.declared.full.FullEntry.{FullEntry}
 use Rattle.ll_check.specs.declared.told.Told.{Told}
 use Rattle.ll_check.specs.declared.told.Told.TheVariants as told
 use Rattle.ll_entry.proofs.ToldLemmas.{told-right, whole-entry}

@@ -11,7 +11,8 @@ use Rattle.std.specs.List.{list_all}
 use Rattle.std.specs.Option.{option_map_or}
 use Rattle.std.specs.Str.{is_utf8}
 use Rattle.ll_attr.specs.Words.{after, words}
-use Rattle.ll_check.specs.Steps.{full_entry, in_full, without_item}
+use Rattle.ll_check.specs.Steps.{full_entry, in_full}
+use Rattle.ll_enter.specs.Full.{without_item}
 use Rattle.ll_explain.specs.Upgrade.{media_text, upgraded_line}
 use Rattle.ll_directive.specs.Targets.{WantValue}
 use Rattle.ll_directive.specs.declared.want.Awaited.{Awaited}

@@ -11,7 +11,7 @@ use Rattle.ll_check.proofs.Few.{few}
 use Rattle.ll_explain.proofs.UpgradeLines.{IsLine, full-is, new-line, not-last, within-limits}
 use Rattle.ll_check.proofs.Walk.{IsOfChannel, IsText, Names, marked}
 use Rattle.ll_check.specs.Records.{AreToldBy, Chunk, IsRun, IsToldBy, Run, are_in_order, chunk_lines, chunks, entries_in, events_in, lines_of}
-use Rattle.ll_check.specs.Steps.{without_item}
+use Rattle.ll_enter.specs.Full.{without_item}
 use Rattle.ll_explain.specs.Upgrade.{IsSameChunk, IsSameRun, UpgradeLaw, upgraded_entry, upgraded_from, upgraded_line, where_right}
 use Rattle.ll_entry.proofs.ChainLemmas.{three}
 use Rattle.ll_entry.proofs.ChunkProof.{another_is, at_line, begun_is, continued_is, first_utf8, plain}

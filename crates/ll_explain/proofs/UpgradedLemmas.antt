@@ -5,9 +5,10 @@ use Rattle.ll_attr.specs.Words.{pieces_at}
 use Rattle.ll_check.proofs.Places.{first-at}
 use Rattle.ll_check.proofs.StepLemmas.{GoesTo, moved, over-at}
 use Rattle.ll_check.specs.Found.{ChainValue, IsAt, so_far}
-use Rattle.ll_check.specs.Steps.{IsOver, Moves, Tells, full_entry, without_item}
+use Rattle.ll_check.specs.Steps.{IsOver, Moves, Tells, full_entry}
+use Rattle.ll_enter.specs.Full.{without_item}
 use Rattle.ll_explain.specs.Upgrade.{told_text, upgraded, upgraded_entry, upgraded_from, upgraded_line, where_right}
-use Rattle.ll_check.specs.declared.told.FullEntry.{FullEntry}
+use Rattle.ll_enter.specs.declared.full.FullEntry.{FullEntry}
 use Rattle.ll_check.specs.declared.told.Told.{Told}
 use Rattle.ll_check.specs.declared.told.Told.TheVariants as told
 use Rattle.ll_entry.specs.Chain.{Between, Chain, Inside, Position, checked, checked_from, counted, with_line}

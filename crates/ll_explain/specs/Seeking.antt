@@ -3,8 +3,8 @@ use Rattle.std.specs.Prelude.{◌≡◌, ◌+◌, ℕ, zero, suc, max, List, Opt
 use Rattle.ll_check.specs.Brought.{Brings}
 use Rattle.ll_check.specs.Found.{ChainValue, so_far}
 use Rattle.ll_check.specs.Steps.{has_entry}
-use Rattle.ll_check.specs.declared.told.FullEntry.{FullEntry}
-use Rattle.ll_check.specs.declared.told.FullEntry.TheVariants as full
+use Rattle.ll_enter.specs.declared.full.FullEntry.{FullEntry}
+use Rattle.ll_enter.specs.declared.full.FullEntry.TheVariants as full
 use Rattle.ll_check.specs.declared.told.Told.{Told}
 use Rattle.ll_check.specs.declared.told.Told.TheVariants as told
 use Rattle.ll_entry.specs.Chain.{Position, entries}

@@ -4,9 +4,10 @@ use Rattle.std.specs.List.{AllZip}
 use Rattle.std.specs.Option.{option_map_or}
 use Rattle.ll_attr.specs.Words.{after, pieces_at}
 use Rattle.ll_check.specs.Records.{Chunk, IsRecord, Run, chunks}
-use Rattle.ll_check.specs.Steps.{full_entry, without_item}
-use Rattle.ll_check.specs.declared.told.FullEntry.{FullEntry}
-use Rattle.ll_check.specs.declared.told.FullEntry.TheVariants as full
+use Rattle.ll_check.specs.Steps.{full_entry}
+use Rattle.ll_enter.specs.Full.{without_item}
+use Rattle.ll_enter.specs.declared.full.FullEntry.{FullEntry}
+use Rattle.ll_enter.specs.declared.full.FullEntry.TheVariants as full
 use Rattle.ll_check.specs.declared.told.Told.{Told}
 use Rattle.ll_check.specs.declared.told.Told.TheVariants as told
 use Rattle.ll_entry.specs.Chain.{Between, Chain, Inside, Position, begun, text_in, with_line}

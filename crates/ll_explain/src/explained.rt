@@ -7,7 +7,8 @@ ghost use Rattle.ll_entry.specs.declared.fault.CheckFault.{CheckFault};
 ghost use Rattle.ll_explain.specs.Explained.{HasNoEntry, IsExplained};
 ghost use Rattle.ll_explain.specs.Seeking.{IsElsewhere, IsHere, time_told};
 
-use ll_check::{Checker, EntryReply, FullEntry, Told};
+use ll_check::{Checker, EntryReply, Told};
+use ll_enter::FullEntry;
 use ll_entry::{CheckFault, CheckKind};
 use ll_verdict::Reply;
 use std::alloc::Global;

@@ -3,7 +3,8 @@ ghost use Rattle.std.specs.Prelude.{◌≡◌, ◌≢◌, IfErr, None, OnOk, Ok,
 ghost use Rattle.ll_attr.specs.Words.{pieces_at};
 ghost use Rattle.ll_entry.specs.Chain.{Between, checked, checked_from, not_before};
 
-use ll_check::{Checker, FullEntry, Told};
+use ll_check::{Checker, Told};
+use ll_enter::FullEntry;
 use ll_entry::{CheckFault, CheckKind};
 use ll_verdict::Outcome;
 use std::alloc::{AllocError, Global};

@@ -7,7 +7,8 @@ ghost use Rattle.ll_explain.specs.Upgrade.{told_text, upgraded, upgraded_line};
 ghost use Rattle.ll_item.specs.Settings.{Configuration};
 
 use ll_attr::after;
-use ll_check::{Checker, FullEntry, Told};
+use ll_check::{Checker, Told};
+use ll_enter::FullEntry;
 use ll_entry::{CheckFault, CheckKind, LAST_LINE, Version, ask_line, collect_line, header_text};
 use std::alloc::{AllocError, Global};
 

@@ -1,7 +1,7 @@
 -- The reply that is handed out is what the request has.
 use Rattle.std.proofs.Common.{◌∙◌, sym}
-use Rattle.ll_check.proofs.StepLemmas.{collected-full}
-use Rattle.ll_check.proofs.entry.collect.Goals as goal
+use Rattle.ll_enter.proofs.FullLemmas.{collected-full}
+use Rattle.ll_enter.proofs.entry.collect.Goals as goal
 
 pub returns-clause-full : goal.returns-clause-full
 returns-clause-full c events stands =

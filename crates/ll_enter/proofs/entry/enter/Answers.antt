@@ -1,11 +1,11 @@
 -- With what a reply comes to, an entry is the one of its event.
 use Rattle.std.proofs.Common.{ap, option_map, ◌∙◌}
-use Rattle.ll_check.proofs.StepLemmas.{full_of}
-use Rattle.ll_check.specs.Steps.{without_item}
+use Rattle.ll_enter.proofs.FullLemmas.{full_of}
+use Rattle.ll_enter.specs.Full.{without_item}
 use Rattle.ll_entry.specs.Entered.{event_of}
 use Rattle.ll_entry.specs.Told.{entry_after}
 use Rattle.ll_entry.specs.declared.entry.Recorded.TheVariants as recorded
-use Rattle.ll_check.proofs.entry.enter.Goals as goal
+use Rattle.ll_enter.proofs.entry.enter.Goals as goal
 
 pub returns-in_ok-outcome-in-Ask-clause-full : goal.returns-in_ok-outcome-in-Ask-clause-full
 returns-in_ok-outcome-in-Ask-clause-full c events stands =

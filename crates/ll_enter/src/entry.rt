@@ -1,6 +1,6 @@
 //! Entries, each checked as the room of its channel takes it.
 ghost use Rattle.std.specs.Prelude.{◌≡◌, ◌≢◌, ◌+◌, ◌==◌, ◌++◌, ◌∷◌, [], List, IfErr, IfOk, IsErrOf, OnOk, None, Some, option_map};
-ghost use Rattle.ll_check.specs.Steps.{without_item};
+ghost use Rattle.ll_enter.specs.Full.{without_item};
 ghost use Rattle.ll_entry.specs.Entered as spec;
 ghost use Rattle.ll_entry.specs.Entered.{event_of, fault_in};
 ghost use Rattle.ll_entry.specs.Replies.{told_in};
@@ -14,7 +14,7 @@ ghost use Rattle.ll_verdict.specs.Events.{Event};
 ghost use Rattle.ll_verdict.specs.Outcome.{outcome_of};
 ghost use Rattle.ll_verdict.specs.declared.reply.Reply as verdict;
 
-use crate::told::FullEntry;
+use crate::full::FullEntry;
 use ll_directive::Want;
 use ll_entry::{CheckKind, Recorded, Version};
 use ll_item::Item;
@@ -24,8 +24,8 @@ use std::alloc::AllocError;
 
 /// Takes the event of an entry of a record in this format, where the entry is right, and answers what the entry is in full. (Items, readings and
 /// requests that are given up are told alike in both formats, so what is said of them below is said of one.)
-#[tactic(auto, using(crate::proofs::StepLemmas::full_of))]
-pub(crate) fn enter(
+#[tactic(auto, using(crate::proofs::FullLemmas::full_of))]
+pub fn enter(
     replayer: &mut Replayer,
     version: Version,
     entry: Recorded,

@@ -1,0 +1,2 @@
+pub mod BroughtLemmas
+pub mod FullLemmas

@@ -1,0 +1,2 @@
+pub mod Brought
+pub mod Full
