@@ -1,8 +1,8 @@
 #!/usr/bin/env bash
 # check.sh [ENTRIES..]: checks records of so many entries (100,000 and 1,000,000 where none are given; at least 40), in which each part of
 # a second is awaited by two players, one of whom asks for a delta update, and asked for by a third who waits for nothing; then records of ten times
-# as many entries that are requests for the playlist as it is, after ten segments. Each record is in format 1, and is written in format 2 too. For each
-# number it prints the entries and the bytes per second of `llhls check` and of `llhls upgrade`, and the ratio to the first number's; then the peak
+# as many entries that are requests for the playlist as it is, after ten segments; then of requests after windows of 10, 100 and 1,000 segments, which
+# should take the same time. Each record is in format 1, and is written in format 2 too, but for the last three. For each it prints the entries and the bytes per second of `llhls check` and of `llhls upgrade`, and the ratio to the first number's; then the peak
 # memory, and the memory that a byte of the record takes. Times are the median of RUNS runs (9 where it isn't set). It judges nothing.
 . "$(dirname "${BASH_SOURCE[0]}")/common.sh" || exit 2
 take_program_or_proved
@@ -44,16 +44,18 @@ make() {
         }'
 }
 
-# make_plain ENTRIES: makes a record of ten segments, and so many requests for the playlist as it is, in one chunk.
+# make_plain ENTRIES [SEGMENTS]: makes a record of ten segments or so many, all of which are in the window where they are ten or more, and so many requests
+# for the playlist as it is, in one chunk.
 make_plain() {
-    awk -v entries="$1" 'BEGIN {
+    awk -v entries="$1" -v segments="${2:-10}" 'BEGIN {
         print "#LLHLS-CHUNK 1"
-        print "channel cam target=4 part=1000000 skip=24 window=36 renditions=hi first=0 start=0"
+        print "channel cam target=4 part=1000000 skip=24 window=" 4 * segments " renditions=hi first=0 start=0"
         print "at 0"
-        for (part = 0; part < 40; part++) print "P part hi 1000000 " (part % 4 == 0 ? "i" : part % 4 == 3 ? "f" : "-")
-        for (ask = 1; ask <= entries; ask++) print "A " ask " hi - - - text 40"
+        parts = 4 * segments
+        for (part = 0; part < parts; part++) print "P part hi 1000000 " (part % 4 == 0 ? "i" : part % 4 == 3 ? "f" : "-")
+        for (ask = 1; ask <= entries; ask++) print "A " ask " hi - - - text " parts
         print "#END"
-        print entries + 40 >"/dev/stderr"
+        print entries + parts >"/dev/stderr"
     }'
 }
 
@@ -94,4 +96,11 @@ echo 'requests for the playlist as it is:'
 first=()
 for entries in "$@"; do
     both make_plain $((10 * entries))
+done
+echo 'requests for the playlist as it is, after 10, 100 and 1,000 segments:'
+first=()
+for segments in 10 100 1000; do
+    make_plain $((10 * $1)) "$segments" >"$room/record" 2>"$room/made"
+    tell check "$(<"$room/made")" "$(wc -c <"$room/record")"
+    [ "$(<"$room/answer")" = "ok $(<"$room/made")" ] || wrong "after $segments segments: $(<"$room/answer")"
 done

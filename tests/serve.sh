@@ -210,6 +210,30 @@ no 1 NoRendition
 ok 2' ] || { echo "$answers"; return 1; }
 }
 
+# The bytes of parts: as many as a part may have, one more, none, some of which are LF, and with another byte where their LF should stand. Of what goes away
+# in the midst of its bytes nothing is published.
+bytes_of_publishers() {
+    local answers
+    start 4 "$cam" || return 1
+    connect "$publish_port" || return 1
+    {
+        printf '%s 1048576\n%1048576d\n%s 1048577\n%1048577d\n' "$part" 0 "$part" 0
+        printf '%s 3\n\n\n\n\n%s 0\n\n%s 2\nabcam end hi\ncam init hi 2\nab\n%s 2\n' "$part" "$part" "$part" "$part"
+        sleep 0.1
+        printf 'ab\n%s 100\nab' "$part"
+    } >&"$peer"
+    answers=$(timeout 10 head -n 7 <&"$peer")
+    [ "$answers" = 'ok 1
+no 16 MediaTooLong
+ok 2
+ok 3
+no 13 BadLine
+no 13 BadLine
+ok 4' ] || { echo "$answers"; return 1; }
+    hang_up
+    publish "$part" 'ok 5'
+}
+
 # Many connections while the server may open no more files: it says so once, and serves others afterwards.
 files_run_out() {
     local number answer
@@ -305,7 +329,7 @@ done
 try five_hundred_at_once 600
 try five_hundred_at_once 16 'Connection: close'
 for name in thousand_held most_channels drips_its_head sends_nothing hangs_up_while_held gives_workers_back reads_slowly publisher_cut_off \
-    lines_of_publishers files_run_out stops_while_requests_are_held taken_ports; do
+    lines_of_publishers bytes_of_publishers files_run_out stops_while_requests_are_held taken_ports; do
     try "$name"
 done
 

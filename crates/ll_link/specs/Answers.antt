@@ -8,7 +8,7 @@ use Rattle.ll_item.specs.Channels.{channel_of_name}
 use Rattle.ll_publish.specs.Line as says
 use Rattle.ll_publish.specs.Refusals.{item_refusal, refusal_of}
 use Rattle.ll_publish.specs.declared.refusal.Refusal.{Refusal}
-use Rattle.ll_publish.specs.declared.refusal.Refusal.TheVariants.{BadLine, UnknownChannel, LineTooLong}
+use Rattle.ll_publish.specs.declared.refusal.Refusal.TheVariants.{BadLine, UnknownChannel, LineTooLong, MediaTooLong}
 use Rattle.ll_locked.specs.declared.fault.HubFault.{HubFault}
 use Rattle.ll_locked.specs.declared.fault.HubFault.TheVariants as hub
 use Rattle.ll_locked.specs.declared.fault.RoomFault.TheVariants as room
@@ -31,9 +31,10 @@ refused_in (Some found) text = refused_item (item_in found.1 text)
 
 -- why a line is refused before the room of a channel is asked; none where it announces an item of one of the hub's channels
 abbrev pub refused_before : List Configuration → says.Line → Option Refusal
-refused_before channels (says.Item name text) = refused_in (channel_of_name channels 0 name) text
+refused_before channels (says.Item name text media) = refused_in (channel_of_name channels 0 name) text
 refused_before channels says.Bad = Some BadLine
 refused_before channels says.TooLong = Some LineTooLong
+refused_before channels says.MediaTooLong = Some MediaTooLong
 
 -- what is answered to an item that the hub refuses; no refusal of the channel's room ends the connection with Hub
 abbrev pub refused_by : HubFault → Result Refusal LinkFault

@@ -12,7 +12,6 @@ ghost use Rattle.ll_link.specs.Reads.{HasEnded, IsReadWithin, stays_or_ends};
 use crate::fault::LinkFault;
 use crate::gate::Gate;
 use crate::service::{HandedOut, Service};
-use crate::workers::PIECE;
 use ll_device::{Link, write_both};
 use ll_directive::{TargetFault, Want};
 use ll_hub::{Claim, Clock, HubAsked, HubFault, Ledgers, Pass, RoomFault, Sink, Waited};
@@ -22,6 +21,9 @@ use ll_session::Session;
 use ll_wire::Answer;
 use std::sync::Wait;
 use std::time::{self, Duration};
+
+/// How many bytes a read takes at most.
+const PIECE: usize = 4_096;
 
 /// How long a held request is waited for between two looks at whether its player has hung up, in seconds.
 const LOOK: u64 = 1;

@@ -13,12 +13,14 @@ ghost use Rattle.ll_link.specs.Reads.{HasEnded, IsReadWithin};
 use crate::fault::LinkFault;
 use crate::gate::Gate;
 use crate::service::{HandedOut, Service};
-use crate::workers::PIECE;
 use ll_device::{Link, write_all};
 use ll_hub::{HubFault, Ledgers, Pass, RoomFault, Sink};
 use ll_item::{Item, ItemFault, Settings};
 use ll_publish::{Feed, Line, Refusal, reply_text};
 use std::sync::Wait;
+
+/// How many bytes a read takes at most.
+const PIECE: usize = 65_536;
 
 /// Publishes what a publisher's lines announce, answers each, and counts the answers.
 pub(crate) fn serve<L: Ledgers, P: Link, C, G: Gate, K: Sink, R: Wait>(
@@ -99,9 +101,11 @@ fn publish<L: Ledgers, C, G, K: Sink, R: Wait>(
     ensures refused { (reason : Refusal) → refused_before service.now.hub.now (meant line.entry) ≡ Some reason → result ≡ Ok (Err reason) }
 {
     let (name, text) = match line {
-        Line::Item(name, text) => (name, text),
+        // Its bytes aren't kept: there is nothing yet that asks for them.
+        Line::Item(name, text, _media) => (name, text),
         Line::Bad => return Ok(Err(Refusal::BadLine)),
         Line::TooLong => return Ok(Err(Refusal::LineTooLong)),
+        Line::MediaTooLong => return Ok(Err(Refusal::MediaTooLong)),
     };
     let Some((channel, settings)) = service.hub.find(name) else {
         return Ok(Err(Refusal::UnknownChannel));

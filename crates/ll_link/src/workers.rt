@@ -24,9 +24,6 @@ use std::{thread, time};
 /// How often a connection is read at most.
 const READS: u64 = 1 << 32;
 
-/// How many bytes a read takes at most.
-pub(crate) const PIECE: usize = 4_096;
-
 /// Serves one connection to its end, and tells how many answers it got, or why it was ended. What it held is then closed; a player that
 /// hangs up while a request of it is held is at its end. Where the record of a channel is full, it goes to the sink before the call that
 /// found it so is made once more.

@@ -1,4 +1,5 @@
-mod CutLemmas
+mod EndLemmas
 mod FrontLemmas
+pub mod LastWord
 mod StreamLaws
 mod TextLemmas

@@ -1,5 +1,5 @@
 -- What a line says, by where it is cut.
-use Rattle.std.proofs.Common.{◌≡◌, ◌==◌, ℕ, ◌<◌, List, Bool, true, false, Option, Some, None, MatchOption, Bor, ap₂, refl, length, arith, lit<}
+use Rattle.std.proofs.Common.{◌≡◌, ◌==◌, ℕ, ◌<◌, List, Bool, true, false, Option, Some, None, MatchOption, Bor, ap₂, refl, sym, length, arith, lit<}
 use Rattle.std.proofs.lemmas.List.Elements.{All-from_get_or}
 use Rattle.std.proofs.lemmas.List.Folds.{list_any_none, list_any_at}
 use Rattle.std.proofs.lemmas.List.Sums.{fails_before_first, passes_at_first}
@@ -7,8 +7,7 @@ use Rattle.std.proofs.lemmas.Str.{IsUtf8-from_is_utf8, is_utf8-from_IsUtf8}
 use Rattle.std.proofs.lemmas.Str.Pattern.{IsSplitOnceResult, split_once_first}
 use Rattle.std.specs.List.{list_any, position_or_len}
 use Rattle.std.specs.Str.{IsUtf8, is_utf8}
-use Rattle.ll_publish.specs.Line.{Item, Bad}
-use Rattle.ll_publish.specs.Lines.{line_of}
+use Rattle.ll_publish.specs.Lines.{parts}
 
 abbrev is_space : ℕ → Bool
 is_space b = b == 32
@@ -21,23 +20,23 @@ has-none : (text : List ℕ) → position_or_len is_space text ≡ length text �
 has-none text e =
     list_any_none is_space text (All-from_get_or (λ b. is_space b ≡ false) text 0 (λ i h. fails_before_first is_space text i 0 (omega arith)))
 
--- bytes that are no text are no line
-pub line_of-raw : (text : List ℕ) → ¬ (IsUtf8 text) → Bad ≡ line_of text
-line_of-raw text raw = by_test (is_utf8 text) refl
+-- bytes that are no text have no parts
+pub raw : (text : List ℕ) → ¬ (IsUtf8 text) → parts text ≡ None
+raw text bytes = by_test (is_utf8 text) refl
   where
-    by_test : (b : Bool) → is_utf8 text ≡ b → Bad ≡ line_of text
-    by_test true e = absurd (raw (IsUtf8-from_is_utf8 text e))
+    by_test : (b : Bool) → is_utf8 text ≡ b → parts text ≡ None
+    by_test true e = absurd (bytes (IsUtf8-from_is_utf8 text e))
     by_test false e = rw e refl
 
 -- a line is cut at its first space
-pub line_of-cut : (text : List ℕ) (r : Option (Bor (List ℕ) × Bor (List ℕ))) → IsUtf8 text → IsSplitOnceResult 32 text r
-    → MatchOption r (Bad ≡ line_of text) (λ x. Item x.0.now x.1.now ≡ line_of text)
-line_of-cut text None u h =
+pub of-cut : (text : List ℕ) (r : Option (Bor (List ℕ) × Bor (List ℕ))) → IsUtf8 text → IsSplitOnceResult 32 text r
+    → MatchOption r (parts text ≡ None) (λ p. parts text ≡ Some (p.0.now, p.1.now))
+of-cut text None u h =
     let utf8 = is_utf8-from_IsUtf8 text u in
-    let no = has-none text (split_once_first 32 text None h (lit< tt)) in
-    rw (utf8, no) refl
-line_of-cut text (Some x) u h =
+    let none = has-none text (split_once_first 32 text None h (lit< tt)) in
+    rw (utf8, none) refl
+of-cut text (Some x) u h =
     let utf8 = is_utf8-from_IsUtf8 text u in
-    let parts = split_once_first 32 text (Some x) h (lit< tt) in
-    let yes = has-space text parts.0 in
-    rw (utf8, yes) (ap₂ (λ a b. Item a b) parts.1 parts.2)
+    let cut = split_once_first 32 text (Some x) h (lit< tt) in
+    let yes = has-space text cut.0 in
+    rw (utf8, yes) (ap₂ (λ a b. Some (a, b)) (sym cut.1) (sym cut.2))

@@ -1,6 +1,6 @@
 -- The laws of feeds.
 use Rattle.std.specs.Prelude.{◌≡◌, ◌≤◌, ℕ, ◌+◌, List, [], ◌++◌, None, length}
-use Rattle.ll_publish.specs.Lines.{FeedValue, front, line_limit, lines, lines_in, with_bytes}
+use Rattle.ll_publish.specs.Lines.{FeedValue, front, line_limit, media_limit, lines, lines_in, with_bytes}
 use Rattle.ll_publish.specs.Past.{Call, past}
 
 -- Whatever is called, in whatever order, and whatever bytes are still to come: the lines of all bytes together are those that were
@@ -13,6 +13,6 @@ WholeStreams = (calls : List Call) (more : List ℕ)
 abbrev pub NoneIsLeft : Type 0
 NoneIsLeft = (f : FeedValue) → (front f).0 ≡ None → lines_in (front f).1 ≡ []
 
--- where none is given, few bytes are kept: those of a line that isn't too long yet, with a CR
+-- where none is given, few bytes are kept: those of a line that isn't too long yet, with its end, and of its item's bytes those that have come
 abbrev pub FewAreKept : Type 0
-FewAreKept = (f : FeedValue) → (front f).0 ≡ None → length (front f).1.unread ≤ line_limit + 1
+FewAreKept = (f : FeedValue) → (front f).0 ≡ None → length (front f).1.unread ≤ line_limit + 2 + media_limit

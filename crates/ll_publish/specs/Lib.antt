@@ -1,7 +1,8 @@
+pub mod Announced
+pub mod Found
 pub mod Laws
 pub mod Line
 pub mod Lines
 pub mod Meaning
 pub mod Past
-pub mod Pieces
 pub mod Refusals

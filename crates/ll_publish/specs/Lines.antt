@@ -1,50 +1,51 @@
--- The lines of a publisher's stream.
-use Rattle.std.specs.Prelude.{ℕ, ◌==◌, ◌&&◌, Bool, true, false, List, [], ◌∷◌, ◌++◌, Option, Some, None, drop, length, map, nat_lt, if◌then◌else◌}
+-- The lines of a publisher's stream, some of which an item's bytes follow.
+use Rattle.std.specs.Prelude.{ℕ, zero, suc, ◌+◌, ◌-◌, ◌==◌, ◌&&◌, Bool, List, [], ◌∷◌, ◌++◌, Option, Some, None, take, drop, length, nat_lt, slice_index, if◌then◌else◌}
 use Rattle.std.specs.List.{list_any, before_first, after_first}
 use Rattle.std.specs.Str.{is_utf8}
 use Rattle.std.specs.Str.Lines.{strip_carriage_return}
-use Rattle.ll_publish.specs.Pieces.{pieces, ended_pieces, last_piece}
-use Rattle.ll_publish.specs.Line.{Line, Item, Bad, TooLong}
+use Rattle.ll_publish.specs.Announced.{announced}
+use Rattle.ll_publish.specs.Line.{Line, Item, Bad, TooLong, MediaTooLong}
 
 -- the longest line of a publisher, in bytes, without its end
 abbrev pub line_limit : ℕ
 line_limit = 4096
 
--- a line is a channel's name, a space, and an item's line
-abbrev pub line_of : List ℕ → Line
-line_of text =
+-- the most bytes that an item may have
+abbrev pub media_limit : ℕ
+media_limit = 1048576
+
+-- ---- one line
+
+-- the channel's name, which is all before the first space, and the item's line, which is all after it
+abbrev pub parts : List ℕ → Option (List ℕ × List ℕ)
+parts text =
     if is_utf8 text && list_any (λ b. b == 32) text
-    then Item (before_first (λ b. b == 32) text) (after_first (λ b. b == 32) text)
-    else Bad
+    then Some (before_first (λ b. b == 32) text, after_first (λ b. b == 32) text)
+    else None
 
--- a line that LF ended, without its end
-abbrev pub told : List ℕ → Line
-told text = if nat_lt line_limit (length text) then TooLong else line_of text
+abbrev pub line_by : Option (List ℕ × List ℕ) → Line
+line_by None = Bad
+line_by (Some line) = Item line.0 line.1 []
 
--- A line that LF hasn't ended is told only where it is too long whatever follows: a CR at its end may belong to the line's end.
-abbrev pub told_open : List ℕ → List Line
-told_open text = if nat_lt line_limit (length (strip_carriage_return text)) then TooLong ∷ [] else []
-
-abbrev pub told_pieces : List (List ℕ) → List Line
-told_pieces pieces = map told (ended_pieces pieces) ++ told_open (last_piece pieces)
-
--- the lines of a publisher who sent these bytes
-abbrev pub lines : List ℕ → List Line
-lines bytes = told_pieces (pieces bytes)
+-- a line after which no bytes are looked for
+abbrev pub line_of : List ℕ → Line
+line_of text = line_by (parts text)
 
 -- ---- what a feed keeps
 
--- the bytes that no line was taken out of, and whether the rest of a line that is too long is being passed over
+-- the bytes that no line was taken out of; and, where a line is being passed over, how many bytes are passed over before its end is looked for
 pub record FeedValue : Type 0 where
   pub unread : List ℕ
-  pub passing : Bool
+  pub passing : Option ℕ
+
+abbrev pub at_line : List ℕ → FeedValue
+at_line bytes = record { unread = bytes; passing = None }
+
+abbrev pub in_passing : ℕ → List ℕ → FeedValue
+in_passing n bytes = record { unread = bytes; passing = Some n }
 
 abbrev pub fresh : FeedValue
-fresh = record { unread = []; passing = false }
-
--- the lines that a feed has still to give
-abbrev pub lines_in : FeedValue → List Line
-lines_in f = told_pieces (if f.passing then drop 1 (pieces f.unread) else pieces f.unread)
+fresh = at_line []
 
 -- more bytes came
 abbrev pub with_bytes : FeedValue → List ℕ → FeedValue
@@ -59,20 +60,79 @@ before_end bytes = before_first (λ b. b == 10) bytes
 abbrev pub after_end : List ℕ → List ℕ
 after_end bytes = after_first (λ b. b == 10) bytes
 
--- the front line of bytes of which none are passed over, and what is then kept
+-- ---- the front line
+
+-- An item of this channel and line has so many bytes, which have come, and LF after them. Where another byte stands there, the line is bad, and goes
+-- on to the next LF.
+abbrev pub with_media : ℕ → List ℕ → List ℕ → List ℕ → Option Line × FeedValue
+with_media n channel item rest =
+    if slice_index rest n == 10 then (Some (Item channel item (take n rest)), at_line (drop (n + 1) rest))
+    else (Some Bad, in_passing 0 (drop n rest))
+
+-- the channel and the line of an item, which may announce bytes; what has come after that line; and all of this together: where bytes of the item are
+-- missing, it isn't told yet
+abbrev pub front_item : List ℕ → List ℕ → Option (List ℕ × ℕ) → List ℕ → List ℕ → Option Line × FeedValue
+front_item channel line None rest bytes = (Some (Item channel line []), at_line rest)
+front_item channel line (Some item) rest bytes =
+    if nat_lt media_limit item.1 then (Some MediaTooLong, in_passing item.1 rest)
+    else if nat_lt item.1 (length rest) then with_media item.1 channel item.0 rest
+    else (None, at_line bytes)
+
+abbrev pub front_parts : Option (List ℕ × List ℕ) → List ℕ → List ℕ → Option Line × FeedValue
+front_parts None rest bytes = (Some Bad, at_line rest)
+front_parts (Some line) rest bytes = front_item line.0 line.1 (announced line.1) rest bytes
+
+-- a line that has ended, what has come after it, and both together
+abbrev pub front_ended : List ℕ → List ℕ → List ℕ → Option Line × FeedValue
+front_ended line rest bytes = if nat_lt line_limit (length line) then (Some TooLong, at_line rest) else front_parts (parts line) rest bytes
+
+-- The front line of bytes of which none are passed over, and what is then kept. A line that LF hasn't ended is told only where it is
+-- too long whatever follows: a CR at its end may belong to the line's end.
 abbrev pub front_of : List ℕ → Option Line × FeedValue
 front_of bytes =
-    if has_end bytes then (Some (told (strip_carriage_return (before_end bytes))), record { unread = after_end bytes; passing = false })
-    else if nat_lt line_limit (length (strip_carriage_return bytes)) then (Some TooLong, record { unread = []; passing = true })
-    else (None, record { unread = bytes; passing = false })
+    if has_end bytes then front_ended (strip_carriage_return (before_end bytes)) (after_end bytes) bytes
+    else if nat_lt line_limit (length (strip_carriage_return bytes)) then (Some TooLong, in_passing 0 [])
+    else (None, at_line bytes)
 
--- the rest of a line that is too long was dropped, as much of it as is in these bytes
-abbrev pub passed_over : List ℕ → FeedValue
-passed_over bytes = if has_end bytes then record { unread = after_end bytes; passing = false } else record { unread = []; passing = true }
+-- the rest of a line up to its end, as much of it as is in these bytes
+abbrev pub past_end : List ℕ → FeedValue
+past_end bytes = if has_end bytes then at_line (after_end bytes) else in_passing 0 []
 
--- the front line, and what is then kept
+-- so many bytes are passed over, and then the rest of the line
+abbrev pub passed_over : ℕ → List ℕ → FeedValue
+passed_over n bytes = if nat_lt (length bytes) n then in_passing (n - length bytes) [] else past_end (drop n bytes)
+
+abbrev pub settled_by : Option ℕ → List ℕ → FeedValue
+settled_by None bytes = at_line bytes
+settled_by (Some n) bytes = passed_over n bytes
+
+-- what is passed over is dropped
+abbrev pub settled : FeedValue → FeedValue
+settled f = settled_by f.passing f.unread
+
+abbrev pub front_at : Option ℕ → List ℕ → Option Line × FeedValue
+front_at None bytes = front_of bytes
+front_at (Some n) bytes = (None, in_passing n bytes)
+
+-- the front line, where it is there, and what is then kept
 abbrev pub front : FeedValue → Option Line × FeedValue
-front f =
-    if f.passing
-    then if has_end f.unread then front_of (after_end f.unread) else (None, record { unread = []; passing = true })
-    else front_of f.unread
+front f = front_at (settled f).passing (settled f).unread
+
+-- ---- all lines
+
+abbrev pub then_more : Option Line → List Line → List Line
+then_more None later = []
+then_more (Some line) later = line ∷ later
+
+-- so many of them at most
+abbrev pub lines_by : ℕ → FeedValue → List Line
+lines_by zero f = []
+lines_by (suc n) f = then_more (front f).0 (lines_by n (front f).1)
+
+-- the lines that a feed has still to give; each has a byte at least
+abbrev pub lines_in : FeedValue → List Line
+lines_in f = lines_by (length f.unread) f
+
+-- the lines of a publisher who sent these bytes
+abbrev pub lines : List ℕ → List Line
+lines bytes = lines_in (at_line bytes)

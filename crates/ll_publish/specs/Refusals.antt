@@ -5,7 +5,7 @@ use Rattle.ll_item.specs.declared.item.ItemFault.TheVariants as item
 use Rattle.ll_rendition.specs.declared.fault.PublishFault.{PublishFault}
 use Rattle.ll_rendition.specs.declared.fault.PublishFault.TheVariants as fault
 use Rattle.ll_publish.specs.declared.refusal.Refusal.{Refusal}
-use Rattle.ll_publish.specs.declared.refusal.Refusal.TheVariants.{NoRendition, Ended, BadDuration, TooLong, OpenSegment, CountEnd, TimeEnd, IdTaken, BadAttribute, IdUnknown, RecordFull, Memory, BadLine, UnknownChannel, LineTooLong}
+use Rattle.ll_publish.specs.declared.refusal.Refusal.TheVariants.{NoRendition, Ended, BadDuration, TooLong, OpenSegment, CountEnd, TimeEnd, IdTaken, BadAttribute, IdUnknown, RecordFull, Memory, BadLine, UnknownChannel, LineTooLong, MediaTooLong}
 
 -- the channel's refusal of an item
 abbrev pub refusal_of : PublishFault → Refusal
@@ -45,6 +45,7 @@ refusal_code Memory = 12
 refusal_code BadLine = 13
 refusal_code UnknownChannel = 14
 refusal_code LineTooLong = 15
+refusal_code MediaTooLong = 16
 
 abbrev pub refusal_name : Refusal → List ℕ
 refusal_name NoRendition = codes "NoRendition"
@@ -62,6 +63,7 @@ refusal_name Memory = codes "Memory"
 refusal_name BadLine = codes "BadLine"
 refusal_name UnknownChannel = codes "UnknownChannel"
 refusal_name LineTooLong = codes "LineTooLong"
+refusal_name MediaTooLong = codes "MediaTooLong"
 
 -- a line that refuses
 unfoldable pub refusal_line : ℕ → List ℕ → List ℕ

@@ -1,15 +1,14 @@
 //! The bytes of a publisher as they come.
-ghost use Rattle.std.specs.Prelude.{◌≡◌, ◌<◌, ◌≤◌, ◌==◌, ◌++◌, MatchOption, OnErr, OnOk, drop, false, length, nat_lt, option_map, true};
+ghost use Rattle.std.specs.Prelude.{◌≡◌, OnErr, OnOk, option_map};
 ghost use Rattle.std.specs.Borrow.{sem};
 ghost use Rattle.std.specs.Io.BufRead.{Rests};
-ghost use Rattle.std.specs.List.{position_or_len};
-ghost use Rattle.std.specs.Str.Lines.{strip_carriage_return};
-ghost use Rattle.ll_publish.specs.Lines.{fresh, front, front_of, has_end, line_limit, passed_over, with_bytes};
+ghost use Rattle.ll_publish.specs.Lines as spec;
+ghost use Rattle.ll_publish.specs.Lines.{fresh, front, settled, with_bytes};
 ghost use Rattle.ll_publish.specs.Meaning.{meant};
 ghost use Rattle.ll_publish.specs.contracts.feed.Feed.{the_row};
 
-use crate::line::{LINE_LIMIT, Line};
-use memchr::memchr;
+use crate::line::Line;
+use crate::look::{end_of, look, missing};
 use std::alloc::{AllocError, Global};
 use std::marker::Model;
 
@@ -19,8 +18,8 @@ pub struct Feed {
     bytes: Vec<u8>,
     /// How many of the bytes were taken out.
     at: usize,
-    /// Whether the rest of a line that is too long is being passed over.
-    passing: bool,
+    /// Where a line is being passed over, how many bytes are before its end is looked for.
+    passing: Option<u64>,
 }
 
 impl Model for Feed {
@@ -42,52 +41,36 @@ impl Feed {
         Feed {
             bytes: Vec::new(alloc),
             at: 0,
-            passing: false,
+            passing: None,
         }
     }
 
-    /// These bytes came. It fails where no memory is found, and then changes nothing.
+    /// These bytes came. It fails where no memory is found, and then changes nothing. The memory for an item's bytes is taken at once, so
+    /// that it isn't taken twice while they come.
     pub fn take(&mut self, bytes: &[u8]) -> Result<(), AllocError>
         ensures ok { OnOk result (self.new ≡ with_bytes self.old bytes.now) }
         ensures err { OnErr result (self.new ≡ self.old) }
     {
         self.forget_taken();
+        let missing = missing(&self.bytes[self.at..]);
+        self.bytes.reserve_exact(missing.max(bytes.len()))?;
         self.bytes.extend_from_slice(bytes)
     }
 
-    /// The front line, which then is taken out; nothing, where no further line has ended and none is too long yet. A line that is too
-    /// long is told once, as soon as it is, and the rest of it is passed over. It takes no memory.
+    /// The front line, which then is taken out; nothing, where no further line has ended with its bytes and none is too long yet. A line
+    /// that is too long, or has too many bytes, is told once, as soon as it is, and the rest of it is passed over. It takes no memory.
     pub fn next(&mut self) -> Option<Line<'_>>
         ensures* left { sem 𝓛 (Rests the_row self.entry (λ f. f ≡ (front self.old).1)) }
         ensures line { option_map meant result ≡ (front self.old).0 }
     {
-        if self.passing && !self.pass_over() {
+        self.settle();
+        if self.passing.is_some() {
             return None;
         }
-        self.front_line()
-    }
-
-    /// The front line where none is passed over, which then is taken out.
-    fn front_line(&mut self) -> Option<Line<'_>>
-        requires { self.old.passing ≡ false }
-        ensures* left { sem 𝓛 (Rests the_row self.entry (λ f. f ≡ (front_of self.old.unread).1)) }
-        ensures line { option_map meant result ≡ (front_of self.old.unread).0 }
-    {
-        let from = self.at;
-        let unread = &self.bytes[from..];
-        let too_long = is_too_long(unread);
-        match end_of(unread) {
-            Some(end) => {
-                self.at = from + end + 1;
-                Some(Line::told(without_return(&self.bytes[from..from + end])))
-            }
-            None if too_long => {
-                self.at = self.bytes.len();
-                self.passing = true;
-                Some(Line::TooLong)
-            }
-            None => None,
-        }
+        let seen = look(&self.bytes[self.at..])?;
+        self.at += seen.taken;
+        self.passing = seen.passing;
+        Some(seen.line)
     }
 
     /// Drops the bytes that were taken out, once they are more than the others: so fewer bytes are moved than are dropped.
@@ -100,47 +83,36 @@ impl Feed {
         }
     }
 
-    /// Drops the rest of a line that is too long, as much as has come, and tells whether its end has come.
-    fn pass_over(&mut self) -> bool
-        requires { self.old.passing ≡ true }
-        ensures end { result ≡ has_end self.old.unread }
-        ensures passed { self.new ≡ passed_over self.old.unread }
+    /// Drops what is passed over, as much as has come.
+    fn settle(&mut self)
+        ensures { self.new ≡ settled self.old }
+    {
+        let Some(count) = self.passing else {
+            return;
+        };
+        let unread = (self.bytes.len() - self.at) as u64;
+        if unread < count {
+            self.at = self.bytes.len();
+            self.passing = Some(count - unread);
+            return;
+        }
+        self.at += count as usize;
+        self.pass_line();
+    }
+
+    /// Drops the rest of a line, as much as has come.
+    fn pass_line(&mut self)
+        ensures { self.new ≡ spec.past_end self.old.unread }
     {
         match end_of(&self.bytes[self.at..]) {
             Some(end) => {
                 self.at += end + 1;
-                self.passing = false;
-                true
+                self.passing = None;
             }
             None => {
                 self.at = self.bytes.len();
-                false
+                self.passing = Some(0);
             }
         }
-    }
-}
-
-/// Where the first line ends.
-fn end_of(bytes: &[u8]) -> Option<usize>
-    ensures { MatchOption result (has_end bytes.now ≡ false)
-        (λ end. (has_end bytes.now ≡ true) × (end ≡ position_or_len (λ b. b == 10) bytes.now) × (end < length bytes.now)) }
-{
-    memchr(b'\n', bytes)
-}
-
-/// Whether the line that these bytes begin is too long whatever follows.
-fn is_too_long(bytes: &[u8]) -> bool
-    ensures { result ≡ nat_lt line_limit (length (strip_carriage_return bytes.now)) }
-{
-    without_return(bytes).len() > LINE_LIMIT
-}
-
-/// A line less the CR that stands before its LF.
-fn without_return(line: &[u8]) -> &[u8]
-    ensures { result.now ≡ strip_carriage_return line.now }
-{
-    match line {
-        [text @ .., b'\r'] => text,
-        _ => line,
     }
 }

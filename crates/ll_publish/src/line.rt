@@ -1,5 +1,5 @@
-ghost use Rattle.std.specs.Prelude.{◌≡◌};
-ghost use Rattle.ll_publish.specs.Lines.{line_of, told};
+ghost use Rattle.std.specs.Prelude.{◌≡◌, MatchOption, None, Some};
+ghost use Rattle.ll_publish.specs.Lines.{line_of, parts};
 ghost use Rattle.ll_publish.specs.Meaning.{meant};
 
 use std::str;
@@ -7,39 +7,40 @@ use std::str;
 /// The longest line of a publisher, in bytes, without its end.
 pub(crate) const LINE_LIMIT: usize = 4_096;
 
-/// A line of a publisher.
+/// The most bytes that an item may have.
+pub(crate) const MEDIA_LIMIT: u64 = 1_048_576;
+
+/// A line of a publisher, with the bytes after it that belong to its item.
 #[derive(Clone, Copy, Debug)]
 pub enum Line<'a> {
-    /// The name of a channel, and the line of an item for it. Neither is looked at.
-    Item(&'a str, &'a str),
-    /// It is no UTF-8, or has no space.
+    /// The name of a channel, the line of an item for it, without the number of its bytes, and its bytes, perhaps none. None of them is looked at.
+    Item(&'a str, &'a str, &'a [u8]),
+    /// It is no UTF-8, or has no space, or no LF stands after its item's bytes.
     Bad,
     /// It has more than 4,096 bytes. The rest of it is passed over.
     TooLong,
+    /// Its item has more than 1,048,576 bytes. They are passed over.
+    MediaTooLong,
 }
 
 impl<'a> Line<'a> {
-    /// A line without its end, however long it is.
+    /// A line without its end, however long it is, after which no bytes are looked for.
     pub fn of(text: &'a [u8]) -> Line<'a>
         ensures { meant result ≡ line_of text.now }
     {
-        let Ok(text) = str::from_utf8(text) else {
-            return Line::Bad;
-        };
-        match text.split_once(' ') {
-            Some((channel, item)) => Line::Item(channel, item),
+        match parts_of(text) {
+            Some((channel, item)) => Line::Item(channel, item, &[]),
             None => Line::Bad,
         }
     }
+}
 
-    /// A line that LF ended, without its end.
-    pub(crate) fn told(text: &'a [u8]) -> Line<'a>
-        ensures { meant result ≡ told text.now }
-    {
-        if text.len() > LINE_LIMIT {
-            Line::TooLong
-        } else {
-            Line::of(text)
-        }
+/// The channel's name and the item's line.
+pub(crate) fn parts_of(text: &[u8]) -> Option<(&str, &str)>
+    ensures { MatchOption result (parts text.now ≡ None) (λ p. parts text.now ≡ Some (p.0.now, p.1.now)) }
+{
+    match str::from_utf8(text) {
+        Ok(text) => text.split_once(' '),
+        Err(_) => None,
     }
 }

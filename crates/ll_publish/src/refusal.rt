@@ -38,6 +38,8 @@ pub enum Refusal {
     UnknownChannel,
     /// A publisher's line of more than 4,096 bytes, without its end.
     LineTooLong,
+    /// An item of more than 1,048,576 bytes.
+    MediaTooLong,
 }
 
 impl From<PublishFault> for Refusal {
@@ -101,6 +103,7 @@ impl Refusal {
             Refusal::BadLine => 13,
             Refusal::UnknownChannel => 14,
             Refusal::LineTooLong => 15,
+            Refusal::MediaTooLong => 16,
         }
     }
 
@@ -124,6 +127,7 @@ impl Refusal {
             Refusal::BadLine => "BadLine",
             Refusal::UnknownChannel => "UnknownChannel",
             Refusal::LineTooLong => "LineTooLong",
+            Refusal::MediaTooLong => "MediaTooLong",
         }
     }
 }

@@ -4,7 +4,7 @@ use Rattle.std.proofs.lemmas.Bool.Decides.{nat_tests}
 use Rattle.std.proofs.lemmas.List.{map_push, length-take}
 use Rattle.std.specs.List.{onto_first}
 use Rattle.std.specs.Str.Lines.{lines, lines_of_parts, strip_carriage_return}
-use Rattle.ll_publish.specs.Pieces.{ended_pieces, last_piece, pieces}
+use Rattle.ll_replay.specs.Pieces.{ended_pieces, last_piece, pieces}
 use Rattle.ll_replay.specs.Stream.{ended_lines, open_line}
 
 -- whole lines with their CR, and the bytes after the last of them

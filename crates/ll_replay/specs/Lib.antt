@@ -1,5 +1,6 @@
 pub mod Cuts
 pub mod Kept
+pub mod Pieces
 pub mod Stream
 pub mod Worked
 pub mod Script

@@ -3,7 +3,7 @@ use Rattle.std.specs.Prelude.{◌≡◌, ◌≤◌, ◌+◌, ℕ, List, ◌∷�
 use Rattle.std.specs.Io.KnownBytes.{Appends, Consumes}
 use Rattle.std.specs.Str.Lines.{lines}
 use Rattle.ll_device.specs.Written.{AppendsPrefix}
-use Rattle.ll_publish.specs.Pieces.{ended_pieces, last_piece, pieces}
+use Rattle.ll_replay.specs.Pieces.{ended_pieces, last_piece, pieces}
 use Rattle.ll_replay.specs.declared.outcome.Summary.{Summary}
 use Rattle.ll_replay.specs.Script.{Marked, Script, Ending, start, line, longest_line, summary_of, unmarked}
 

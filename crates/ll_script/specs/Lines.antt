@@ -1,5 +1,5 @@
 -- What the lines of a script mean.
-use Rattle.std.specs.Prelude.{◌≡◌, ℕ, ◌+◌, ◌^◌, List, [], ◌∷◌, Bool, true, false, ◌==◌, Option, Some, None, Result, Ok, Err, if◌then◌else◌, is_none, map, option_map, nat_le, nat_lt, codes}
+use Rattle.std.specs.Prelude.{◌≡◌, ℕ, ◌+◌, ◌^◌, List, [], ◌∷◌, Bool, true, false, ◌==◌, Option, Some, None, Result, Ok, Err, if◌then◌else◌, is_none, is_some, map, option_map, nat_le, nat_lt, codes}
 use Rattle.std.specs.Str.{is_utf8}
 use Rattle.ll_attr.specs.Numbers.{number_in}
 use Rattle.ll_attr.specs.Words.{words, after}
@@ -12,6 +12,7 @@ use Rattle.ll_item.specs.Settings.{Configuration, settings_in}
 use Rattle.ll_item.specs.declared.item.Item.{Item}
 use Rattle.ll_item.specs.declared.item.ItemFault.{ItemFault}
 use Rattle.ll_item.specs.declared.settings.SettingsFault.{SettingsFault}
+use Rattle.ll_publish.specs.Announced.{told_bytes}
 use Rattle.ll_publish.specs.Line.{Line}
 use Rattle.ll_publish.specs.Line as said
 use Rattle.ll_publish.specs.Lines.{line_of}
@@ -39,12 +40,26 @@ abbrev pub offer_to : Option (ℕ × Configuration) → List ℕ → Act
 offer_to None line = Refuse refused.UnknownChannel
 offer_to (Some channel) line = item_act channel.0 (item_in channel.1 line)
 
+-- whether a word spells one byte or more by two hexadecimal digits each
+abbrev pub spells_bytes : List ℕ → Bool
+spells_bytes [] = false
+spells_bytes (b ∷ bs) = is_some (bytes_in_hex (b ∷ bs))
+
+abbrev pub item_before : Option (List ℕ × List ℕ) → List ℕ → List ℕ
+item_before None line = line
+item_before (Some (item, word)) line = if spells_bytes word then item else line
+
+-- An item's line without its bytes: in a script these stand as one word in the place of their number. No item has the line of another word there.
+abbrev pub without_bytes : List ℕ → List ℕ
+without_bytes line = item_before (told_bytes line) line
+
 abbrev pub offer_by : List Configuration → Line → Act
-offer_by channels (said.Item name line) = offer_to (channel_of_name channels 0 name) line
+offer_by channels (said.Item name line media) = offer_to (channel_of_name channels 0 name) (without_bytes line)
 offer_by channels said.Bad = Refuse refused.BadLine
 offer_by channels said.TooLong = Refuse refused.LineTooLong
+offer_by channels said.MediaTooLong = Refuse refused.MediaTooLong
 
--- a publisher's line, however long it is: `line_of` is never `TooLong`
+-- a publisher's line, however long it is: `line_of` is neither `TooLong` nor `MediaTooLong`
 abbrev pub offer : List Configuration → List ℕ → Act
 offer channels text = offer_by channels (line_of text)
 

@@ -15,7 +15,7 @@ use crate::hex::{is_hex, read_hex};
 use ll_attr::{after, cut, parse_number};
 use ll_directive::{TargetFault, named_channel, read_target};
 use ll_item::{Channels, Item, Settings, SettingsFault};
-use ll_publish::{Line, Refusal};
+use ll_publish::{Line, Refusal, told_bytes};
 use std::alloc::Global;
 use std::str;
 use thiserror::Error;
@@ -126,14 +126,32 @@ fn read_offer(alloc: Global, declared: &Channels, text: &[u8]) -> Result<Acts, L
     ensures { IsRead declared.now (Some (spec.offer declared.now text.now ∷ [])) result }
 {
     let (name, line) = match Line::of(text) {
-        Line::Item(name, line) => (name, line),
+        Line::Item(name, line, _media) => (name, line),
         Line::Bad => return Ok(Acts::One(Act::Refuse(Refusal::BadLine))),
         Line::TooLong => return Ok(Acts::One(Act::Refuse(Refusal::LineTooLong))),
+        Line::MediaTooLong => return Ok(Acts::One(Act::Refuse(Refusal::MediaTooLong))),
     };
     match declared.find(name) {
-        Some((place, settings)) => read_item(alloc, place, settings, line),
+        Some((place, settings)) => read_item(alloc, place, settings, without_bytes(line)),
         None => Ok(Acts::One(Act::Refuse(Refusal::UnknownChannel))),
     }
+}
+
+/// An item's line without its bytes, which stand after it as a word of hexadecimal digits. They aren't kept.
+fn without_bytes(line: &str) -> &str
+    ensures { result.now ≡ spec.without_bytes line.now }
+{
+    match told_bytes(line) {
+        Some((item, word)) if spells_bytes(word) => item,
+        _ => line,
+    }
+}
+
+/// Whether a word spells one byte or more by two digits each.
+fn spells_bytes(word: &str) -> bool
+    ensures { result ≡ spec.spells_bytes word.now }
+{
+    !word.is_empty() && is_hex(word)
 }
 
 /// What an item's line makes happen in the channel at this place.

@@ -15,6 +15,7 @@ pub(crate) fn add_answer(
     match question {
         "both ways" => add_stream(alloc, told, input),
         "long" => add_long(alloc, told, input),
+        "media" => add_media(alloc, told, input),
         "pieces" => add_pieces(alloc, told, input),
         _ => add_reply(alloc, told, input),
     }
@@ -28,16 +29,23 @@ fn take(feed: &mut Feed, bytes: &[u8]) -> Result<(), AllocError> {
     }
 }
 
-/// Notes a line: an item's by its channel, its length and its text up to 12 bytes.
+/// Notes a line: an item's by its channel, its length and its text up to 12 bytes, with how many bytes it has, where it has some, and the first of them.
 fn note_line(alloc: Global, line: Line<'_>, notes: &mut String) -> Result<(), AllocError> {
     let note = match line {
-        Line::Item(channel, item) => {
+        Line::Item(channel, item, media) => {
             let length = item.len();
             let text = item.get(..12).unwrap_or(item);
-            format!(in alloc; "{channel} {length} {text}; ")?
+            match media.first() {
+                Some(first) => format!(in alloc;
+                    "{channel} {length} {text} + {} {first}; ",
+                    media.len()
+                )?,
+                None => format!(in alloc; "{channel} {length} {text}; ")?,
+            }
         }
         Line::Bad => String::from_str(alloc, "Bad; ")?,
         Line::TooLong => String::from_str(alloc, "TooLong; ")?,
+        Line::MediaTooLong => String::from_str(alloc, "MediaTooLong; ")?,
     };
     notes.push_str(note.as_str())
 }
@@ -76,7 +84,24 @@ cam end hi␊cam end => cam 6 end hi;
 ␊\r␊ => Bad; Bad; 
 cam␊cam ␊ end␊ => Bad; cam 0 ;  3 end; 
 cam \u{ff}␊\u{ff} cam␊cam e␊ => Bad; Bad; cam 1 e; 
-cam a b␊ => cam 3 a b; ";
+cam a b␊ => cam 3 a b; 
+cam part hi 1000000 f 3␊␊␊␊␊x y␊ => cam 17 part hi 1000 + 3 10; x 1 y; 
+cam init hi 2␊ab␊cam end hi␊ => cam 7 init hi + 2 97; cam 6 end hi; 
+cam part hi 1000000 f 0␊␊x y␊ => cam 17 part hi 1000; x 1 y; 
+cam part hi 1000000 f 000001\r␊a␊x y␊ => cam 17 part hi 1000 + 1 97; x 1 y; 
+cam part hi 1000000 f 3␊abc => 
+cam part hi 1000000 f 3␊abc␊ => cam 17 part hi 1000 + 3 97; 
+cam part hi 1000000 f 2␊abcd e␊x y␊ => Bad; x 1 y; 
+cam part hi 1000000 f 1␊a\r␊x y␊ => Bad; x 1 y; 
+cam part hi 1000000 f 18446744073709551615␊x y␊ => MediaTooLong; 
+cam part hi 1000000 f 18446744073709551616␊x y␊ => cam 38 part hi 1000; x 1 y; 
+cam part hi 1000000 f 3x␊x y␊ => cam 20 part hi 1000; x 1 y; 
+cam part hi 1000000 f ␊x y␊ => cam 18 part hi 1000; x 1 y; 
+cam part hi 1 f 2 3␊x y␊ => cam 15 part hi 1 f ; x 1 y; 
+cam init hi a 3␊x y␊ => cam 11 init hi a 3; x 1 y; 
+cam end hi 3␊x y␊ => cam 8 end hi 3; x 1 y; 
+part hi 1 f 3␊x y␊ => part 8 hi 1 f 3; x 1 y; 
+cam part \u{ff} 1 f 3␊x y␊ => Bad; x 1 y; ";
 
 fn add_stream(alloc: Global, told: &mut String, input: &str) -> Result<(), AllocError> {
     let bytes = bytes(alloc, input)?;
@@ -86,12 +111,19 @@ fn add_stream(alloc: Global, told: &mut String, input: &str) -> Result<(), Alloc
 /// Notes the lines of all bytes at once, and those of one after another where they differ.
 fn add_both_ways(alloc: Global, told: &mut String, bytes: &[u8]) -> Result<(), AllocError> {
     add_lines(alloc, told, bytes, 9_999)?;
-    let mut single = String::new(alloc);
-    add_lines(alloc, &mut single, bytes, 1)?;
-    if single.as_str() == told.as_str() {
+    add_others(alloc, told, bytes, 1)
+}
+
+/// Notes the lines of bytes that come in pieces of so many, where they aren't those that were told.
+fn add_others(alloc: Global, told: &mut String, bytes: &[u8], size: usize) -> Result<(), AllocError>
+    requires { 0 < size }
+{
+    let mut others = String::new(alloc);
+    add_lines(alloc, &mut others, bytes, size)?;
+    if others.as_str() == told.as_str() {
         return Ok(());
     }
-    write!(told, ", byte by byte {single}")
+    write!(told, ", in pieces of {size} {others}")
 }
 
 /// The length of a line for the channel `c`, what comes after it, and what is told: a line that is too long is told once.
@@ -115,6 +147,23 @@ fn add_long(alloc: Global, told: &mut String, input: &str) -> Result<(), AllocEr
     add_both_ways(alloc, told, text.as_str().as_bytes())
 }
 
+/// How many bytes a part has, what comes after them, and what is told.
+pub(crate) const MEDIA: &str = "feed: media
+1048576 | ␊d e␊ => c 11 part hi 1 f + 1048576 120; d 1 e; 
+1048576 | x␊d e␊ => Bad; d 1 e; 
+1048576 |  => 
+1048577 | ␊d e␊ => MediaTooLong; d 1 e; 
+1048577 | x␊d e␊ => MediaTooLong; d 1 e; 
+1048577 |  => MediaTooLong; ";
+
+fn add_media(alloc: Global, told: &mut String, input: &str) -> Result<(), AllocError> {
+    let count = number(input, 0);
+    let media = "x".repeat(alloc, count)?;
+    let text = format!(in alloc; "c part hi 1 f {count}\n{media}{}", column(input, 1))?;
+    add_lines(alloc, told, text.as_str().as_bytes(), 65_536)?;
+    add_others(alloc, told, text.as_str().as_bytes(), 100)
+}
+
 /// After each piece the lines that it ends; a line that has no end yet is told by a later piece.
 pub(crate) const PIECES: &str = "feed: pieces
 cam part hi 10 | 00000 if␊cam |  |  end hi␊ => /cam 18 part hi 1000; //cam 6 end hi; /";
@@ -135,11 +184,13 @@ pub(crate) const REPLIES: &str = "feed: reply
 18446744073709551615 => ok 18446744073709551615␊
 too long a line => no 15 LineTooLong␊
 a bad line => no 13 BadLine␊
-too long a part => no 4 TooLong␊";
+too long a part => no 4 TooLong␊
+too many bytes => no 16 MediaTooLong␊";
 
 fn reply(name: &str) -> Result<u64, Refusal> {
     match name {
         "too long a line" => Err(Refusal::LineTooLong),
+        "too many bytes" => Err(Refusal::MediaTooLong),
         "a bad line" => Err(Refusal::from(ItemFault::BadLine)),
         "too long a part" => Err(Refusal::from(PublishFault::TooLong)),
         _ => Ok(name.parse::<u64>().unwrap_or(999)),

@@ -6,9 +6,10 @@ use std::alloc::{AllocError, Global};
 use std::process::Abort;
 use std::test::Fail;
 
-const TABLES: [&str; 14] = [
+const TABLES: [&str; 15] = [
     feed_tests::STREAMS,
     feed_tests::LONG,
+    feed_tests::MEDIA,
     feed_tests::PIECES,
     feed_tests::REPLIES,
     session_tests::TALKS,
