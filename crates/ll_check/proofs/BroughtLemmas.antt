@@ -1,5 +1,5 @@
 -- The replies that entries bring.
-use Rattle.std.proofs.Common.{◌≡◌, ℕ, List, [], ◌∷◌, ◌++◌, Option, Some, None, Result, Ok, Err, IfOk, false, refl, ap, ap₂, sym, subst, ◌∙◌, option_map}
+use Rattle.std.proofs.Common.{◌≡◌, ℕ, List, [], ◌∷◌, ◌++◌, Option, None, Result, Ok, Err, IfOk, ap, ap₂, sym, subst, ◌∙◌}
 use Rattle.ll_attr.specs.Words.{pieces_at}
 use Rattle.ll_check.specs.Brought.{IsBrought, brought_in}
 use Rattle.ll_enter.specs.Brought.{brought_by}

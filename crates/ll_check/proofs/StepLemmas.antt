@@ -1,5 +1,5 @@
 -- What lines come to, by what the first of them tell.
-use Rattle.std.proofs.Common.{◌≡◌, ℕ, List, [], ◌∷◌, Bool, true, false, cond, Option, Some, None, Result, Ok, Err, refl, ap, ap₂, sym, subst, ◌∙◌, bytes_eq, length, option_map, MatchOption}
+use Rattle.std.proofs.Common.{◌≡◌, ℕ, List, ◌∷◌, Bool, true, false, cond, Option, Some, None, Result, Ok, Err, refl, ap, ap₂, sym, subst, ◌∙◌, bytes_eq, length, option_map, MatchOption}
 use Rattle.ll_attr.specs.Words.{pieces_at}
 use Rattle.ll_check.proofs.Begun.{begun_parts}
 use Rattle.ll_check.specs.Found.{AreKept, ChainValue, IsAt, IsOf, so_far}
@@ -11,7 +11,7 @@ use Rattle.ll_enter.specs.declared.full.FullEntry.{FullEntry}
 use Rattle.ll_check.specs.declared.told.Told.{Told}
 use Rattle.ll_check.specs.declared.told.Told.TheVariants as told
 use Rattle.ll_entry.proofs.ChainLemmas.{ended-parts, header-is}
-use Rattle.ll_entry.specs.Chain.{Between, Chain, Inside, Position, begun_by, checked_from, entry_at, go_on, joined, text_in, with_line, wrong}
+use Rattle.ll_entry.specs.Chain.{Between, Chain, Inside, Position, begun_by, checked_from, entry_at, go_on, joined, with_line, wrong}
 use Rattle.ll_entry.specs.Entries.{entry_in}
 use Rattle.ll_entry.specs.Frame.{last_line}
 use Rattle.ll_entry.specs.declared.fault.CheckFault.{CheckFault}

@@ -1,7 +1,7 @@
 -- What is kept while an entry is looked for: where the lines so far lead, the time by then, and that the entry is still to come.
-use Rattle.std.proofs.Common.{◌≡◌, ◌≢◌, ◌⊎◌, inl, inr, ◌+◌, ◌<◌, ◌≤◌, ℕ, zero, suc, List, [], ◌∷◌, ◌++◌, true, false, not, Option, Some, None, Ok, Err, refl, ap, ◌∙◌, subst, sym, true≢false, bytes_eq, length, length-append, option_map, arith}
+use Rattle.std.proofs.Common.{◌≡◌, ◌≢◌, ◌⊎◌, inl, inr, ◌+◌, ◌<◌, ◌≤◌, ℕ, zero, suc, List, [], ◌∷◌, ◌++◌, true, false, not, Option, Some, None, Ok, Err, refl, ap, ◌∙◌, subst, sym, true≢false, length, length-append, option_map, arith}
 use Rattle.ll_attr.specs.Words.{pieces_at}
-use Rattle.ll_check.proofs.Begun.{Another, EntryParts, GoesOn, Next, Onward, begun_lines, entry_line, new_chain}
+use Rattle.ll_check.proofs.Begun.{Another, EntryParts, GoesOn, Next, Onward, begun_lines, entry_line}
 use Rattle.ll_check.proofs.LaterLemmas.{Keeps, keeps_begun, later-as}
 use Rattle.ll_check.proofs.Places.{first-at}
 use Rattle.ll_check.proofs.ReachedLemmas.{Passed, passed-first, passed-then, passed-told}
@@ -14,14 +14,12 @@ use Rattle.ll_enter.specs.declared.full.FullEntry.{FullEntry}
 use Rattle.ll_check.specs.declared.told.Told.{Told}
 use Rattle.ll_check.specs.declared.told.Told.TheVariants as told
 use Rattle.ll_entry.proofs.ToldLemmas.{told-right, whole-entry}
-use Rattle.ll_entry.specs.Chain.{Between, Chain, Inside, Position, begun, checked, checked_from, counted, entries, not_before, text_in}
+use Rattle.ll_entry.specs.Chain.{Between, Chain, Inside, Position, checked, checked_from, counted, entries, not_before, text_in}
 use Rattle.ll_entry.specs.Entered.{event_of}
-use Rattle.ll_entry.specs.Frame.{last_line}
 use Rattle.ll_entry.specs.Told.{entry_after}
 use Rattle.ll_entry.specs.declared.entry.Recorded.{Recorded}
 use Rattle.ll_entry.specs.declared.entry.Recorded.TheVariants as recorded
 use Rattle.ll_entry.specs.declared.fault.CheckFault.{CheckFault}
-use Rattle.ll_entry.specs.declared.fault.CheckKind.{CheckKind}
 use Rattle.ll_entry.specs.declared.version.Version.TheVariants.{Two}
 use Rattle.ll_explain.proofs.UpgradeLines.{full-is}
 use Rattle.ll_explain.specs.Explained.{HasNoEntry, IsExplained}

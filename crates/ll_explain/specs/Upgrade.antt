@@ -1,5 +1,5 @@
 -- A record in format 2, whichever formats its chunks are in.
-use Rattle.std.specs.Prelude.{◌≡◌, ℕ, List, [], ◌∷◌, ◌++◌, false, Option, Some, None, Result, Ok, Err, bytes_eq, codes, if◌then◌else◌, length}
+use Rattle.std.specs.Prelude.{◌≡◌, ℕ, List, [], ◌∷◌, ◌++◌, false, Some, None, Result, Ok, Err, bytes_eq, codes, if◌then◌else◌, length}
 use Rattle.std.specs.List.{AllZip}
 use Rattle.std.specs.Option.{option_map_or}
 use Rattle.ll_attr.specs.Words.{after, pieces_at}

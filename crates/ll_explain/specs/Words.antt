@@ -1,5 +1,5 @@
 -- How an entry is told in words.
-use Rattle.std.specs.Prelude.{◌≡◌, ℕ, List, [], ◌++◌, Bool, true, false, Option, Some, None, Err, codes, decimal, if◌then◌else◌, is_some}
+use Rattle.std.specs.Prelude.{◌≡◌, ◌≤◌, ◌⊎◌, ℕ, List, [], ◌++◌, Bool, true, false, Option, Some, None, Err, codes, decimal, if◌then◌else◌, is_some}
 use Rattle.ll_attr.specs.Words.{after}
 use Rattle.ll_check.specs.Answer.{answer_line}
 use Rattle.ll_entry.specs.Chain.{checked}
@@ -58,4 +58,4 @@ explained_text entry time line reply =
 abbrev pub IsExplanation : List ℕ → ℕ → Bool → List ℕ → Type 0
 IsExplanation bytes entry true text =
     (ms : ℕ) × (line : List ℕ) × (reply : Option Reply) × IsExplained bytes entry ms line reply × (text ≡ explained_text entry ms line reply)
-IsExplanation bytes entry false text = (f : CheckFault) × (checked bytes ≡ Err f) × (text ≡ answer_line (Err f))
+IsExplanation bytes entry false text = (f : CheckFault) × (checked bytes ≡ Err f) × ((entry ≡ 0) ⊎ (f.entry ≤ entry)) × (text ≡ answer_line (Err f))

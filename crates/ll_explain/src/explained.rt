@@ -63,7 +63,11 @@ fn find(alloc: Global, chunks: &[u8], entry: u64) -> Result<Option<Explained<'_>
         time = time_after(time, &told);
         rest = more;
         match reply_at(&mut checker, entry, rest) {
-            Ok(Some(EntryReply { line, reply })) => return Ok(Some(Explained { time, line, reply })),
+            Ok(Some(EntryReply { line, reply })) => return Ok(Some(Explained {
+                time,
+                line,
+                reply,
+            })),
             Ok(None) => {}
             Err(fault) => return Err(fault),
         }

@@ -24,7 +24,7 @@ elsewhere : (c : In-Ok-None) → Comes c.next.new.self c.args.entry c.time_after
     → Seeks c.reply_at.new.checker c.args.entry c.time_after-time.result (pieces_at 10 c.args.chunks.now) (pieces_at 10 c.in-Some.more.now)
 elsewhere c there =
     let other : (q : Position) → IsAt c.next.new.self q → IsElsewhere c.next.new.self c.reply_at.new.checker q c.args.entry (pieces_at 10 c.in-Some.more.now) = λ q at.
-        rw c.in-Ok-None.field-0-is at (c.in-Ok-None.ensures.right q at) in
+    rw c.in-Ok-None.field-0-is at (c.in-Ok-None.ensures.right q at) in
     comes-elsewhere c.next.new.self c.reply_at.new.checker c.args.entry c.time_after-time.result (pieces_at 10 c.args.chunks.now) (pieces_at 10 c.in-Some.more.now) there other
 
 pub loop-checker-init : goal.loop-checker-init
@@ -46,7 +46,7 @@ pub returns-in-Ok-Some-clause-right : goal.returns-in-Ok-Some-clause-right
 returns-in-Ok-Some-clause-right c =
     let found = c.in-Ok-Some.field-0-0 in
     let here : (q : Position) → IsAt c.next.new.self q → IsHere q c.args.entry found.line.now found.reply (pieces_at 10 c.in-Some.more.now) = λ q at.
-        rw c.in-Ok-Some.field-0-is at (c.in-Ok-Some.ensures.right q at) in
+    rw c.in-Ok-Some.field-0-is at (c.in-Ok-Some.ensures.right q at) in
     comes-here c.next.new.self c.args.chunks.now c.args.entry c.time_after-time.result (pieces_at 10 c.in-Some.more.now) found.line.now found.reply
     (comes (goal.at.returns-in-Ok-Some-clause-right c).After-time_after-time) here
 
@@ -63,7 +63,7 @@ returns-in-Err-clause-memory c = λ kind.
 pub returns-clause-right : goal.returns-clause-right
 returns-clause-right c =
     let over : (q : Position) → IsAt c.loop-checker.checker q → IsOver c.loop-checker.checker c.next.new.self q c.loop-checker.rest.now = λ q at.
-        rw c.in_default.is at (c.in_ok-told.ensures.right q at) in
+    rw c.in_default.is at (c.in_ok-told.ensures.right q at) in
     let count : (q : Position) → IsAt c.next.new.self q → Ok c.in_ok-count.field-0 ≡ counted (Ok (so_far q)) = λ q at. sym c.in_ok-count.was ∙ c.count.ensures q at in
     seeks-none c.loop-checker.checker c.next.new.self c.args.chunks.now c.args.entry c.loop-checker.time c.in_ok-count.field-0 c.loop-checker.rest.now
     c.loop-checker.invariant over count

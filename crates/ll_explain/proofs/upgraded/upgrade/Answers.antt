@@ -24,7 +24,7 @@ goes c =
 on : (c : Else-is_err) → Writes c.next.new.self (pieces_at 10 c.args.bytes.now) (pieces_at 10 c.in-Some.more.now) c.push_told.new.text.items
 on c =
     let added : (s : Configuration) → c.push_told.new.text.items ≡ c.loop-text.text.items ++ told_text s c.in-Some.told = λ s.
-        ok-of c.push_told.result _ (sym c.is_err.ensures.value ∙ c.if-is_err.false) (c.push_told.ensures s) in
+    ok-of c.push_told.result _ (sym c.is_err.ensures.value ∙ c.if-is_err.false) (c.push_told.ensures s) in
     writes-on c.loop-text.checker c.next.new.self c.in-Some.told (pieces_at 10 c.args.bytes.now) (pieces_at 10 c.loop-text.rest.now) c.in-Some.more.now
     c.loop-text.text.items c.push_told.new.text.items c.loop-text.invariant (λ q at. rw c.in-Some.is at (c.in_ok-told.ensures.right q at)) added
 
