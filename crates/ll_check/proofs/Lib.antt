@@ -1,12 +1,12 @@
 pub mod Back
 pub mod Begun
-pub mod BroughtLemmas
 pub mod Few
 pub mod HeaderLemmas
 pub mod LaterLemmas
 pub mod LineLemmas
 pub mod Places
 pub mod ReachedLemmas
+pub mod ReplyLemmas
 pub mod StepLemmas
 pub mod Walk
 pub mod Whole

@@ -1,5 +1,5 @@
 pub mod Answer
-pub mod Brought
+pub mod EntryReplies
 pub mod Found
 pub mod Joined
 pub mod Lines

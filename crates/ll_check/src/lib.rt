@@ -3,16 +3,16 @@
 
 mod answer;
 mod begin;
-mod brought;
 mod chain;
 mod checker;
 mod chunk;
 mod laws;
 mod lines;
+mod replies;
 mod told;
 
 pub use answer::answer_line;
-pub use brought::EntryReply;
 pub use checker::{Checker, check};
 pub use laws::record_law;
+pub use replies::EntryReply;
 pub use told::Told;

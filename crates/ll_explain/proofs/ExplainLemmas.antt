@@ -6,7 +6,7 @@ use Rattle.ll_check.proofs.LaterLemmas.{Keeps, keeps_begun, later-as}
 use Rattle.ll_check.proofs.Places.{first-at}
 use Rattle.ll_check.proofs.ReachedLemmas.{Passed, passed-first, passed-then, passed-told}
 use Rattle.ll_check.proofs.StepLemmas.{GoesTo, moved, over-at}
-use Rattle.ll_check.specs.Brought.{Brings}
+use Rattle.ll_check.specs.EntryReplies.{Brings}
 use Rattle.ll_check.specs.Found.{ChainValue, IsAt, so_far}
 use Rattle.ll_check.specs.Steps.{IsOver, Moves, Tells, full_entry, has_entry}
 use Rattle.ll_enter.specs.Full.{without_item}

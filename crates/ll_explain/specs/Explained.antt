@@ -1,7 +1,7 @@
 -- What a record tells of one of its entries.
 use Rattle.std.specs.Prelude.{◌≡◌, ◌+◌, ◌<◌, ◌⊎◌, ℕ, List, ◌∷◌, ◌++◌, Option, None, Ok, Some}
 use Rattle.ll_attr.specs.Words.{pieces_at}
-use Rattle.ll_check.specs.Brought.{brought}
+use Rattle.ll_check.specs.EntryReplies.{brought}
 use Rattle.ll_check.specs.Steps.{reached}
 use Rattle.ll_entry.specs.Chain.{Between, Chain, Inside, checked, entries, with_line}
 use Rattle.ll_verdict.specs.Events.{time}

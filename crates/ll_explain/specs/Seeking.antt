@@ -1,6 +1,6 @@
 -- For private contracts: what is kept while an entry is looked for.
 use Rattle.std.specs.Prelude.{◌≡◌, ◌+◌, ℕ, zero, suc, max, List, Option, false}
-use Rattle.ll_check.specs.Brought.{Brings}
+use Rattle.ll_check.specs.EntryReplies.{Brings}
 use Rattle.ll_check.specs.Found.{ChainValue, so_far}
 use Rattle.ll_check.specs.Steps.{has_entry}
 use Rattle.ll_enter.specs.declared.full.FullEntry.{FullEntry}

@@ -1,7 +1,7 @@
 -- The replies that entries bring.
 use Rattle.std.proofs.Common.{◌≡◌, ℕ, List, [], ◌∷◌, ◌++◌, Option, None, Result, Ok, Err, IfOk, ap, ap₂, sym, subst, ◌∙◌}
 use Rattle.ll_attr.specs.Words.{pieces_at}
-use Rattle.ll_check.specs.Brought.{IsBrought, brought_in}
+use Rattle.ll_check.specs.EntryReplies.{IsBrought, brought_in}
 use Rattle.ll_enter.specs.Brought.{brought_by}
 use Rattle.ll_check.specs.Found.{ChainValue, IsOf}
 use Rattle.ll_check.specs.Lines.{IsText}

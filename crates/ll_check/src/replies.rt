@@ -1,7 +1,7 @@
 //! The replies that the entries of a record bring.
 ghost use Rattle.std.specs.Prelude.{◌≡◌, ◌≢◌, ◌+◌, IfErr, IfOk, MatchOption, Ok, Some, Err, true};
 ghost use Rattle.ll_attr.specs.Words.{pieces_at};
-ghost use Rattle.ll_check.specs.Brought.{Brings, BringsNone, IsBrought, brought_in};
+ghost use Rattle.ll_check.specs.EntryReplies.{Brings, BringsNone, IsBrought, brought_in};
 ghost use Rattle.ll_check.specs.Found.{IsAt, IsOf, so_far};
 ghost use Rattle.ll_entry.specs.Chain as spec;
 ghost use Rattle.ll_entry.specs.Chain.{Inside, Position, checked_from, entries, joined, not_before, wrong};

@@ -1,9 +1,9 @@
 -- A line brings what its entry does.
 use Rattle.std.proofs.Common.{ap, ◌∙◌}
-use Rattle.ll_check.proofs.BroughtLemmas.{brought-of}
+use Rattle.ll_check.proofs.ReplyLemmas.{brought-of}
 use Rattle.ll_check.specs.Found.{ChainValue}
 use Rattle.ll_room.specs.RoomValue.{RoomValue}
-use Rattle.ll_check.proofs.brought.reply_to.Goals as goal
+use Rattle.ll_check.proofs.replies.reply_to.Goals as goal
 
 pub returns-clause-right : goal.returns-clause-right
 returns-clause-right c ch of =

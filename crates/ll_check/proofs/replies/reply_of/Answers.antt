@@ -2,7 +2,7 @@
 use Rattle.ll_attr.specs.Words.{pieces_at}
 use Rattle.ll_check.proofs.StepLemmas.{entry-wrong}
 use Rattle.ll_check.specs.Lines.{IsText}
-use Rattle.ll_check.proofs.brought.reply_of.Goals as goal
+use Rattle.ll_check.proofs.replies.reply_of.Goals as goal
 
 pub returns-in-Err-clause-wrong : goal.returns-in-Err-clause-wrong
 returns-in-Err-clause-wrong c ch of other =
