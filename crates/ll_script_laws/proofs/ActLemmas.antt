@@ -1,7 +1,8 @@
 -- What a line makes happen: settings within their limits are declared, and items are offered as they were read.
 use Rattle.std.proofs.Common.{◌≡◌, ℕ, ◌+◌, ◌<◌, ◌≤◌, ◌==◌, ◌&&◌, ◌^◌, Bool, true, false, List, [], ◌∷◌, ◌++◌, Option, Some, None, is_none, Result, Ok, Err, length, length-append, refl, ap, sym, ◌∙◌, subst, arith, codes, get_or, nat_le, nat_lt, take, if◌then◌else◌, option_map}
 use Rattle.std.proofs.lemmas.Bool.Decides.{nat_tests}
-use Rattle.std.proofs.lemmas.List.{drop_all, get_or-append-add, take-append-le, take_all}
+use Rattle.std.proofs.Math.Seq.{get_or-append_seam}
+use Rattle.std.proofs.lemmas.List.{drop_all, take-append-le, take_all}
 use Rattle.std.proofs.lemmas.List.Sums.{passes_at_first}
 use Rattle.std.proofs.lemmas.Str.{IsCharBoundary-after_ascii, IsCharBoundary-before_ascii, IsUtf8-drop, IsUtf8-from_is_utf8, IsUtf8-nil, IsUtf8-take}
 use Rattle.std.specs.List.{after_first, before_first, list_any, position_or_len}
@@ -90,7 +91,7 @@ offer_to-sound (Some channel) line u = item_act-sound channel.0 (item_in channel
 before_space : (line item word : List ℕ) → line ≡ item ++ 32 ∷ word → IsUtf8 line → IsUtf8 item
 before_space line item word e u =
     let long = ap length e ∙ length-append item (32 ∷ word) in
-    let here : get_or line (length item) 0 ≡ 32 = ap (λ l. get_or l (length item) 0) e ∙ get_or-append-add item (32 ∷ word) 0 0 in
+    let here : get_or line (length item) 0 ≡ 32 = ap (λ l. get_or l (length item) 0) e ∙ get_or-append_seam item 32 word 0 in
     let front : take (length item) line ≡ item = ap (take (length item)) e ∙ take-append-le (length item) item (32 ∷ word) (omega arith) ∙ take_all (length item) item (omega arith) in
     subst IsUtf8 front (IsUtf8-take line (length item) u (IsCharBoundary-before_ascii line (length item) (omega (arith, long)) (omega (arith, here))))
 

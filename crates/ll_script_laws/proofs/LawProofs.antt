@@ -1,5 +1,5 @@
 -- What a channel has accepted of items that were read may stand one after another, so the law on texts speaks of its playlists.
-use Rattle.std.proofs.Common.{◌≡◌, ◌≢◌, ℕ, ◌+◌, ◌≤◌, ◌||◌, List, [], ◌∷◌, ◌++◌, Bool, true, false, Option, Some, None, is_none, Ok, length, fold, refl, ap, sym, subst, ◌∙◌, append_assoc, append-nil, nat_lt, if◌then◌else◌, option_map}
+use Rattle.std.proofs.Common.{◌≡◌, ◌≢◌, ℕ, ◌+◌, ◌≤◌, ◌||◌, List, [], ◌∷◌, ◌++◌, Bool, true, false, Option, Some, None, is_none, Ok, fold, refl, ap, sym, subst, ◌∙◌, append_assoc, append-nil, if◌then◌else◌}
 use Rattle.std.proofs.lemmas.List.Sums.{fold-append}
 use Rattle.ll_apply.specs.Texts.{applied_text}
 use Rattle.ll_attr.specs.declared.attributes.Attribute.{Attribute}
@@ -17,14 +17,11 @@ use Rattle.ll_range.specs.Announced.{announced, is_listed, was_removed}
 use Rattle.ll_range.specs.Attributes.{is_id}
 use Rattle.ll_range.specs.declared.ranges.RangeFault.TheVariants.{BadAttribute, IdTaken}
 use Rattle.ll_verdict.specs.Accepted.{refusal}
-use Rattle.ll_rendition.specs.Refusal.{first_refusal, of_push, of_range, rendition_refusal}
 use Rattle.ll_verdict.specs.Events.{Event, Publish, Ask, Collect, Close, Clock, items, taken}
 use Rattle.ll_rendition.specs.declared.fault.PublishFault.{PublishFault}
-use Rattle.ll_rendition.specs.declared.fault.PublishFault.TheVariants as fault
 use Rattle.ll_verdict.proofs.AcceptedLemmas.{not-refused}
 use Rattle.ll_verdict.proofs.ListLemmas.{Each}
 use Rattle.ll_verdict.proofs.NewerLemmas.{folded-longer}
-use Rattle.ll_window.specs.Refusal as window
 use Rattle.ll_item.specs.Told.{end_time}
 use Rattle.ll_window.specs.Segments.{own}
 use Rattle.ll_script_laws.specs.Laws.{PlayersLaw, PublishedLaw}
