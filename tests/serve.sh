@@ -213,14 +213,14 @@ ok 2' ] || { echo "$answers"; return 1; }
 # The bytes of parts: as many as a part may have, one more, none, some of which are LF, and with another byte where their LF should stand. Of what goes away
 # in the midst of its bytes nothing is published.
 bytes_of_publishers() {
-    local answers
+    local answers short='cam part hi 100000 -'
     start 4 "$cam" || return 1
     connect "$publish_port" || return 1
     {
-        printf '%s 1048576\n%1048576d\n%s 1048577\n%1048577d\n' "$part" 0 "$part" 0
-        printf '%s 3\n\n\n\n\n%s 0\n\n%s 2\nabcam end hi\ncam init hi 2\nab\n%s 2\n' "$part" "$part" "$part" "$part"
+        printf '%s 1048576\n%1048576d\n%s 1048577\n%1048577d\n' "$short" 0 "$short" 0
+        printf '%s 3\n\n\n\n\n%s 0\n\n%s 2\nabcam end hi\ncam init hi 2\nab\n%s 2\n' "$short" "$short" "$short" "$short"
         sleep 0.1
-        printf 'ab\n%s 100\nab' "$part"
+        printf 'ab\n%s 100\nab' "$short"
     } >&"$peer"
     answers=$(timeout 10 head -n 7 <&"$peer")
     [ "$answers" = 'ok 1
@@ -231,7 +231,7 @@ no 13 BadLine
 no 13 BadLine
 ok 4' ] || { echo "$answers"; return 1; }
     hang_up
-    publish "$part" 'ok 5'
+    publish "$short" 'ok 5'
 }
 
 # Many connections while the server may open no more files: it says so once, and serves others afterwards.
