@@ -23,6 +23,8 @@ use std::sync::Wait;
 const PIECE: usize = 65_536;
 
 /// Publishes what a publisher's lines announce, answers each, and counts the answers.
+// (not inlined, so that a worker that serves players has no place for such a read on its stack)
+#[inline(never)]
 pub(crate) fn serve<L: Ledgers, P: Link, C, G: Gate, K: Sink, R: Wait>(
     service: &Service<'_, L, C, G, K, R>,
     link: &mut P,
