@@ -51,8 +51,11 @@ def replayed(program, settings, entries):
         words = line.split(" ")
         if words[0] == "P":
             item = line[2:]
-            if version == "2" and words[1] == "part":
-                item = item.removesuffix(" 0")
+            if version == "2" and words[1] in ("part", "init"):
+                item = item.rpartition(" ")[0]
+            if words[1] == "init":
+                # (playlists don't tell how many bytes it has, and a script spells one at least)
+                item += " 00"
             script.append(f"pub cam {item}")
         elif words[0] == "A":
             script.append(f"get {words[1]} {target(words[2:6], version)}")

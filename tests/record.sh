@@ -20,9 +20,9 @@ start() {
     serve "$program" 'workers 256' "record $path" "${lines[@]}"
 }
 
-# items FILE: the item lines of a record, in which the length of its media stands after a part.
+# items FILE: the item lines of a record, in which the number of its bytes stands after a part.
 items() {
-    sed -n -e 's/^P \(part .*\) 0$/\1/p;t' -e 's/^P //p' "$1"
+    sed -n -e 's/^P \(part .*\) [0-9]*$/\1/p;t' -e 's/^P //p' "$1"
 }
 
 # wait_for FILE COUNT: waits until a record has so many items.
@@ -105,6 +105,18 @@ files_that_fail() {
     told kept 0 && is_right "$room/bad.kept"
 }
 
+# How many bytes an item has stands in the record.
+tells_lengths() {
+    local record=$room/lengths.cam items
+    start "$room/lengths" cam || return 1
+    publish $'cam init hi 5\nhello' 'ok 1' && publish "cam $part"$' 3\nabc' 'ok 2' && publish "cam $part" 'ok 3' || return 1
+    wait_for "$record" 3 && is_right "$record" || return 1
+    items=$(grep '^P ' "$record")
+    [ "$items" = "P init hi 5
+P $part 3
+P $part 0" ] || { echo "$items"; return 1; }
+}
+
 no_folder() {
     start "$room/none/kept" cam two || return 1
     told cam 1 && told two 1 && publish "cam $part" 'ok 1' && is_served cam
@@ -118,5 +130,6 @@ python3 "$here/record.py" places "$program" "$room/kept.cam" 1 1000 >"$room/said
 add $? "$room/said" places
 head -c 5000 "$room/said" | grep -v ' passed, '
 try files_that_fail
+try tells_lengths
 try no_folder
 told_all

@@ -85,11 +85,19 @@ same_as_replay() {
     follow whole
 }
 
+# held_less_than KB: the server's memory was never this much.
+held_less_than() {
+    local peak
+    peak=$(awk '/^VmHWM:/ { print $2 }' "/proc/$server/status")
+    [ "$peak" -lt "$1" ] || { echo "the server held $peak KB"; return 1; }
+}
+
+# (a player that waits takes some 20 KB with its worker; a larger place on the stacks of workers would show here)
 thousand_held() {
     local number
     start 1100 "$cam" || return 1
     { echo "$cam"; for ((number = 1; number <= 1000; number++)); do say "$number" "$next"; done; echo "pub $part"; } >"$room/say"
-    follow whole && [ "$(grep -c '^sent ' "$room/wanted")" = 1000 ]
+    follow whole && [ "$(grep -c '^sent ' "$room/wanted")" = 1000 ] && held_less_than 32000
 }
 
 # five_hundred_at_once WORKERS [FIELD]
@@ -210,7 +218,7 @@ no 1 NoRendition
 ok 2' ] || { echo "$answers"; return 1; }
 }
 
-# The bytes of parts: as many as a part may have, one more, none, some of which are LF, and with another byte where their LF should stand. Of what goes away
+# The bytes of parts and of an initialization section: as many as a part may have, one more, none, some of which are LF, and with another byte where their LF should stand. Of what goes away
 # in the midst of its bytes nothing is published.
 bytes_of_publishers() {
     local answers short='cam part hi 100000 -'
@@ -218,20 +226,21 @@ bytes_of_publishers() {
     connect "$publish_port" || return 1
     {
         printf '%s 1048576\n%1048576d\n%s 1048577\n%1048577d\n' "$short" 0 "$short" 0
-        printf '%s 3\n\n\n\n\n%s 0\n\n%s 2\nabcam end hi\ncam init hi 2\nab\n%s 2\n' "$short" "$short" "$short" "$short"
+        printf '%s 3\n\n\n\n\n%s 0\n\n%s 2\nabcam end hi\ncam init hi 2\nab\ncam init hi\n%s 2\n' "$short" "$short" "$short" "$short"
         sleep 0.1
         printf 'ab\n%s 100\nab' "$short"
     } >&"$peer"
-    answers=$(timeout 10 head -n 7 <&"$peer")
+    answers=$(timeout 10 head -n 8 <&"$peer")
     [ "$answers" = 'ok 1
 no 16 MediaTooLong
 ok 2
 ok 3
 no 13 BadLine
+ok 4
 no 13 BadLine
-ok 4' ] || { echo "$answers"; return 1; }
+ok 5' ] || { echo "$answers"; return 1; }
     hang_up
-    publish "$short" 'ok 5'
+    publish "$short" 'ok 6'
 }
 
 # Many connections while the server may open no more files: it says so once, and serves others afterwards.

@@ -12,8 +12,9 @@ use Rattle.ll_book.specs.declared.release.Release.TheVariants.{Part, Segment, Al
 
 -- a part releases those that await it or an earlier one, the end all of its rendition
 abbrev pub first_release : Compact → Item → Option Release
-first_release k (item.Part rendition duration independent finish) = Some (Part rendition k.next_number (length k.open_parts))
+first_release k (item.Part rendition duration independent finish media) = Some (Part rendition k.next_number (length k.open_parts))
 first_release k (item.Break rendition) = None
+first_release k (item.Init rendition media) = None
 first_release k (item.End rendition) = Some (All rendition)
 first_release k (item.Range rendition id attributes) = None
 first_release k (item.Unrange rendition id) = None
@@ -24,8 +25,9 @@ segment_if false rendition number = None
 
 -- a finishing part also releases those that await its segment or an earlier one
 abbrev pub second_release : Compact → Item → Option Release
-second_release k (item.Part rendition duration independent finish) = segment_if finish rendition k.next_number
+second_release k (item.Part rendition duration independent finish media) = segment_if finish rendition k.next_number
 second_release k (item.Break rendition) = None
+second_release k (item.Init rendition media) = None
 second_release k (item.End rendition) = None
 second_release k (item.Range rendition id attributes) = None
 second_release k (item.Unrange rendition id) = None

@@ -55,7 +55,8 @@ id_line id h = inside_from is_id_byte id refl refl (and_parts _ (list_all is_id_
 abbrev HasLine : Item → Type 0
 HasLine (item.Range rendition id attributes) = is_one_line id ≡ true
 HasLine (item.Unrange rendition id) = Unit
-HasLine (item.Part rendition duration independent finish) = Unit
+HasLine (item.Part rendition duration independent finish media) = Unit
+HasLine (item.Init rendition media) = Unit
 HasLine (item.Break rendition) = Unit
 HasLine (item.End rendition) = Unit
 
@@ -65,7 +66,8 @@ IsOnLine x = is_one_line x.id ≡ true
 has_line : (c : Configuration) (before : List Item) (i : Item) → range.refusal c before i ≡ None → HasLine i
 has_line c before (item.Range r id attributes) h = id_line id (added (end_time before) id attributes (announced c before) h).0
 has_line c before (item.Unrange r id) h = tt
-has_line c before (item.Part r duration independent finish) h = tt
+has_line c before (item.Part r duration independent finish media) h = tt
+has_line c before (item.Init r media) h = tt
 has_line c before (item.Break r) h = tt
 has_line c before (item.End r) h = tt
 
@@ -88,7 +90,8 @@ step_lines t (item.Range r id attributes) line h =
     let x : Listed = record { id = id; attributes = spelling attributes; added = t.end_time } in
     All-append IsOnLine t.listed (x ∷ []) h (All-cons IsOnLine x [] line (All-nil IsOnLine))
 step_lines t (item.Unrange r id) line h = All-filter (λ (x : Listed). not (bytes_eq id x.id)) IsOnLine t.listed h
-step_lines t (item.Part r duration independent finish) line h = h
+step_lines t (item.Part r duration independent finish media) line h = h
+step_lines t (item.Init r media) line h = h
 step_lines t (item.Break r) line h = h
 step_lines t (item.End r) line h = h
 

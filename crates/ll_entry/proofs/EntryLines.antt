@@ -1,9 +1,6 @@
 -- The line of an entry is read as that entry, in the format that is written; and the fields of a line are read again in each format.
 use Rattle.std.proofs.Common.{◌≡◌, ℕ, ◌≤◌, ◌-◌, ◌++◌, List, [], true, false, Option, Some, None, Ok, refl, ap, sym, ◌∙◌, codes, decimal, length, take, length-append, bytes_eq, arith, if◌then◌else◌}
 use Rattle.std.proofs.lemmas.Bool.{and_from}
-use Rattle.std.proofs.Math.Seq.{take-append_seam}
-use Rattle.std.proofs.lemmas.Bool.Decides.{Decides-eqb}
-use Rattle.std.proofs.lemmas.Slice.Eq.{ends_is}
 use Rattle.std.proofs.lemmas.List.{append-nil}
 use Rattle.ll_attr.specs.declared.attributes.Attribute.{Attribute}
 use Rattle.ll_directive.specs.Targets.{WantValue}
@@ -11,24 +8,31 @@ use Rattle.ll_directive.specs.declared.want.Awaited.{Awaited}
 use Rattle.ll_directive.specs.declared.want.Awaited.TheVariants.{Nothing, Segment, Part}
 use Rattle.ll_format.specs.Format.{◌>>=◌, Format, up_to}
 use Rattle.ll_format.specs.Words.{is_one_line}
-use Rattle.ll_format.proofs.FormatLaws.{FormatLaws, up_to-laws, to_end-laws, key_again, inside_both}
+use Rattle.ll_format.proofs.FormatLaws.{FormatLaws, WordLaws, up_to-laws, to_end-laws, key_again, inside_both}
+use Rattle.ll_item.proofs.LastWord.{cut-is, words-more}
+use Rattle.ll_item.specs.Items.{media_of}
+use Rattle.ll_item.specs.Media.{media_limit}
 use Rattle.ll_item.specs.Names.{is_name}
 use Rattle.ll_item.specs.Settings.{Configuration, limit_broken}
 use Rattle.ll_item.proofs.WithinLimits.{within}
 use Rattle.ll_item.specs.declared.item.Item.{Item}
 use Rattle.ll_item.specs.declared.item.Item.TheVariants as item
-use Rattle.ll_entry.specs.ItemLines.{IsWritable, item_line, part_line, break_line, end_line, range_line, unrange_line, flags_text, name_of}
+use Rattle.ll_entry.specs.ItemLines.{IsWritable, item_line, part_line, init_line, break_line, end_line, range_line, unrange_line, flags_text, name_of}
 use Rattle.ll_verdict.specs.declared.reply.Outcome.{Outcome}
-use Rattle.ll_entry.specs.Entries.{reply_fields, place_fields, ask_fields, collect_fields, want_by, ask_of, collect_of, entry_by, before, item_text, publish_by, published, with_key, entry_in}
+use Rattle.ll_entry.specs.Entries.{reply_fields, place_fields, ask_fields, collect_fields, want_by, ask_of, collect_of, counted, entry_by, item_text, measured, media, publish_by, published, with_key, entry_in}
 use Rattle.ll_entry.specs.Laws.{EntryLaw}
-use Rattle.ll_entry.specs.Lines.{msn_of, part_of, ask_values, entry_line, published_line, AwaitedWithin, IsSpelled}
+use Rattle.ll_entry.specs.Lines.{msn_of, part_of, ask_values, counted_line, entry_line, published_line, AwaitedWithin, IsSpelled}
 use Rattle.ll_entry.specs.Replies.{most, count, or_dash, WithinDash, OutcomeWithin, awaited_of}
 use Rattle.ll_entry.specs.Frame.{last_line}
 use Rattle.ll_entry.specs.declared.entry.Recorded.{Recorded}
 use Rattle.ll_entry.specs.declared.entry.Recorded.TheVariants.{Publish, Ask, Clock, Collect, Close}
 use Rattle.ll_entry.specs.declared.version.Version.{Version}
 use Rattle.ll_entry.specs.declared.version.Version.TheVariants.{Two}
+use Rattle.ll_attr.specs.Words.{words}
+use Rattle.ll_entry.proofs.Cuts.{uncut}
 use Rattle.ll_entry.proofs.ItemBack.{item_back}
+use Rattle.ll_entry.proofs.Numbers.{number-word}
+use Rattle.ll_format.proofs.WordLaws.{number-laws}
 use Rattle.ll_entry.proofs.ReplyLaws.{count-laws, count-lacks, count-within, name-laws, name-lacks, or_dash-laws, or_dash-lacks, spaced-laws, update-laws, update-lacks, update-within, outcome-laws, or_held-laws}
 
 -- the line is read as the entry, is one line, and isn't the last one of a chunk
@@ -132,58 +136,78 @@ close_again c ask small = (
 
 -- ---- items
 
--- what stands before a key that a text ends with
-before_again : (key text : List ℕ) → before key (text ++ key) ≡ Some text
-before_again key text =
-    let n : length (text ++ key) - length key ≡ length text = omega (arith, length-append text key) in
-    ap (λ b. let o : Option (List ℕ) = if b then Some (take (length (text ++ key) - length key) (text ++ key)) else None in o)
-    ((ends_is Decides-eqb (text ++ key) key _ refl).1 text refl)
-    ∙ ap (λ n. Some (take n (text ++ key))) n
-    ∙ ap Some (take-append_seam text key)
+media-laws : WordLaws media
+media-laws = number-laws media_limit (omega arith)
+
+-- how many bytes an item has stands after the last space
+pub counted-again : (line : List ℕ) (n : ℕ) → n ≤ media_limit → counted (counted_line line n) ≡ Some (line, n)
+counted-again line n few =
+    let word = number-word n (omega (arith, few)) in
+    let cut = words-more line (decimal n) ∙ ap (λ ws. words line ++ ws) (uncut 32 (decimal n) word.spaceless) in
+    ap (λ o. o >>= measured) (cut-is (counted_line line n) line (decimal n) cut) ∙ ap (λ o. o >>= λ n. Some (line, n)) (media-laws.again n few)
 
 -- the line of an item, as an entry has it, is that of the item
-part_again : (name flags : List ℕ) (duration : ℕ) → item_text Two (part_line name duration flags ++ codes " 0") ≡ Some (part_line name duration flags)
+part_again : (name flags : List ℕ) (duration n : ℕ) → n ≤ media_limit
+    → item_text Two (counted_line (part_line name duration flags) n) ≡ Some (part_line name duration flags, n)
 unfolding part_line
-part_again name flags duration = before_again (codes " 0") (part_line name duration flags)
+part_again name flags duration n few = counted-again (part_line name duration flags) n few
 
-break_again : (name : List ℕ) → item_text Two (break_line name) ≡ Some (break_line name)
+init_again : (name : List ℕ) (n : ℕ) → n ≤ media_limit → item_text Two (counted_line (init_line name) n) ≡ Some (init_line name, n)
+unfolding init_line
+init_again name n few = counted-again (init_line name) n few
+
+break_again : (name : List ℕ) → item_text Two (break_line name) ≡ Some (break_line name, 0)
 unfolding break_line
 break_again name = refl
 
-end_again : (name : List ℕ) → item_text Two (end_line name) ≡ Some (end_line name)
+end_again : (name : List ℕ) → item_text Two (end_line name) ≡ Some (end_line name, 0)
 unfolding end_line
 end_again name = refl
 
 range_again : (c : Configuration) (r : ℕ) (id : List ℕ) (attributes : List Attribute)
-    → item_text Two (item_line c (item.Range r id attributes)) ≡ Some (item_line c (item.Range r id attributes))
+    → item_text Two (item_line c (item.Range r id attributes)) ≡ Some (item_line c (item.Range r id attributes), 0)
 unfolding range_line
 range_again c r id attributes = refl
 
-unrange_again : (name id : List ℕ) → item_text Two (unrange_line name id) ≡ Some (unrange_line name id)
+unrange_again : (name id : List ℕ) → item_text Two (unrange_line name id) ≡ Some (unrange_line name id, 0)
 unfolding unrange_line
 unrange_again name id = refl
 
-text_again : (c : Configuration) (i : Item) → item_text Two (published_line c i) ≡ Some (item_line c i)
-text_again c (item.Part r duration independent finish) = part_again (name_of c r) (flags_text independent finish) duration
-text_again c (item.Break r) = break_again (name_of c r)
-text_again c (item.End r) = end_again (name_of c r)
-text_again c (item.Range r id attributes) = range_again c r id attributes
-text_again c (item.Unrange r id) = unrange_again (name_of c r) id
+text_again : (c : Configuration) (i : Item) → media_of i ≤ media_limit → item_text Two (published_line c i) ≡ Some (item_line c i, media_of i)
+text_again c (item.Part r duration independent finish media) few = part_again (name_of c r) (flags_text independent finish) duration media few
+text_again c (item.Init r media) few = init_again (name_of c r) media few
+text_again c (item.Break r) few = break_again (name_of c r)
+text_again c (item.End r) few = end_again (name_of c r)
+text_again c (item.Range r id attributes) few = range_again c r id attributes
+text_again c (item.Unrange r id) few = unrange_again (name_of c r) id
 
-line_again : (c : Configuration) (i : Item) → is_one_line (item_line c i) ≡ true → is_one_line (published_line c i) ≡ true
-line_again c (item.Part r duration independent finish) h = inside_both (item_line c (item.Part r duration independent finish)) (codes " 0") h refl
-line_again c (item.Break r) h = h
-line_again c (item.End r) h = h
-line_again c (item.Range r id attributes) h = h
-line_again c (item.Unrange r id) h = h
+counted_one : (line : List ℕ) (n : ℕ) → n ≤ media_limit → is_one_line line ≡ true → is_one_line (counted_line line n) ≡ true
+counted_one line n few h = inside_both line (codes " " ++ decimal n) h (number-word n (omega (arith, few))).one_line
+
+line_again : (c : Configuration) (i : Item) → media_of i ≤ media_limit → is_one_line (item_line c i) ≡ true → is_one_line (published_line c i) ≡ true
+line_again c (item.Part r duration independent finish media) few h = counted_one (item_line c (item.Part r duration independent finish media)) media few h
+line_again c (item.Init r media) few h = counted_one (item_line c (item.Init r media)) media few h
+line_again c (item.Break r) few h = h
+line_again c (item.End r) few h = h
+line_again c (item.Range r id attributes) few h = h
+line_again c (item.Unrange r id) few h = h
+
+few-bytes : (c : Configuration) (i : Item) → IsWritable c i → media_of i ≤ media_limit
+few-bytes c (item.Part r duration independent finish media) h = h.2
+few-bytes c (item.Init r media) h = h.1
+few-bytes c (item.Break r) h = omega arith
+few-bytes c (item.End r) h = omega arith
+few-bytes c (item.Range r id attributes) h = omega arith
+few-bytes c (item.Unrange r id) h = omega arith
 
 item_again : (c : Configuration) (i : Item) → limit_broken c ≡ None → IsWritable c i → IsReadAgain c (Publish i)
 item_again c i none h =
-    let t = item_back c i none h in (
+    let t = item_back c i none h in
+    let few = few-bytes c i h in (
       ap (λ t. with_key t (λ text. publish_by c (item_text Two text)) (entry_by None)) (key_again (codes "P ") (published_line c i))
-          ∙ ap (publish_by c) (text_again c i)
+          ∙ ap (publish_by c) (text_again c i few)
           ∙ ap published t.0,
-      inside_both (codes "P ") (published_line c i) refl (line_again c i t.1),
+      inside_both (codes "P ") (published_line c i) refl (line_again c i few t.1),
       refl,
     )
 

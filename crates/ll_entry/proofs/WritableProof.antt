@@ -6,7 +6,7 @@ use Rattle.ll_item.specs.Settings.{Configuration, IsWithin}
 use Rattle.ll_item.specs.declared.item.Item.{Item}
 use Rattle.ll_item.specs.declared.item.Item.TheVariants as item
 use Rattle.ll_range.specs.Announced.{announced}
-use Rattle.ll_entry.specs.ItemLines.{HasAttributes, IsWritable}
+use Rattle.ll_entry.specs.ItemLines.{IsTyped, IsWritable}
 use Rattle.ll_verdict.specs.Events.{Event, items}
 use Rattle.ll_window.specs.Refusal.{part_refusal, refusal_before_end, refusal_by}
 use Rattle.ll_item.specs.Told.{end_time}
@@ -27,18 +27,19 @@ short_part c number lasts ends micros h = grind (arith, nat_tests)
 small : (c : Configuration) (micros : ℕ) → IsWithin c → micros ≤ c.part_target → micros < 2 ^ 64
 small c micros w h = omega (arith, w.part_target_high, w.target_high)
 
-by_kind : (c : Configuration) (events : List Event) (i : Item) → IsWithin c → IsTaken c (items c events) i → HasAttributes i → IsWritable c i
-by_kind c events (item.Part r micros independent finish) w t h =
+by_kind : (c : Configuration) (events : List Event) (i : Item) → IsWithin c → IsTaken c (items c events) i → IsTyped i → IsWritable c i
+by_kind c events (item.Part r micros independent finish media) w t h =
     let before = own r (items c events) in
-    let not_long = before_end (ended before) (refusal_before_end c before (item.Part r micros independent finish)) t.window in
-    (t.named, small c micros w (short_part c _ _ _ micros not_long))
+    let not_long = before_end (ended before) (refusal_before_end c before (item.Part r micros independent finish media)) t.window in
+    (t.named, small c micros w (short_part c _ _ _ micros not_long), h.1)
+by_kind c events (item.Init r media) w t h = (t.named, h.1)
 by_kind c events (item.Break r) w t h = t.named
 by_kind c events (item.End r) w t h = t.named
 by_kind c events (item.Range r id attributes) w t h =
     let before = own r (items c events) in
     let a = added (end_time before) id attributes (announced c before) t.range in
-    (t.named, with-id-read id attributes a.0 a.1 h)
+    (t.named, with-id-read id attributes a.0 a.1 h.0)
 by_kind c events (item.Unrange r id) w t h = (t.named, removed c events r id t.range)
 
 pub item-writable : ItemWritableLaw
-item-writable c events i limits h attributes = by_kind c events i (within c limits) (is-taken c events i h) attributes
+item-writable c events i limits h kept = by_kind c events i (within c limits) (is-taken c events i h) kept

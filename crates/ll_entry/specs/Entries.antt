@@ -1,11 +1,13 @@
 -- The entries of a record, in each format: each tells one event of a channel, and what the reply came to where there was one.
-use Rattle.std.specs.Prelude.{ℕ, ◌-◌, List, ◌&&◌, Bool, Option, Some, None, Result, Ok, Err, codes, if◌then◌else◌, is_some, length, nat_eq, take}
-use Rattle.std.specs.List.{ends_with}
+use Rattle.std.specs.Prelude.{ℕ, List, ◌&&◌, ◌||◌, Bool, Option, Some, None, Result, Ok, Err, codes, if◌then◌else◌, is_some}
 use Rattle.ll_attr.specs.Words.{after}
 use Rattle.ll_directive.specs.Targets.{WantValue}
 use Rattle.ll_directive.specs.declared.want.Awaited.{Awaited}
-use Rattle.ll_format.specs.Format.{Format, ◌>>=◌, to_end, up_to}
+use Rattle.ll_format.specs.Format.{Format, Word, ◌>>=◌, to_end, up_to}
+use Rattle.ll_format.specs.Words.{number}
+use Rattle.ll_item.specs.Announced.{cut_last}
 use Rattle.ll_item.specs.Items.{item_in}
+use Rattle.ll_item.specs.Media.{media_limit}
 use Rattle.ll_item.specs.Names.{is_name}
 use Rattle.ll_item.specs.Settings.{Configuration}
 use Rattle.ll_item.specs.declared.item.Item.{Item}
@@ -64,22 +66,33 @@ abbrev pub published : Result Item ItemFault → Result Recorded EntryFault
 published (Ok item) = Ok (Publish item)
 published (Err fault) = Err (fault_of fault)
 
--- whether the line of an item announces a part
+-- whether the line of an item is a part's, or an initialization section's
 abbrev pub is_part_line : List ℕ → Bool
 is_part_line text = is_some (after (codes "part ") text)
 
--- what stands before a key, where a text ends with it
-abbrev pub before : List ℕ → List ℕ → Option (List ℕ)
-before key text = if ends_with nat_eq text key then Some (take (length text - length key) text) else None
+abbrev pub is_init_line : List ℕ → Bool
+is_init_line text = is_some (after (codes "init ") text)
 
--- the line of an item in an entry: in format 2 the length of its media stands after that of a part, and there is no media
-abbrev pub item_text : Version → List ℕ → Option (List ℕ)
-item_text One text = Some text
-item_text Two text = if is_part_line text then before (codes " 0") text else Some text
+-- so many bytes as an item may have, without leading zeros
+abbrev pub media : Word ℕ
+media = number media_limit
 
-abbrev pub publish_by : Configuration → Option (List ℕ) → Result Recorded EntryFault
+abbrev pub measured : List ℕ × List ℕ → Option (List ℕ × ℕ)
+measured (text, word) = media.read word >>= λ n. Some (text, n)
+
+-- an item's line, and how many bytes it has, where this number stands after it
+abbrev pub counted : List ℕ → Option (List ℕ × ℕ)
+counted text = cut_last text >>= measured
+
+-- The line of an item in an entry, and how many bytes it has. In format 2 this number stands after the line of a part and of an initialization
+-- section; format 1 knows no initialization sections and tells no bytes of parts.
+abbrev pub item_text : Version → List ℕ → Option (List ℕ × ℕ)
+item_text One text = if is_init_line text then None else Some (text, 0)
+item_text Two text = if is_part_line text || is_init_line text then counted text else Some (text, 0)
+
+abbrev pub publish_by : Configuration → Option (List ℕ × ℕ) → Result Recorded EntryFault
 publish_by c None = Err BadLine
-publish_by c (Some text) = published (item_in c text)
+publish_by c (Some (text, n)) = published (item_in c text n)
 
 abbrev pub with_key : {A : Type 0} → Option (List ℕ) → (List ℕ → A) → A → A
 with_key (Some text) read other = read text

@@ -1,13 +1,15 @@
 -- How items and settings are spelled on a line.
-use Rattle.std.specs.Prelude.{◌≡◌, ◌≢◌, ℕ, ◌^◌, ◌<◌, List, [], ◌∷◌, ◌++◌, Bool, true, false, Ok, length, slice_index_or, codes, decimal}
+use Rattle.std.specs.Prelude.{◌≡◌, ◌≢◌, ℕ, ◌^◌, ◌<◌, ◌≤◌, List, [], ◌∷◌, ◌++◌, Bool, true, false, Ok, length, slice_index_or, codes, decimal}
 use Rattle.std.specs.List.{join_with_byte}
 use Rattle.ll_attr.specs.Attributes.{attributes_in, spelling}
 use Rattle.ll_attr.specs.declared.attributes.Attribute.{Attribute}
 use Rattle.ll_attr.specs.declared.attributes.AttrValue.TheVariants.{Quoted}
 use Rattle.ll_format.specs.Words.{is_one_line}
+use Rattle.ll_item.specs.Items.{media_of}
+use Rattle.ll_item.specs.Media.{media_limit}
 use Rattle.ll_item.specs.Settings.{Configuration}
 use Rattle.ll_item.specs.declared.item.Item.{Item}
-use Rattle.ll_item.specs.declared.item.Item.TheVariants.{Part, Break, End, Range, Unrange}
+use Rattle.ll_item.specs.declared.item.Item.TheVariants.{Part, Init, Break, End, Range, Unrange}
 
 -- the name of the rendition of this index, empty where there is none
 abbrev pub name_of : Configuration → ℕ → List ℕ
@@ -28,6 +30,10 @@ with_id id attributes = record { name = codes "ID"; value = Quoted id } ∷ attr
 unfoldable pub part_line : List ℕ → ℕ → List ℕ → List ℕ
 part_line name duration flags = codes "part " ++ (name ++ (codes " " ++ (decimal duration ++ (codes " " ++ flags))))
 
+-- `init RENDITION`
+unfoldable pub init_line : List ℕ → List ℕ
+init_line name = codes "init " ++ name
+
 -- `break RENDITION`
 unfoldable pub break_line : List ℕ → List ℕ
 break_line name = codes "break " ++ name
@@ -44,9 +50,10 @@ range_line name attributes = codes "range " ++ (name ++ (codes " " ++ spelling a
 unfoldable pub unrange_line : List ℕ → List ℕ → List ℕ
 unrange_line name id = codes "unrange " ++ (name ++ (codes " " ++ id))
 
--- the line that spells an item
+-- the line that spells an item, without how many bytes it has
 abbrev pub item_line : Configuration → Item → List ℕ
-item_line c (Part rendition duration independent finish) = part_line (name_of c rendition) duration (flags_text independent finish)
+item_line c (Part rendition duration independent finish media) = part_line (name_of c rendition) duration (flags_text independent finish)
+item_line c (Init rendition media) = init_line (name_of c rendition)
 item_line c (Break rendition) = break_line (name_of c rendition)
 item_line c (End rendition) = end_line (name_of c rendition)
 item_line c (Range rendition id attributes) = range_line (name_of c rendition) (with_id id attributes)
@@ -56,14 +63,20 @@ item_line c (Unrange rendition id) = unrange_line (name_of c rendition) id
 abbrev pub HasAttributes : Item → Type 0
 HasAttributes (Range rendition id attributes) = attributes ≢ [] → attributes_in (spelling attributes) ≡ Ok attributes
 HasAttributes (Unrange rendition id) = Unit
-HasAttributes (Part rendition duration independent finish) = Unit
+HasAttributes (Part rendition duration independent finish media) = Unit
+HasAttributes (Init rendition media) = Unit
 HasAttributes (Break rendition) = Unit
 HasAttributes (End rendition) = Unit
 
--- items that are read again from their lines: the rendition is one of the channel's, the duration is below 2^64, the attributes are
--- read from their spelling, and an id stands on one line
+-- what the types of its fields keep of an item: also no more bytes than an item may have
+abbrev pub IsTyped : Item → Type 0
+IsTyped item = HasAttributes item × (media_of item ≤ media_limit)
+
+-- items that are read again from their lines: the rendition is one of the channel's, the duration is below 2^64, there are no more bytes than
+-- an item may have, the attributes are read from their spelling, and an id stands on one line
 abbrev pub IsWritable : Configuration → Item → Type 0
-IsWritable c (Part rendition duration independent finish) = (rendition < length c.renditions) × (duration < 2 ^ 64)
+IsWritable c (Part rendition duration independent finish media) = (rendition < length c.renditions) × (duration < 2 ^ 64) × (media ≤ media_limit)
+IsWritable c (Init rendition media) = (rendition < length c.renditions) × (media ≤ media_limit)
 IsWritable c (Break rendition) = rendition < length c.renditions
 IsWritable c (End rendition) = rendition < length c.renditions
 IsWritable c (Range rendition id attributes) =

@@ -30,9 +30,14 @@ part_of (Part msn part) = Some part
 abbrev pub ask_values : ℕ → WantValue → Option Outcome → ℕ × (List ℕ × (Option ℕ × (Option ℕ × (Option SkipKind × Option Outcome))))
 ask_values ask want reply = (ask, (want.rendition, (msn_of want.awaited, (part_of want.awaited, (want.skip, reply)))))
 
--- the line of an item: the length of its media stands after that of a part, and there is none
+-- the line of an item that has so many bytes
+abbrev pub counted_line : List ℕ → ℕ → List ℕ
+counted_line line n = line ++ (codes " " ++ decimal n)
+
+-- the line of an item: how many bytes it has stands after that of a part and of an initialization section
 abbrev pub published_line : Configuration → Item → List ℕ
-published_line c (item.Part rendition duration independent finish) = item_line c (item.Part rendition duration independent finish) ++ codes " 0"
+published_line c (item.Part rendition duration independent finish media) = counted_line (item_line c (item.Part rendition duration independent finish media)) media
+published_line c (item.Init rendition media) = counted_line (item_line c (item.Init rendition media)) media
 published_line c (item.Break rendition) = item_line c (item.Break rendition)
 published_line c (item.Range rendition id attributes) = item_line c (item.Range rendition id attributes)
 published_line c (item.Unrange rendition id) = item_line c (item.Unrange rendition id)

@@ -2,13 +2,13 @@
 ghost use Rattle.std.specs.Prelude.{◌≡◌, ◌≢◌, ◌++◌, ℕ, List, [], IfOk, Ok, OnOk, codes, string_bytes};
 ghost use Rattle.ll_attr.specs.Attributes.{attributes_in, spelling};
 ghost use Rattle.ll_entry.specs.ItemLines as spec;
-ghost use Rattle.ll_entry.specs.ItemLines.{HasAttributes, item_line, part_line, break_line, end_line, range_line, unrange_line, with_id};
+ghost use Rattle.ll_entry.specs.ItemLines.{HasAttributes, item_line, part_line, init_line, break_line, end_line, range_line, unrange_line, with_id};
 
 use ll_attr::AttrList;
 use ll_item::{Item, Settings};
 use std::alloc::{AllocError, Global};
 
-/// The line that spells an item of the channel of these settings. It fails only where no memory is found.
+/// The line that spells an item of the channel of these settings, without how many bytes it has. It fails only where no memory is found.
 pub(crate) fn item_text(
     alloc: Global,
     settings: &Settings,
@@ -25,6 +25,7 @@ pub(crate) fn item_text(
             finish,
             ..
         } => part_text(alloc, name, *duration, flags_text(*independent, *finish)),
+        Item::Init { .. } => init_text(alloc, name),
         Item::Break { .. } => break_text(alloc, name),
         Item::End { .. } => end_text(alloc, name),
         Item::Range { id, attributes, .. } => range_text(alloc, name, id.as_str(), attributes),
@@ -60,6 +61,14 @@ fn part_text(alloc: Global, name: &str, duration: u64, flags: &str) -> Result<St
     ensures { IfOk result (λ text. string_bytes text ≡ part_line name.now duration flags.now) }
 {
     format!(in alloc; "part {name} {duration} {flags}")
+}
+
+/// `init RENDITION`
+#[tactic(auto, unfolding(crate::specs::ItemLines::init_line))]
+fn init_text(alloc: Global, name: &str) -> Result<String, AllocError>
+    ensures { IfOk result (λ text. string_bytes text ≡ init_line name.now) }
+{
+    format!(in alloc; "init {name}")
 }
 
 /// `break RENDITION`

@@ -3,15 +3,16 @@ ghost use Rattle.std.specs.Prelude.{◌≡◌, ◌≢◌, ◌<◌, IfErr, IfOk, 
 ghost use Rattle.std.specs.Option.{option_map};
 ghost use Rattle.ll_item.specs.Names.{is_name};
 ghost use Rattle.ll_entry.specs.Entries as spec;
-ghost use Rattle.ll_entry.specs.Entries.{entry_in};
+ghost use Rattle.ll_entry.specs.Entries.{entry_in, publish_by, published};
+ghost use Rattle.ll_item.specs.Items.{item_in};
 
 use crate::entry::{EntryFault, Recorded};
 use crate::version::Version;
 use crate::words::{awaited, count, or_dash, or_held, outcome, update};
 use ll_attr::{Text, after};
 use ll_directive::Want;
-use ll_format::until;
-use ll_item::{Item, Settings, SkipKind, is_name};
+use ll_format::{number, until};
+use ll_item::{Item, MEDIA_LIMIT, Media, Settings, SkipKind, cut_last, is_name};
 use ll_verdict::Outcome;
 use std::alloc::Global;
 
@@ -29,11 +30,7 @@ impl Recorded {
         ensures memory { IsErrOf result EntryFault.Memory → IsOk (entry_in version settings.now line.now) }
     {
         if let Some(text) = after(line, "P ") {
-            let Some(text) = item_text(version, text) else {
-                return Err(EntryFault::BadLine);
-            };
-            let item = Item::read(alloc, settings, text)?;
-            return Ok(Recorded::Publish(item));
+            return read_publish(alloc, version, settings, text);
         }
         if let Some(text) = after(line, "A ") {
             return read_ask(alloc, version, settings, text);
@@ -42,19 +39,58 @@ impl Recorded {
     }
 }
 
-/// The line of an item: in format 2 the length of its media stands after that of a part, and there is no media.
-fn item_text(version: Version, text: &str) -> Option<&str>
-    ensures { MatchOption result (spec.item_text version text.now ≡ None) (λ item. spec.item_text version text.now ≡ Some item.now) }
+/// The item that a text tells of, as an entry has it.
+fn read_publish(
+    alloc: Global,
+    version: Version,
+    settings: &Settings,
+    text: &str,
+) -> Result<Recorded, EntryFault>
+    ensures value { IfOk result (λ entry. publish_by settings.now (spec.item_text version text.now) ≡ Ok entry) }
+    ensures refused { IfErr result (λ fault. fault ≢ EntryFault.Memory → publish_by settings.now (spec.item_text version text.now) ≡ Err fault) }
+    ensures memory { IsErrOf result EntryFault.Memory → IsOk (publish_by settings.now (spec.item_text version text.now)) }
 {
-    match version {
-        Version::One => Some(text),
-        Version::Two => {
-            if after(text, "part ").is_none() {
-                return Some(text);
-            }
-            text.strip_suffix(" 0")
-        }
+    match item_text(version, text) {
+        Some((text, media)) => read_item(alloc, settings, text, media),
+        None => Err(EntryFault::BadLine),
     }
+}
+
+/// The item of this line that has so many bytes.
+fn read_item(
+    alloc: Global,
+    settings: &Settings,
+    line: &str,
+    media: Media,
+) -> Result<Recorded, EntryFault>
+    ensures value { IfOk result (λ entry. published (item_in settings.now line.now media) ≡ Ok entry) }
+    ensures refused { IfErr result (λ fault. fault ≢ EntryFault.Memory → published (item_in settings.now line.now media) ≡ Err fault) }
+    ensures memory { IsErrOf result EntryFault.Memory → IsOk (published (item_in settings.now line.now media)) }
+{
+    let item = Item::read(alloc, settings, line, media)?;
+    Ok(Recorded::Publish(item))
+}
+
+/// The line of an item, and how many bytes it has. In format 2 this number stands after the line of a part and of an initialization section;
+/// format 1 knows no initialization sections and tells no bytes of parts.
+fn item_text(version: Version, text: &str) -> Option<(&str, Media)>
+    ensures { MatchOption result (spec.item_text version text.now ≡ None) (λ item. spec.item_text version text.now ≡ Some (item.0.now, item.1)) }
+{
+    let is_init = after(text, "init ").is_some();
+    match version {
+        Version::One if is_init => None,
+        Version::Two if is_init || after(text, "part ").is_some() => counted(text),
+        _ => Some((text, Media::none())),
+    }
+}
+
+/// The line of an item, and how many bytes it has, where this number stands after the line.
+fn counted(text: &str) -> Option<(&str, Media)>
+    ensures { MatchOption result (spec.counted text.now ≡ None) (λ item. spec.counted text.now ≡ Some (item.0.now, item.1)) }
+{
+    let (text, length) = cut_last(text)?;
+    let length = number(length, MEDIA_LIMIT)?;
+    Some((text, Media::of_length(length)?))
 }
 
 /// A reading, a reply that was handed out, or a request that was given up.

@@ -4,11 +4,11 @@ ghost use Rattle.std.specs.Prelude.{◌≡◌, ◌≤◌, ◌+◌, ◌++◌, IfO
 ghost use Rattle.arrayvec.specs.ArrayString.{array_string_len};
 ghost use Rattle.ll_item.specs.Settings.{Configuration};
 ghost use Rattle.ll_entry.specs.Lines as spec;
-ghost use Rattle.ll_entry.specs.Lines.{IsSpelled, entry_line};
+ghost use Rattle.ll_entry.specs.Lines.{IsSpelled, counted_line, entry_line};
 ghost use Rattle.ll_entry.specs.Replies.{count, kind, or_dash_text, or_held_text, outcome_text};
 ghost use Rattle.ll_entry.specs.declared.version.Version.TheVariants.{Two};
 ghost use Rattle.ll_entry.specs.declared.entry.Recorded.TheVariants as recorded;
-ghost use Rattle.ll_entry.specs.ItemLines.{HasAttributes};
+ghost use Rattle.ll_entry.specs.ItemLines.{IsTyped};
 
 use crate::item::item_text;
 use arrayvec::ArrayString;
@@ -18,19 +18,29 @@ use ll_item::{Item, Settings, SkipKind};
 use ll_verdict::Outcome;
 use std::alloc::{AllocError, Global};
 
-/// The line of an item that was accepted; that of a part ends with the length of its media, and there is none. It fails only where no memory is found.
+/// The line of an item that was accepted; that of a part or of an initialization section ends with how many bytes it has. It fails only where no
+/// memory is found.
 pub fn publish_line(alloc: Global, settings: &Settings, item: &Item) -> Result<String, AllocError>
     ensures text { IfOk result (λ t. string_bytes t ≡ entry_line settings.now (recorded.Publish item.now)) }
-    ensures spelled { OnOk result (HasAttributes item.now) }
+    ensures spelled { OnOk result (IsTyped item.now) }
 {
     let text = item_text(alloc, settings, item)?;
     let line = text.as_str();
     match item {
-        Item::Part { .. } => format!(in alloc; "P {line} 0"),
+        Item::Part { media, .. } | Item::Init { media, .. } => {
+            counted_text(alloc, line, media.len())
+        }
         Item::Break { .. } | Item::End { .. } | Item::Range { .. } | Item::Unrange { .. } => {
             format!(in alloc; "P {line}")
         }
     }
+}
+
+/// `P LINE LENGTH`
+fn counted_text(alloc: Global, line: &str, length: u64) -> Result<String, AllocError>
+    ensures { IfOk result (λ t. string_bytes t ≡ codes "P " ++ counted_line line.now length) }
+{
+    format!(in alloc; "P {line} {length}")
 }
 
 /// The line of a request of this number, and of what it got at once; none where it was held. It fails only where no memory is found.

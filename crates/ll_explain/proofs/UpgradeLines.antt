@@ -1,5 +1,5 @@
 -- The line of an entry in format 2: it is a line of text, and is read as the entry in full.
-use Rattle.std.proofs.Common.{◌≡◌, ℕ, ◌≤◌, ◌<◌, ◌^◌, ◌-◌, ◌==◌, ◌&&◌, List, [], ◌∷◌, ◌++◌, Bool, true, false, not, cond, Option, Some, None, Result, Ok, Err, is_some, refl, ap, ◌∙◌, sym, subst, append-nil, length, length-append, take, nat_le, option_map, bytes_eq, codes, decimal, arith}
+use Rattle.std.proofs.Common.{◌≡◌, ℕ, ◌≤◌, ◌<◌, ◌^◌, ◌==◌, ◌&&◌, ◌||◌, List, [], ◌∷◌, ◌++◌, Bool, true, false, not, cond, Option, Some, None, Result, Ok, Err, is_some, refl, ap, ◌∙◌, sym, subst, append-nil, length, length-append, take, nat_le, option_map, bytes_eq, codes, decimal, arith, if◌then◌else◌}
 use Rattle.std.proofs.Math.Seq.{take-append_seam}
 use Rattle.std.proofs.lemmas.Bool.{and_from, and_parts}
 use Rattle.std.proofs.lemmas.Bool.Decides.{Decides-eqb, nat_tests}
@@ -7,6 +7,7 @@ use Rattle.std.proofs.lemmas.Fmt.{IsAscii-decimal}
 use Rattle.std.proofs.lemmas.List.Folds.{list_all-append}
 use Rattle.std.proofs.lemmas.Slice.Eq.{bytes_eq-Decides, ends_is}
 use Rattle.std.proofs.lemmas.Str.{IsUtf8-append, IsUtf8-from_ascii, IsUtf8-from_is_utf8, is_utf8-from_IsUtf8}
+use Rattle.std.specs.Fmt.{digits}
 use Rattle.std.specs.List.{list_all}
 use Rattle.std.specs.Option.{option_map_or}
 use Rattle.std.specs.Str.{is_utf8}
@@ -18,13 +19,13 @@ use Rattle.ll_directive.specs.Targets.{WantValue}
 use Rattle.ll_directive.specs.declared.want.Awaited.{Awaited}
 use Rattle.ll_directive.specs.declared.want.Awaited.TheVariants.{Nothing, Part, Segment}
 use Rattle.ll_entry.proofs.ChunkProof.{is_low, plain}
-use Rattle.ll_entry.proofs.EntryLines.{read_again}
+use Rattle.ll_entry.proofs.EntryLines.{counted-again, read_again}
 use Rattle.ll_entry.proofs.ReplyLaws.{count-lacks, count-laws, name-lacks, name-laws, or_dash-lacks, or_dash-laws, or_held-laws, outcome-laws, spaced-laws, update-lacks, update-laws, update-within}
 use Rattle.ll_entry.proofs.ToldLemmas.{told-right, whole-entry}
 use Rattle.ll_entry.specs.Chain.{Chain, entry_at}
-use Rattle.ll_entry.specs.Entries.{ask_fields, ask_in, ask_of, before, collect_fields, collect_of, entry_by, entry_in, is_part_line, item_text, publish_by, published, short_in, want_by, with_key}
+use Rattle.ll_entry.specs.Entries.{ask_fields, ask_in, ask_of, collect_fields, counted, collect_of, entry_by, entry_in, is_init_line, is_part_line, item_text, publish_by, published, short_in, want_by, with_key}
 use Rattle.ll_entry.specs.Frame.{last_line}
-use Rattle.ll_entry.specs.Lines.{AwaitedWithin, IsSpelled, entry_line, msn_of, part_of}
+use Rattle.ll_entry.specs.Lines.{AwaitedWithin, IsSpelled, counted_line, entry_line, msn_of, part_of}
 use Rattle.ll_entry.specs.Replies.{HeldWithin, OutcomeWithin, WithinDash, asked_for, awaited_of, count, most, or_dash, or_dash_text, or_held_text, outcome_text, told_in, update}
 use Rattle.ll_entry.specs.Told.{as_told, entry_after}
 use Rattle.ll_entry.specs.declared.entry.Recorded.{Recorded}
@@ -149,9 +150,9 @@ published_is : (r : Result Item ItemFault) (entry : Recorded) → published r �
 published_is (Ok item) entry h = (item, cc)
 published_is (Err fault) entry h = cc
 
-published_by : (c : Configuration) (o : Option (List ℕ)) (entry : Recorded) → publish_by c o ≡ Ok entry → (item : Item) × (entry ≡ recorded.Publish item)
+published_by : (c : Configuration) (o : Option (List ℕ × ℕ)) (entry : Recorded) → publish_by c o ≡ Ok entry → (item : Item) × (entry ≡ recorded.Publish item)
 published_by c None entry h = cc
-published_by c (Some text) entry h = published_is (item_in c text) entry h
+published_by c (Some (text, n)) entry h = published_is (item_in c text n) entry h
 
 publish-read : (v : Version) (c : Configuration) (line text : List ℕ) (entry : Recorded) → after (codes "P ") line ≡ Some text
     → publish_by c (item_text v text) ≡ Ok entry → IsReadBy v c line entry
@@ -237,15 +238,6 @@ read-by v c line entry h = line-read v c line entry (after (codes "P ") line) (a
 
 -- ---- items
 
--- what stands before a key that a text ends with
-before_again : (key text : List ℕ) → before key (text ++ key) ≡ Some text
-before_again key text =
-    let n : length (text ++ key) - length key ≡ length text = omega (arith, length-append text key) in
-    ap (λ b. let o : Option (List ℕ) = cond b (Some (take (length (text ++ key) - length key) (text ++ key))) None in o)
-    ((ends_is Decides-eqb (text ++ key) key _ refl).1 text refl)
-    ∙ ap (λ n. Some (take n (text ++ key))) n
-    ∙ ap Some (take-append_seam text key)
-
 -- what stands after the words of an item, where they are those of a part and where they aren't
 abbrev media_if : Bool → List ℕ
 media_if part = cond part (codes " 0") []
@@ -259,25 +251,43 @@ part_by text None e h = cc
 part_by text (Some rest) e h =
     ap (λ t. is_part_line (t ++ codes " 0")) (key_takes (codes "part ") text rest e) ∙ ap is_some (key_again (codes "part ") (rest ++ codes " 0"))
 
-media_again : (text : List ℕ) (part : Bool) → is_part_line text ≡ part → item_text Two (text ++ media_if part) ≡ Some text
-media_again text true e =
-    ap (λ b. cond b (before (codes " 0") (text ++ codes " 0")) (Some (text ++ codes " 0"))) (part_by text (after (codes "part ") text) refl e)
-    ∙ before_again (codes " 0") text
-media_again text false e = ap (item_text Two) (append-nil text) ∙ ap (λ b. cond b (before (codes " 0") text) (Some text)) e
+-- no bytes are told by ` 0`
+no_bytes : (text : List ℕ) → counted_line text 0 ≡ text ++ codes " 0"
+unfolding digits
+no_bytes text = refl
+
+-- how the line of an item is read in format 2, where it is a part's or an initialization section's and where it isn't
+abbrev read_if : Bool → Bool → List ℕ → Option (List ℕ × ℕ)
+read_if part init text = if part || init then counted text else Some (text, 0)
+
+media_again : (text : List ℕ) (part : Bool) → is_part_line text ≡ part → is_init_line text ≡ false → item_text Two (text ++ media_if part) ≡ Some (text, 0)
+media_again text true e other =
+    ap (λ b. read_if b (is_init_line (text ++ codes " 0")) (text ++ codes " 0")) (part_by text (after (codes "part ") text) refl e)
+    ∙ ap counted (sym (no_bytes text))
+    ∙ counted-again text 0 (omega arith)
+media_again text false e other =
+    ap (item_text Two) (append-nil text) ∙ ap (λ b. read_if b (is_init_line text) text) e ∙ ap (λ b. read_if false b text) other
+
+-- in format 1 a line that is read as an item is no initialization section's, and is the item's own
+one_text : (c : Configuration) (text : List ℕ) (entry : Recorded) (b : Bool) → publish_by c (if b then None else Some (text, 0)) ≡ Ok entry
+    → (b ≡ false) × (publish_by c (Some (text, 0)) ≡ Ok entry)
+one_text c text entry true h = cc
+one_text c text entry false h = (refl, h)
 
 -- what follows the key of an item is read as its words
 after_key : (c : Configuration) (text : List ℕ) → entry_in Two c (codes "P " ++ text) ≡ publish_by c (item_text Two text)
 after_key c text = ap (λ t. with_key t (λ text. publish_by c (item_text Two text)) (entry_by None)) (key_again (codes "P ") text)
 
-publish-again : (c : Configuration) (line text : List ℕ) (item : Item) → line ≡ codes "P " ++ text → publish_by c (Some text) ≡ Ok (recorded.Publish item)
+publish-again : (c : Configuration) (line text : List ℕ) (item : Item) → line ≡ codes "P " ++ text → publish_by c (item_text One text) ≡ Ok (recorded.Publish item)
     → entry_in Two c (line ++ media_text line) ≡ Ok (recorded.Publish item)
 publish-again c line text item is h =
     let part = is_part_line text in
+    let own = one_text c text (recorded.Publish item) (is_init_line text) h in
     ap (λ l. entry_in Two c (l ++ media_text l)) is
     ∙ ap (λ o. entry_in Two c (codes "P " ++ (text ++ media_if (option_map_or is_part_line o false)))) (key_again (codes "P ") text)
     ∙ after_key c (text ++ media_if part)
-    ∙ ap (publish_by c) (media_again text part refl)
-    ∙ h
+    ∙ ap (publish_by c) (media_again text part refl own.0)
+    ∙ own.1
 
 -- ---- the line of each entry in format 2
 

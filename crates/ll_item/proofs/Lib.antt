@@ -1,4 +1,5 @@
 pub mod ChannelLemmas
+pub mod LastWord
 pub mod RangeLines
 pub mod SameLemmas
 pub mod WithinLimits

@@ -1,5 +1,5 @@
 -- What a publisher announces, and the lines that spell it.
-use Rattle.std.specs.Prelude.{ℕ, List, [], ◌∷◌, Bool, true, false, Option, Some, None, Result, Ok, Err, if◌then◌else◌, position, bytes_eq, codes}
+use Rattle.std.specs.Prelude.{ℕ, List, [], ◌∷◌, Bool, true, false, Option, Some, None, Result, Ok, Err, if◌then◌else◌, ◌==◌, position, bytes_eq, codes}
 use Rattle.ll_attr.specs.Numbers.{number_in}
 use Rattle.ll_attr.specs.Words.{words, joined}
 use Rattle.ll_attr.specs.Attributes.{attributes_in}
@@ -10,21 +10,32 @@ use Rattle.ll_attr.specs.declared.attributes.AttrValue.TheVariants.{Quoted, Bare
 use Rattle.ll_item.specs.Names.{is_name}
 use Rattle.ll_item.specs.Settings.{Configuration}
 use Rattle.ll_item.specs.declared.item.Item.{Item}
-use Rattle.ll_item.specs.declared.item.Item.TheVariants.{Part, Break, End, Range, Unrange}
+use Rattle.ll_item.specs.declared.item.Item.TheVariants.{Part, Init, Break, End, Range, Unrange}
 use Rattle.ll_item.specs.declared.item.ItemFault.{ItemFault}
 use Rattle.ll_item.specs.declared.item.ItemFault.TheVariants.{BadLine, NoRendition, BadAttribute}
 
 -- the index of the rendition that an item belongs to
 abbrev pub rendition_of : Item → ℕ
-rendition_of (Part rendition duration independent finish) = rendition
+rendition_of (Part rendition duration independent finish media) = rendition
+rendition_of (Init rendition media) = rendition
 rendition_of (Break rendition) = rendition
 rendition_of (End rendition) = rendition
 rendition_of (Range rendition id attributes) = rendition
 rendition_of (Unrange rendition id) = rendition
 
+-- how many bytes an item has
+abbrev pub media_of : Item → ℕ
+media_of (Part rendition duration independent finish media) = media
+media_of (Init rendition media) = media
+media_of (Break rendition) = 0
+media_of (End rendition) = 0
+media_of (Range rendition id attributes) = 0
+media_of (Unrange rendition id) = 0
+
 -- whether an item adds a date range or takes one away
 abbrev pub is_about_ranges : Item → Bool
-is_about_ranges (Part rendition duration independent finish) = false
+is_about_ranges (Part rendition duration independent finish media) = false
+is_about_ranges (Init rendition media) = false
 is_about_ranges (Break rendition) = false
 is_about_ranges (End rendition) = false
 is_about_ranges (Range rendition id attributes) = true
@@ -51,24 +62,28 @@ named_at (Some rendition) = Ok rendition
 abbrev pub named : Configuration → List ℕ → Result ℕ ItemFault
 named c name = if is_name name then named_at (rendition_named c name) else Err BadLine
 
-abbrev pub part_at : Result ℕ ItemFault → ℕ → Bool × Bool → Result Item ItemFault
-part_at (Err fault) duration flags = Err fault
-part_at (Ok rendition) duration flags = Ok (Part rendition duration flags.0 flags.1)
+abbrev pub part_at : Result ℕ ItemFault → ℕ → Bool × Bool → ℕ → Result Item ItemFault
+part_at (Err fault) duration flags media = Err fault
+part_at (Ok rendition) duration flags media = Ok (Part rendition duration flags.0 flags.1 media)
 
-abbrev pub part_by : Configuration → List ℕ → Option ℕ → Option (Bool × Bool) → Result Item ItemFault
-part_by c name None flags = Err BadLine
-part_by c name (Some duration) None = Err BadLine
-part_by c name (Some duration) (Some flags) = part_at (named c name) duration flags
+abbrev pub part_by : Configuration → List ℕ → Option ℕ → Option (Bool × Bool) → ℕ → Result Item ItemFault
+part_by c name None flags media = Err BadLine
+part_by c name (Some duration) None media = Err BadLine
+part_by c name (Some duration) (Some flags) media = part_at (named c name) duration flags media
 
 -- `RENDITION MICROSECONDS FLAGS`
-abbrev pub part_in : Configuration → List (List ℕ) → Result Item ItemFault
-part_in c (name ∷ duration ∷ flags ∷ []) = part_by c name (number_in 20 duration) (flags_in flags)
-part_in c other = Err BadLine
+abbrev pub part_in : Configuration → List (List ℕ) → ℕ → Result Item ItemFault
+part_in c (name ∷ duration ∷ flags ∷ []) media = part_by c name (number_in 20 duration) (flags_in flags) media
+part_in c other media = Err BadLine
 
 -- `RENDITION`
 abbrev pub alone_in : Configuration → List (List ℕ) → Result ℕ ItemFault
 alone_in c (name ∷ []) = named c name
 alone_in c other = Err BadLine
+
+abbrev pub init_at : Result ℕ ItemFault → ℕ → Result Item ItemFault
+init_at (Err fault) media = Err fault
+init_at (Ok rendition) media = Ok (Init rendition media)
 
 abbrev pub break_at : Result ℕ ItemFault → Result Item ItemFault
 break_at (Err fault) = Err fault
@@ -107,17 +122,24 @@ abbrev pub unrange_in : Configuration → List (List ℕ) → Result Item ItemFa
 unrange_in c (name ∷ first ∷ more) = unrange_at (named c name) (joined (first ∷ more))
 unrange_in c other = Err BadLine
 
--- `part RENDITION MICROSECONDS FLAGS`, `break RENDITION`, `range RENDITION LIST`, `unrange RENDITION ID` or `end RENDITION`
-abbrev pub item_of : Configuration → List (List ℕ) → Result Item ItemFault
-item_of c [] = Err BadLine
-item_of c (kind ∷ rest) =
-    if bytes_eq kind (codes "part") then part_in c rest
-    else if bytes_eq kind (codes "break") then break_at (alone_in c rest)
+-- `break RENDITION`, `range RENDITION LIST`, `unrange RENDITION ID` or `end RENDITION`: these have no bytes
+abbrev pub bare_of : Configuration → List ℕ → List (List ℕ) → Result Item ItemFault
+bare_of c kind rest =
+    if bytes_eq kind (codes "break") then break_at (alone_in c rest)
     else if bytes_eq kind (codes "range") then range_in c rest
     else if bytes_eq kind (codes "unrange") then unrange_in c rest
     else if bytes_eq kind (codes "end") then end_at (alone_in c rest)
     else Err BadLine
 
--- the item that a line spells, or what is wrong with it
-abbrev pub item_in : Configuration → List ℕ → Result Item ItemFault
-item_in c line = item_of c (words line)
+-- `part RENDITION MICROSECONDS FLAGS` or `init RENDITION` with so many bytes, or an item that has none
+abbrev pub item_of : Configuration → List (List ℕ) → ℕ → Result Item ItemFault
+item_of c [] media = Err BadLine
+item_of c (kind ∷ rest) media =
+    if bytes_eq kind (codes "part") then part_in c rest media
+    else if bytes_eq kind (codes "init") then init_at (alone_in c rest) media
+    else if media == 0 then bare_of c kind rest
+    else Err BadLine
+
+-- the item that a line spells which has so many bytes, or what is wrong with it
+abbrev pub item_in : Configuration → List ℕ → ℕ → Result Item ItemFault
+item_in c line media = item_of c (words line) media

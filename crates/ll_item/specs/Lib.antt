@@ -1,7 +1,9 @@
+pub mod Announced
 pub mod ChannelPlaces
 pub mod Channels
 pub mod Configured
 pub mod Items
+pub mod Media
 pub mod Names
 pub mod Settings
 pub mod Same

@@ -46,11 +46,12 @@ start = record { parts = []; pending = false; ended = false; end_time = 0; liste
 
 -- one more item
 abbrev pub step : Told → Item → Told
-step t (item.Part rendition duration independent finish) = record t {
+step t (item.Part rendition duration independent finish media) = record t {
   parts = t.parts ++ (record { duration = duration; independent = independent; finish = finish; after_break = t.pending }) ∷ [];
   pending = false;
   end_time = t.end_time + duration;
 }
+step t (item.Init rendition media) = t
 step t (item.Break rendition) = record t { pending = true }
 step t (item.End rendition) = record t { ended = true }
 step t (item.Range rendition id attributes) = record t { listed = t.listed ++ (record { id = id; attributes = spelling attributes; added = t.end_time }) ∷ [] }

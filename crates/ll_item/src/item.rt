@@ -2,6 +2,7 @@
 ghost use Rattle.std.specs.Prelude.{◌≡◌, IfOk};
 ghost use Rattle.ll_item.specs.Items.{is_about_ranges, rendition_of};
 
+use crate::media::Media;
 use ll_attr::{AttrList, Text};
 use std::alloc::AllocError;
 use thiserror::Error;
@@ -19,6 +20,15 @@ pub enum Item {
         independent: bool,
         /// Whether it is the last part of its segment.
         finish: bool,
+        /// How many bytes it has.
+        media: Media,
+    },
+    /// The Media Initialization Section of the segments from here on (EXT-X-MAP, section 4.4.4.5).
+    Init {
+        /// The rendition's index in the order of the settings.
+        rendition: usize,
+        /// How many bytes it has.
+        media: Media,
     },
     /// What follows is encoded otherwise than what came before: the next segment is broken from the last one
     /// (EXT-X-DISCONTINUITY, section 4.4.4.3).
@@ -83,6 +93,7 @@ impl Item {
     {
         match self {
             Item::Part { rendition, .. }
+            | Item::Init { rendition, .. }
             | Item::Break { rendition }
             | Item::End { rendition }
             | Item::Range { rendition, .. }
@@ -107,11 +118,17 @@ impl Item {
                 duration,
                 independent,
                 finish,
+                media,
             } => Item::Part {
                 rendition: *rendition,
                 duration: *duration,
                 independent: *independent,
                 finish: *finish,
+                media: *media,
+            },
+            Item::Init { rendition, media } => Item::Init {
+                rendition: *rendition,
+                media: *media,
             },
             Item::Break { rendition } => Item::Break {
                 rendition: *rendition,

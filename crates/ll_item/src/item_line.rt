@@ -1,5 +1,5 @@
 //! The lines that spell items.
-ghost use Rattle.std.specs.Prelude.{◌≡◌, ◌≢◌, ◌∷◌, [], MatchOption, IfOk, IfErr, IsOk, IsErrOf, Ok, Err};
+ghost use Rattle.std.specs.Prelude.{◌≡◌, ◌≢◌, ◌∷◌, [], ℕ, MatchOption, IfOk, IfErr, IsOk, IsErrOf, Ok, Err};
 ghost use Rattle.ll_attr.specs.Attributes.{attributes_in};
 ghost use Rattle.ll_attr.specs.Words.{words};
 ghost use Rattle.ll_item.specs.Settings.{Configuration};
@@ -7,6 +7,7 @@ ghost use Rattle.ll_item.specs.Items.{item_in, part_in, alone_in, flags_in, rang
 ghost use Rattle.ll_item.specs.Items as spec;
 
 use crate::item::{Item, ItemFault};
+use crate::media::Media;
 use crate::name::is_name;
 use crate::settings::Settings;
 use crate::words::one_word;
@@ -14,40 +15,61 @@ use ll_attr::{AttrFault, AttrList, AttrValue, Attribute, Text, after, cut, parse
 use std::alloc::Global;
 
 impl Item {
-    /// The item that a line spells: `part RENDITION MICROSECONDS FLAGS`, where the flags are `-` for none, `i` for independent,
-    /// `f` for finishing its segment, or `if` for both; `break RENDITION`; `range RENDITION LIST`, where the list is the rest
+    /// The item that a line spells which has these bytes: `part RENDITION MICROSECONDS FLAGS`, where the flags are `-` for none, `i` for independent,
+    /// `f` for finishing its segment, or `if` for both; `init RENDITION`; `break RENDITION`; `range RENDITION LIST`, where the list is the rest
     /// of the line, an attribute list that begins with a quoted ID (section 4.4.5.1); `unrange RENDITION ID`, where the ID is
-    /// the rest of the line; or `end RENDITION`. Or why there is none: the line is of none of these forms, the channel has no
-    /// such rendition, or the list is no such list. Memory that isn't found comes after all other faults.
-    pub fn read(alloc: Global, settings: &Settings, line: &str) -> Result<Item, ItemFault>
-        ensures value { IfOk result (λ item. item_in settings.now line.now ≡ Ok item) }
-        ensures refused { IfErr result (λ fault. fault ≢ ItemFault.Memory → item_in settings.now line.now ≡ Err fault) }
-        ensures memory { IsErrOf result ItemFault.Memory → IsOk (item_in settings.now line.now) }
+    /// the rest of the line; or `end RENDITION`. Or why there is none: the line is of none of these forms, or of one that has
+    /// no bytes and these are some, the channel has no such rendition, or the list is no such list. Memory that isn't found comes after all other faults.
+    pub fn read(
+        alloc: Global,
+        settings: &Settings,
+        line: &str,
+        media: Media,
+    ) -> Result<Item, ItemFault>
+        ensures value { IfOk result (λ item. item_in settings.now line.now media ≡ Ok item) }
+        ensures refused { IfErr result (λ fault. fault ≢ ItemFault.Memory → item_in settings.now line.now media ≡ Err fault) }
+        ensures memory { IsErrOf result ItemFault.Memory → IsOk (item_in settings.now line.now media) }
     {
         let Some((kind, rest)) = cut(line, ' ') else {
             return Err(ItemFault::BadLine);
         };
         if kind == "part" {
-            read_part(settings, rest)
-        } else if kind == "break" {
+            read_part(settings, rest, media)
+        } else if kind == "init" {
             let rendition = read_alone(settings, rest)?;
-            Ok(Item::Break { rendition })
-        } else if kind == "range" {
-            read_range(alloc, settings, rest)
-        } else if kind == "unrange" {
-            read_unrange(alloc, settings, rest)
-        } else if kind == "end" {
-            let rendition = read_alone(settings, rest)?;
-            Ok(Item::End { rendition })
+            Ok(Item::Init { rendition, media })
+        } else if media.is_empty() {
+            read_bare(alloc, settings, kind, rest)
         } else {
             Err(ItemFault::BadLine)
         }
     }
 }
 
+/// The item of this kind, which has no bytes.
+fn read_bare(alloc: Global, settings: &Settings, kind: &str, rest: &str) -> Result<Item, ItemFault>
+    ensures value { IfOk result (λ item. spec.bare_of settings.now kind.now (words rest.now) ≡ Ok item) }
+    ensures refused { IfErr result (λ fault. fault ≢ ItemFault.Memory → spec.bare_of settings.now kind.now (words rest.now) ≡ Err fault) }
+    ensures memory { IsErrOf result ItemFault.Memory → IsOk (spec.bare_of settings.now kind.now (words rest.now)) }
+{
+    if kind == "break" {
+        let rendition = read_alone(settings, rest)?;
+        Ok(Item::Break { rendition })
+    } else if kind == "range" {
+        read_range(alloc, settings, rest)
+    } else if kind == "unrange" {
+        read_unrange(alloc, settings, rest)
+    } else if kind == "end" {
+        let rendition = read_alone(settings, rest)?;
+        Ok(Item::End { rendition })
+    } else {
+        Err(ItemFault::BadLine)
+    }
+}
+
 /// The part whose rendition, duration and flags are the words of this text.
-fn read_part(settings: &Settings, text: &str) -> Result<Item, ItemFault>
-    ensures value { result ≡ part_in settings.now (words text.now) }
+fn read_part(settings: &Settings, text: &str, media: Media) -> Result<Item, ItemFault>
+    ensures value { result ≡ part_in settings.now (words text.now) media }
     ensures not_memory { IfErr result (λ fault. fault ≢ ItemFault.Memory) }
 {
     let Some((name, duration, flags)) = part_words(text) else {
@@ -64,12 +86,13 @@ fn read_part(settings: &Settings, text: &str) -> Result<Item, ItemFault>
         duration,
         independent,
         finish,
+        media,
     })
 }
 
 /// The rendition's name, the duration and the flags of a part, where there are three words.
 fn part_words(text: &str) -> Option<(&str, &str, &str)>
-    ensures { (c : Configuration) → MatchOption result (part_in c (words text.now) ≡ Err ItemFault.BadLine)
+    ensures { (c : Configuration) (media : ℕ) → MatchOption result (part_in c (words text.now) media ≡ Err ItemFault.BadLine)
         (λ w. words text.now ≡ w.0.now ∷ w.1.now ∷ w.2.now ∷ []) }
 {
     let (name, rest) = cut(text, ' ')?;

@@ -4,8 +4,10 @@
 
 mod channels;
 mod item;
+mod item_bytes;
 mod item_line;
 mod limits;
+mod media;
 mod name;
 mod part;
 mod settings;
@@ -15,7 +17,9 @@ mod words;
 
 pub use channels::Channels;
 pub use item::{Item, ItemFault};
+pub use item_bytes::{announced, cut_last, lacks_length, told_bytes};
 pub use limits::limits_law;
+pub use media::{MEDIA_LIMIT, Media};
 pub use name::is_name;
 pub use part::Part;
 pub use settings::{Settings, SettingsFault};

@@ -75,8 +75,9 @@ break_step k h = record { numbers = h.numbers; opens = h.opens; times = h.times;
 
 item_step : (c : Configuration) (before : List Item) (i : Item) → IsBounded (compact c before) → refusal_before_end c before i ≡ None
     → IsBounded (with_item (compact c before) i)
-item_step c before (item.Part r d i f) h none = part_step f (compact c before) _ h none
+item_step c before (item.Part r d i f media) h none = part_step f (compact c before) _ h none
 item_step c before (item.Break r) h none = break_step (compact c before) h
+item_step c before (item.Init r media) h none = h
 item_step c before (item.End r) h none = end_step (compact c before).open_parts (compact c before) h h.opens
 item_step c before (item.Range r id attributes) h none = h
 item_step c before (item.Unrange r id) h none = h

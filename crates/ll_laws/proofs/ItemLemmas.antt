@@ -51,10 +51,11 @@ in-order c r items more h = in_order-own c r items more (accepted-after c [] ite
 -- all parts last as long as it is told
 lasts_on : (t : Told) (ys : List Item) → t.end_time ≡ duration t.parts → (fold step t ys).end_time ≡ duration (fold step t ys).parts
 lasts_on t [] e = e
-lasts_on t (item.Part q n i f ∷ ys) e =
+lasts_on t (item.Part q n i f media ∷ ys) e =
     let d = duration-snoc t.parts (record { duration = n; independent = i; finish = f; after_break = t.pending }) in
-    lasts_on (step t (item.Part q n i f)) ys (omega (arith, d, e))
+    lasts_on (step t (item.Part q n i f media)) ys (omega (arith, d, e))
 lasts_on t (item.Break q ∷ ys) e = lasts_on (step t (item.Break q)) ys e
+lasts_on t (item.Init q media ∷ ys) e = lasts_on (step t (item.Init q media)) ys e
 lasts_on t (item.End q ∷ ys) e = lasts_on (step t (item.End q)) ys e
 lasts_on t (item.Range q id attributes ∷ ys) e = lasts_on (step t (item.Range q id attributes)) ys e
 lasts_on t (item.Unrange q id ∷ ys) e = lasts_on (step t (item.Unrange q id)) ys e
@@ -69,11 +70,12 @@ record HasMore (earlier later : List Part) : Type 0 where
 
 more_parts : (t : Told) (ys : List Item) → HasMore t.parts (fold step t ys).parts
 more_parts t [] = record { more = []; longer = sym (append-nil t.parts) }
-more_parts t (item.Part q n i f ∷ ys) =
+more_parts t (item.Part q n i f media ∷ ys) =
     let p : Part = record { duration = n; independent = i; finish = f; after_break = t.pending } in
-    let h = more_parts (step t (item.Part q n i f)) ys in
+    let h = more_parts (step t (item.Part q n i f media)) ys in
     record { more = p ∷ h.more; longer = h.longer ∙ append_assoc t.parts (p ∷ []) h.more }
 more_parts t (item.Break q ∷ ys) = more_parts (step t (item.Break q)) ys
+more_parts t (item.Init q media ∷ ys) = more_parts (step t (item.Init q media)) ys
 more_parts t (item.End q ∷ ys) = more_parts (step t (item.End q)) ys
 more_parts t (item.Range q id attributes ∷ ys) = more_parts (step t (item.Range q id attributes)) ys
 more_parts t (item.Unrange q id ∷ ys) = more_parts (step t (item.Unrange q id)) ys

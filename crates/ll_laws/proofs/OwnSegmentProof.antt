@@ -46,10 +46,11 @@ end_step (p ∷ ps) k limit le = omega arith
 
 item_step : (c : Configuration) (before : List Item) (i : Item) → 1 ≤ c.target → 6 * c.target ≤ c.skip → refusal_before_end c before i ≡ None
     → duration (open_segment before) ≤ skip_limit c → duration (with_item (compact c before) i).open_parts ≤ skip_limit c
-item_step c before (item.Part r d i f) one six none le =
+item_step c before (item.Part r d i f media) one six none le =
     let low = part_limit c (c.first + length (segments before)) (duration (open_segment before)) (end_time before) d none in
     part_step f (compact c before) _ (skip_limit c) (short (skip_limit c) c.target c.skip (duration (open_segment before) + d) one six refl low)
 item_step c before (item.Break r) one six none le = le
+item_step c before (item.Init r media) one six none le = le
 item_step c before (item.End r) one six none le = end_step (open_segment before) (compact c before) (skip_limit c) le
 item_step c before (item.Range r id attributes) one six none le = le
 item_step c before (item.Unrange r id) one six none le = le

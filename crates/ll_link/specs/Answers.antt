@@ -1,6 +1,7 @@
 -- What is answered where no verdict of a channel stands behind it.
-use Rattle.std.specs.Prelude.{ℕ, List, Option, Some, None, Result, Ok, Err}
+use Rattle.std.specs.Prelude.{ℕ, List, Option, Some, None, Result, Ok, Err, if◌then◌else◌, length, nat_le}
 use Rattle.ll_item.specs.Items.{item_in}
+use Rattle.ll_item.specs.Media.{media_limit}
 use Rattle.ll_item.specs.Settings.{Configuration}
 use Rattle.ll_item.specs.declared.item.Item.{Item}
 use Rattle.ll_item.specs.declared.item.ItemFault.{ItemFault}
@@ -25,13 +26,14 @@ abbrev pub refused_item : Result Item ItemFault → Option Refusal
 refused_item (Ok item) = None
 refused_item (Err fault) = Some (item_refusal fault)
 
-abbrev pub refused_in : Option (ℕ × Configuration) → List ℕ → Option Refusal
-refused_in None text = Some UnknownChannel
-refused_in (Some found) text = refused_item (item_in found.1 text)
+abbrev pub refused_in : Option (ℕ × Configuration) → List ℕ → ℕ → Option Refusal
+refused_in None text n = Some UnknownChannel
+refused_in (Some found) text n = refused_item (item_in found.1 text n)
 
 -- why a line is refused before the room of a channel is asked; none where it announces an item of one of the hub's channels
 abbrev pub refused_before : List Configuration → says.Line → Option Refusal
-refused_before channels (says.Item name text media) = refused_in (channel_of_name channels 0 name) text
+refused_before channels (says.Item name text media) =
+    if nat_le (length media) media_limit then refused_in (channel_of_name channels 0 name) text (length media) else Some MediaTooLong
 refused_before channels says.Bad = Some BadLine
 refused_before channels says.TooLong = Some LineTooLong
 refused_before channels says.MediaTooLong = Some MediaTooLong

@@ -6,7 +6,8 @@ ghost use Rattle.ll_device.specs.Inward.{looked_at};
 ghost use Rattle.ll_item.specs.Items.{item_in};
 ghost use Rattle.ll_publish.specs.Meaning.{meant};
 ghost use Rattle.ll_publish.specs.Refusals.{item_refusal, reply_line};
-ghost use Rattle.ll_link.specs.Answers.{refused_before, refused_by};
+ghost use Rattle.ll_item.specs.Channels.{channel_of_name};
+ghost use Rattle.ll_link.specs.Answers.{refused_before, refused_by, refused_in};
 ghost use Rattle.ll_link.specs.Faults.{IsOwn, IsTrue};
 ghost use Rattle.ll_link.specs.Reads.{HasEnded, IsReadWithin};
 
@@ -15,7 +16,7 @@ use crate::gate::Gate;
 use crate::service::{HandedOut, Service};
 use ll_device::{Link, write_all};
 use ll_hub::{HubFault, Ledgers, Pass, RoomFault, Sink};
-use ll_item::{Item, ItemFault, Settings};
+use ll_item::{Item, ItemFault, Media, Settings};
 use ll_publish::{Feed, Line, Refusal, reply_text};
 use std::sync::Wait;
 
@@ -102,23 +103,40 @@ fn publish<L: Ledgers, C, G, K: Sink, R: Wait>(
     ensures own { IsOwn result }
     ensures refused { (reason : Refusal) → refused_before service.now.hub.now (meant line.entry) ≡ Some reason → result ≡ Ok (Err reason) }
 {
-    let (name, text) = match line {
-        // Its bytes aren't kept: there is nothing yet that asks for them.
-        Line::Item(name, text, _media) => (name, text),
-        Line::Bad => return Ok(Err(Refusal::BadLine)),
-        Line::TooLong => return Ok(Err(Refusal::LineTooLong)),
-        Line::MediaTooLong => return Ok(Err(Refusal::MediaTooLong)),
-    };
+    match line {
+        // The bytes themselves aren't kept: there is nothing yet that asks for them.
+        Line::Item(name, text, bytes) => match Media::of_length(bytes.len() as u64) {
+            Some(media) => publish_item(service, pass, name, text, media),
+            None => Ok(Err(Refusal::MediaTooLong)),
+        },
+        Line::Bad => Ok(Err(Refusal::BadLine)),
+        Line::TooLong => Ok(Err(Refusal::LineTooLong)),
+        Line::MediaTooLong => Ok(Err(Refusal::MediaTooLong)),
+    }
+}
+
+/// Publishes an item that is spelled so and has so many bytes, in the channel of this name: how many items that has accepted with it, or why it
+/// is refused.
+fn publish_item<L: Ledgers, C, G, K: Sink, R: Wait>(
+    service: &Service<'_, L, C, G, K, R>,
+    pass: &mut Pass<L>,
+    name: &str,
+    text: &str,
+    media: Media,
+) -> Result<Result<u64, Refusal>, LinkFault>
+    ensures own { IsOwn result }
+    ensures refused { (reason : Refusal) → refused_in (channel_of_name service.now.hub.now 0 name.now) text.now media ≡ Some reason → result ≡ Ok (Err reason) }
+{
     let Some((channel, settings)) = service.hub.find(name) else {
         return Ok(Err(Refusal::UnknownChannel));
     };
-    match publish_to(service, pass, channel, settings, text) {
+    match publish_to(service, pass, channel, settings, text, media) {
         Ok((answer, _)) => Ok(answer),
         Err(fault) => Err(fault),
     }
 }
 
-/// Publishes an item that is spelled so, in the channel at this place. Where the record of the channel is full, that is handed out and the
+/// Publishes an item that is spelled so and has so many bytes, in the channel at this place. Where the record of the channel is full, that is handed out and the
 /// item published once more: the last answer, and whether it was handed out.
 fn publish_to<L: Ledgers, C, G, K: Sink, R: Wait>(
     service: &Service<'_, L, C, G, K, R>,
@@ -126,13 +144,14 @@ fn publish_to<L: Ledgers, C, G, K: Sink, R: Wait>(
     channel: usize,
     settings: &Settings,
     text: &str,
+    media: Media,
 ) -> Result<(Result<u64, Refusal>, Option<HandedOut>), LinkFault>
     ensures own { IsOwn result }
-    ensures refused { (fault : ItemFault) → item_in settings.now text.now ≡ Err fault → result ≡ Ok (Err (item_refusal fault), None) }
+    ensures refused { (fault : ItemFault) → item_in settings.now text.now media ≡ Err fault → result ≡ Ok (Err (item_refusal fault), None) }
     ensures full { IfOk result (λ told. told.0 ≡ Err Refusal.RecordFull → told.1 ≡ Some channel) }
 {
-    let first = publish_once(service, pass, channel, settings, text)?;
-    publish_again(service, pass, channel, settings, text, first)
+    let first = publish_once(service, pass, channel, settings, text, media)?;
+    publish_again(service, pass, channel, settings, text, media, first)
 }
 
 /// What publishing an item comes to that was answered so at first: this answer, unless the record of the channel was full.
@@ -142,6 +161,7 @@ fn publish_again<L: Ledgers, C, G, K: Sink, R: Wait>(
     channel: usize,
     settings: &Settings,
     text: &str,
+    media: Media,
     first: Result<u64, Refusal>,
 ) -> Result<(Result<u64, Refusal>, Option<HandedOut>), LinkFault>
     ensures own { IsOwn result }
@@ -152,7 +172,7 @@ fn publish_again<L: Ledgers, C, G, K: Sink, R: Wait>(
         return Ok((first, None));
     }
     let handed = service.hand_out(channel)?;
-    let second = publish_once(service, pass, channel, settings, text)?;
+    let second = publish_once(service, pass, channel, settings, text, media)?;
     Ok((second, Some(handed)))
 }
 
@@ -163,18 +183,19 @@ fn is_full(answer: &Result<u64, Refusal>) -> bool
     matches!(answer, Err(Refusal::RecordFull))
 }
 
-/// Publishes an item that is spelled so, in the channel at this place.
+/// Publishes an item that is spelled so and has so many bytes, in the channel at this place.
 fn publish_once<L: Ledgers, C, G, K, R: Wait>(
     service: &Service<'_, L, C, G, K, R>,
     pass: &mut Pass<L>,
     channel: usize,
     settings: &Settings,
     text: &str,
+    media: Media,
 ) -> Result<Result<u64, Refusal>, LinkFault>
     ensures own { IsOwn result }
-    ensures refused { (fault : ItemFault) → item_in settings.now text.now ≡ Err fault → result ≡ Ok (Err (item_refusal fault)) }
+    ensures refused { (fault : ItemFault) → item_in settings.now text.now media ≡ Err fault → result ≡ Ok (Err (item_refusal fault)) }
 {
-    let item = match Item::read(service.alloc, settings, text) {
+    let item = match Item::read(service.alloc, settings, text, media) {
         Ok(item) => item,
         Err(fault) => return Ok(Err(Refusal::from(fault))),
     };

@@ -1,6 +1,6 @@
 use crate::rows::{Bench, LINE, column};
 use ll_attr::{AttrList, Text};
-use ll_item::{Item, Settings};
+use ll_item::{Item, ItemFault, Media, Settings, announced};
 use std::alloc::{AllocError, Global};
 
 pub(crate) fn add_answer(
@@ -157,6 +157,17 @@ fn add_settings_with(
     }
 }
 
+/// The item of a line, with as many bytes as its last word tells, where that tells them.
+fn read_item(alloc: Global, settings: &Settings, line: &str) -> Result<Item, ItemFault> {
+    match announced(line) {
+        Some((item, length)) => {
+            let media = Media::of_length(length).ok_or(ItemFault::BadLine)?;
+            Item::read(alloc, settings, item, media)
+        }
+        None => Item::read(alloc, settings, line, Media::none()),
+    }
+}
+
 /// What the copy of an item tells that a line spells, or the fault of the line.
 fn add_item_of(
     alloc: Global,
@@ -164,7 +175,7 @@ fn add_item_of(
     settings: &Settings,
     line: &str,
 ) -> Result<(), AllocError> {
-    match Item::read(alloc, settings, line) {
+    match read_item(alloc, settings, line) {
         Ok(item) => add_copy(told, &item),
         Err(fault) => write!(told, "{fault:?}"),
     }
@@ -183,8 +194,19 @@ fn add_item(told: &mut String, item: &Item) -> Result<(), AllocError> {
             duration,
             independent,
             finish,
+            media,
             ..
-        } => write!(told, "part {rendition} {duration} {independent} {finish}"),
+        } => {
+            let bytes = media.len();
+            write!(
+                told,
+                "part {rendition} {duration} {independent} {finish}, {bytes} bytes"
+            )
+        }
+        Item::Init { media, .. } => {
+            let bytes = media.len();
+            write!(told, "init {rendition}, {bytes} bytes")
+        }
         Item::Break { .. } => write!(told, "break {rendition}"),
         Item::End { .. } => write!(told, "end {rendition}"),
         Item::Range { id, attributes, .. } => add_range(told, rendition, id, attributes),
@@ -204,10 +226,16 @@ fn add_range(
 
 /// A line, and what the copy of its item tells.
 pub(crate) const ITEMS: &str = r#"item: item
-part hi 1000000 - => part 1 1000000 false false
-part hi 1000000 i => part 1 1000000 true false
-part hi 18446744073709551615 f => part 1 18446744073709551615 false true
-part hi 007 if => part 1 7 true true
+part hi 1000000 - => part 1 1000000 false false, 0 bytes
+part hi 1000000 - 0 => part 1 1000000 false false, 0 bytes
+part hi 1000000 - 1 => part 1 1000000 false false, 1 bytes
+part hi 1000000 - 1048576 => part 1 1000000 false false, 1048576 bytes
+init hi 1 => init 1, 1 bytes
+init lo 1048576 => init 0, 1048576 bytes
+init lo 0 => init 0, 0 bytes
+part hi 1000000 i => part 1 1000000 true false, 0 bytes
+part hi 18446744073709551615 f => part 1 18446744073709551615 false true, 0 bytes
+part hi 007 if => part 1 7 true true, 0 bytes
 break lo => break 0
 break hi => break 1
 end lo => end 0
@@ -225,6 +253,17 @@ pub(crate) const NO_ITEMS: &str = r#"item: item
 part zz 1 f => NoRendition
 part zz x f => BadLine
 part hi 1000000 => BadLine
+part hi 1000000 - 1048577 => BadLine
+part hi 1000000 - 18446744073709551616 => BadLine
+part hi 1000000 - x => BadLine
+part hi 1000000 - 1 1 => BadLine
+part mid 1000000 - 1 => NoRendition
+init hi 1048577 => BadLine
+init hi x => BadLine
+init hi 1 1 => BadLine
+init => BadLine
+init Hi 1 => BadLine
+init mid 1 => NoRendition
 part hi 1000000 fi => BadLine
 part hi 1000000 -  => BadLine
 part  hi 1 - => BadLine
@@ -272,6 +311,11 @@ unrange Hi a => BadLine
 /// Two lines, and whether their items are equal.
 pub(crate) const EQUAL: &str = r#"item: equal
 part hi 1000000 if | part hi 1000000 if => true
+part hi 1000000 if 1 | part hi 1000000 if 1 => true
+part hi 1000000 if 1 | part hi 1000000 if 2 => false
+init hi 1 | init hi 1 => true
+init hi 1 | init hi 2 => false
+init hi 1 | init lo 1 => false
 part hi 1000000 if | part lo 1000000 if => false
 part hi 1000000 if | part hi 999999 if => false
 part hi 1000000 if | part hi 1000000 i => false
@@ -294,7 +338,7 @@ fn add_equal(
     settings: &Settings,
     input: &str,
 ) -> Result<(), AllocError> {
-    match Item::read(alloc, settings, column(input, 0)) {
+    match read_item(alloc, settings, column(input, 0)) {
         Ok(item) => add_equal_to(alloc, told, settings, &item, column(input, 1)),
         Err(fault) => write!(told, "{fault:?}"),
     }
@@ -307,7 +351,7 @@ fn add_equal_to(
     item: &Item,
     line: &str,
 ) -> Result<(), AllocError> {
-    match Item::read(alloc, settings, line) {
+    match read_item(alloc, settings, line) {
         Ok(other) => write!(told, "{}", *item == other),
         Err(fault) => write!(told, "{fault:?}"),
     }

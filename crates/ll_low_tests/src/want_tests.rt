@@ -1,6 +1,6 @@
 //! Items are letters: p is a part of 10 ms, f one that finishes its segment, e the end. The largest media sequence number is 1152921504606846976.
 use crate::rows::{Bench, column, number};
-use ll_item::Item;
+use ll_item::{Item, Media};
 use ll_window::{PushFault, Window};
 use std::alloc::{AllocError, Global};
 
@@ -28,6 +28,7 @@ fn push(window: &mut Window, letters: &str) -> Result<(), PushFault> {
                 duration: 10_000,
                 independent: true,
                 finish: letter == 'f',
+                media: Media::none(),
             },
         })?;
     }

@@ -2,7 +2,7 @@
 //! segment, and `7x1000000f` for seven of them. The largest media sequence number is 1152921504606846976, and the last
 //! millisecond of the year 9999 is 253402300799999.
 use crate::rows::{Bench, column};
-use ll_item::Item;
+use ll_item::{Item, Media};
 use ll_window::{PushFault, Window};
 use std::alloc::{AllocError, Global};
 
@@ -50,6 +50,7 @@ fn item(word: &str) -> Item {
             duration: word.trim_end_matches('f').parse::<u64>().unwrap_or(0),
             independent: false,
             finish: word.ends_with('f'),
+            media: Media::none(),
         },
     }
 }

@@ -4,7 +4,8 @@ use borrow.Author.Tests.{ltb-false, ltb-true, lt-ltb, le-ltb}
 use Rattle.std.proofs.lemmas.List.{drop-append-le}
 use Rattle.std.specs.Str.Lines.{strip_carriage_return}
 use Rattle.ll_publish.specs.Line.{Item, Bad, TooLong, MediaTooLong}
-use Rattle.ll_publish.specs.Lines.{after_end, at_line, before_end, front_ended, front_item, front_of, front_parts, has_end, in_passing, line_limit, media_limit, parts, passed_over, past_end, settled, with_bytes, with_media}
+use Rattle.ll_item.specs.Media.{media_limit}
+use Rattle.ll_publish.specs.Lines.{after_end, at_line, before_end, front_ended, front_item, front_of, front_parts, has_end, in_passing, line_limit, parts, passed_over, past_end, settled, with_bytes, with_media}
 use Rattle.ll_publish.proofs.EndLemmas.{after-more, after-none, drop-past, end-more, end-none, place, place-within}
 
 pub front_of-ended : (bytes : List ℕ) → has_end bytes ≡ true → front_of bytes ≡ front_ended (strip_carriage_return (before_end bytes)) (after_end bytes) bytes

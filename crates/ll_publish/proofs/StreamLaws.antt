@@ -4,9 +4,10 @@ use borrow.Author.Tests.{ltb-false, ltb-true, lt-ltb, le-ltb}
 use Rattle.std.proofs.lemmas.List.{take-append-le, drop-append-le, get_or_append_left}
 use Rattle.std.specs.Str.Lines.{strip_carriage_return}
 use Rattle.ll_publish.specs.Laws.{FewAreKept, NoneIsLeft, WholeStreams}
-use Rattle.ll_publish.specs.Announced.{announced}
+use Rattle.ll_item.specs.Announced.{announced}
 use Rattle.ll_publish.specs.Line.{Line, Item, Bad, TooLong}
-use Rattle.ll_publish.specs.Lines.{FeedValue, after_end, at_line, before_end, front, front_at, front_ended, front_item, front_of, front_parts, has_end, in_passing, line_limit, lines, lines_by, lines_in, media_limit, parts, past_end, settled, then_more, with_bytes, with_media}
+use Rattle.ll_item.specs.Media.{media_limit}
+use Rattle.ll_publish.specs.Lines.{FeedValue, after_end, at_line, before_end, front, front_at, front_ended, front_item, front_of, front_parts, has_end, in_passing, line_limit, lines, lines_by, lines_in, parts, past_end, settled, then_more, with_bytes, with_media}
 use Rattle.ll_publish.specs.Past.{Call, Take, Next, Past, and_line, before_any, called}
 use Rattle.ll_publish.proofs.EndLemmas.{after-more, after-none, before-more, before-none, end-more, end-none}
 use Rattle.ll_publish.proofs.FrontLemmas as front

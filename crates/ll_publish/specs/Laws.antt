@@ -1,6 +1,7 @@
 -- The laws of feeds.
 use Rattle.std.specs.Prelude.{◌≡◌, ◌≤◌, ℕ, ◌+◌, List, [], ◌++◌, None, length}
-use Rattle.ll_publish.specs.Lines.{FeedValue, front, line_limit, media_limit, lines, lines_in, with_bytes}
+use Rattle.ll_item.specs.Media.{media_limit}
+use Rattle.ll_publish.specs.Lines.{FeedValue, front, line_limit, lines, lines_in, with_bytes}
 use Rattle.ll_publish.specs.Past.{Call, past}
 
 -- Whatever is called, in whatever order, and whatever bytes are still to come: the lines of all bytes together are those that were

@@ -1,4 +1,3 @@
-pub mod Announced
 pub mod Found
 pub mod Laws
 pub mod Line

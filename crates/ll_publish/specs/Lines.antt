@@ -3,16 +3,14 @@ use Rattle.std.specs.Prelude.{ℕ, zero, suc, ◌+◌, ◌-◌, ◌==◌, ◌&&�
 use Rattle.std.specs.List.{list_any, before_first, after_first}
 use Rattle.std.specs.Str.{is_utf8}
 use Rattle.std.specs.Str.Lines.{strip_carriage_return}
-use Rattle.ll_publish.specs.Announced.{announced}
+use Rattle.ll_attr.specs.Words.{words}
+use Rattle.ll_item.specs.Announced.{announced, lacks_length}
+use Rattle.ll_item.specs.Media.{media_limit}
 use Rattle.ll_publish.specs.Line.{Line, Item, Bad, TooLong, MediaTooLong}
 
 -- the longest line of a publisher, in bytes, without its end
 abbrev pub line_limit : ℕ
 line_limit = 4096
-
--- the most bytes that an item may have
-abbrev pub media_limit : ℕ
-media_limit = 1048576
 
 -- ---- one line
 
@@ -23,9 +21,13 @@ parts text =
     then Some (before_first (λ b. b == 32) text, after_first (λ b. b == 32) text)
     else None
 
+-- the line of an item after which no bytes stand: that of an initialization section tells their number
+abbrev pub line_alone : List ℕ → List ℕ → Line
+line_alone channel item = if lacks_length (words item) then Bad else Item channel item []
+
 abbrev pub line_by : Option (List ℕ × List ℕ) → Line
 line_by None = Bad
-line_by (Some line) = Item line.0 line.1 []
+line_by (Some line) = line_alone line.0 line.1
 
 -- a line after which no bytes are looked for
 abbrev pub line_of : List ℕ → Line
@@ -72,7 +74,7 @@ with_media n channel item rest =
 -- the channel and the line of an item, which may announce bytes; what has come after that line; and all of this together: where bytes of the item are
 -- missing, it isn't told yet
 abbrev pub front_item : List ℕ → List ℕ → Option (List ℕ × ℕ) → List ℕ → List ℕ → Option Line × FeedValue
-front_item channel line None rest bytes = (Some (Item channel line []), at_line rest)
+front_item channel line None rest bytes = (Some (line_alone channel line), at_line rest)
 front_item channel line (Some item) rest bytes =
     if nat_lt media_limit item.1 then (Some MediaTooLong, in_passing item.1 rest)
     else if nat_lt item.1 (length rest) then with_media item.1 channel item.0 rest

@@ -1,7 +1,6 @@
 //! A publisher's stream: its lines, each of which announces an item of a channel, the bytes of items after them, and the lines that answer them.
 #![tactic(auto)]
 
-mod announced;
 mod feed;
 mod laws;
 mod line;
@@ -9,7 +8,6 @@ mod look;
 mod refusal;
 mod reply;
 
-pub use announced::told_bytes;
 pub use feed::Feed;
 pub use laws::feed_law;
 pub use line::Line;

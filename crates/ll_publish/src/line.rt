@@ -1,21 +1,19 @@
 ghost use Rattle.std.specs.Prelude.{◌≡◌, MatchOption, None, Some};
-ghost use Rattle.ll_publish.specs.Lines.{line_of, parts};
+ghost use Rattle.ll_publish.specs.Lines.{line_alone, line_of, parts};
 ghost use Rattle.ll_publish.specs.Meaning.{meant};
 
+use ll_item::lacks_length;
 use std::str;
 
 /// The longest line of a publisher, in bytes, without its end.
 pub(crate) const LINE_LIMIT: usize = 4_096;
-
-/// The most bytes that an item may have.
-pub(crate) const MEDIA_LIMIT: u64 = 1_048_576;
 
 /// A line of a publisher, with the bytes after it that belong to its item.
 #[derive(Clone, Copy, Debug)]
 pub enum Line<'a> {
     /// The name of a channel, the line of an item for it, without the number of its bytes, and its bytes, perhaps none. None of them is looked at.
     Item(&'a str, &'a str, &'a [u8]),
-    /// It is no UTF-8, or has no space, or no LF stands after its item's bytes.
+    /// It is no UTF-8, or has no space, or is that of an initialization section without its length, or no LF stands after its item's bytes.
     Bad,
     /// It has more than 4,096 bytes. The rest of it is passed over.
     TooLong,
@@ -29,8 +27,19 @@ impl<'a> Line<'a> {
         ensures { meant result ≡ line_of text.now }
     {
         match parts_of(text) {
-            Some((channel, item)) => Line::Item(channel, item, &[]),
+            Some((channel, item)) => Line::alone(channel, item),
             None => Line::Bad,
+        }
+    }
+
+    /// The line of an item after which no bytes stand: that of an initialization section tells their number.
+    pub(crate) fn alone(channel: &'a str, item: &'a str) -> Line<'a>
+        ensures { meant result ≡ line_alone channel.now item.now }
+    {
+        if lacks_length(item) {
+            Line::Bad
+        } else {
+            Line::Item(channel, item, &[])
         }
     }
 }

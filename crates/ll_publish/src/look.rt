@@ -2,13 +2,13 @@
 ghost use Rattle.std.specs.Prelude.{◌≡◌, ◌<◌, ◌≤◌, ◌==◌, ℕ, List, IfSome, MatchOption, None, false, length, nat_lt, true, if◌then◌else◌};
 ghost use Rattle.std.specs.List.{position_or_len};
 ghost use Rattle.std.specs.Str.Lines.{strip_carriage_return};
-ghost use Rattle.ll_publish.specs.Announced as told;
+ghost use Rattle.ll_item.specs.Announced as told;
 ghost use Rattle.ll_publish.specs.Found.{found, found_after};
 ghost use Rattle.ll_publish.specs.Lines as spec;
 ghost use Rattle.ll_publish.specs.Lines.{front_of, front_parts, has_end};
 
-use crate::announced::announced;
-use crate::line::{LINE_LIMIT, Line, MEDIA_LIMIT, parts_of};
+use crate::line::{LINE_LIMIT, Line, parts_of};
+use ll_item::{MEDIA_LIMIT, announced};
 use memchr::memchr;
 
 /// A line that is told, how many bytes are taken out with it, and, where its rest is to be passed over, how many bytes are before its end is
@@ -79,7 +79,7 @@ fn look_at_item<'a>(channel: &'a str, line: &'a str, rest: &'a [u8]) -> Option<S
 {
     match announced(line) {
         None => Some(Seen {
-            line: Line::Item(channel, line, &[]),
+            line: Line::alone(channel, line),
             taken: 0,
             passing: None,
         }),

@@ -19,7 +19,7 @@ use Rattle.ll_room.specs.StampedValue.{StampedValue}
 use Rattle.ll_room.specs.Ticket.{Ticket}
 use Rattle.ll_room.specs.declared.asked.Closed.TheVariants as given_up
 use Rattle.ll_room.specs.declared.asked.Collected.TheVariants.{Got}
-use Rattle.ll_entry.specs.ItemLines.{HasAttributes}
+use Rattle.ll_entry.specs.ItemLines.{IsTyped}
 use Rattle.ll_verdict.proofs.StateLemmas.{state-snoc}
 use Rattle.ll_verdict.specs.Events.{Event, Publish, Ask, Clock, Collect, Close}
 use Rattle.ll_verdict.specs.Outcome.{outcome_of}
@@ -47,7 +47,7 @@ step : (old new : Recording) (entry : Recorded) (events : List Event) → IsTold
     → IsRecorded new (events ++ event_of entry ∷ [])
 step old new entry events t r x = recorded-next old new events entry t.within r x.spelled t.utf8 x.right x.stands t.next
 
-pub publish-step : (old new : Recording) (item : Item) → IsTold old new (recorded.Publish item) → refusal_by old.room item ≡ None → HasAttributes item
+pub publish-step : (old new : Recording) (item : Item) → IsTold old new (recorded.Publish item) → refusal_by old.room item ≡ None → IsTyped item
     → ((events : List Event) → Stands old.room events → Stands new.room (events ++ Publish item ∷ []))
     → (events : List Event) → IsRecorded old events → IsRecorded new (events ++ Publish item ∷ [])
 publish-step old new item t none kept stands events r =

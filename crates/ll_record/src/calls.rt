@@ -10,7 +10,7 @@ ghost use Rattle.ll_room.specs.Answers.{asked, new_tickets, others};
 ghost use Rattle.ll_verdict.specs.Full.{event_end, is_full};
 ghost use Rattle.ll_room.specs.RoomValue.{tickets};
 ghost use Rattle.ll_room.specs.declared.stamped.Stamp.TheVariants as stamp;
-ghost use Rattle.ll_entry.specs.ItemLines.{HasAttributes};
+ghost use Rattle.ll_entry.specs.ItemLines.{IsTyped};
 ghost use Rattle.ll_verdict.specs.Events.{Event, Ask, Clock, Publish};
 ghost use Rattle.ll_verdict.specs.Verdict.{at_once, held};
 
@@ -156,7 +156,7 @@ fn item_line(
     item: &Item,
 ) -> Result<String, AllocError>
     ensures text { IfOk result (λ t. string_bytes t ≡ entry_line room.now.settings (recorded.Publish item.now)) }
-    ensures spelled { OnOk result (HasAttributes item.now) }
+    ensures spelled { OnOk result (IsTyped item.now) }
     ensures free { IfOk result (λ t. length (string_bytes t) + 1 + spare * length room.now.slots ≤ lines.new.free) }
     ensures no_less { lines.old.free ≤ lines.new.free }
     ensures lines { lines.new.lines ≡ lines.old.lines }

@@ -82,7 +82,7 @@ impl Rendition {
         match item {
             Item::Range { id, attributes, .. } => self.ranges.list(end, id.as_str(), attributes),
             Item::Unrange { id, .. } => self.ranges.unlist(end, id.as_str()),
-            Item::Part { .. } | Item::Break { .. } | Item::End { .. } => Ok(()),
+            Item::Part { .. } | Item::Init { .. } | Item::Break { .. } | Item::End { .. } => Ok(()),
         }
     }
 
@@ -106,7 +106,7 @@ fn test_ranges(end: u64, ranges: &Ranges, item: &Item) -> Result<(), RangeFault>
     match item {
         Item::Range { id, attributes, .. } => ranges.test_add(end, id.as_str(), attributes),
         Item::Unrange { id, .. } => ranges.test_remove(id.as_str()),
-        Item::Part { .. } | Item::Break { .. } | Item::End { .. } => Ok(()),
+        Item::Part { .. } | Item::Init { .. } | Item::Break { .. } | Item::End { .. } => Ok(()),
     }
 }
 

@@ -35,8 +35,9 @@ use Rattle.ll_room.proofs.IdleLemmas.{Idle}
 
 -- what an item brings, where this was kept before it
 abbrev pub brings : Compact → Item → Awaited → Bool
-brings k (item.Part r d b f) awaited = part_comes awaited k.next_number (length k.open_parts) || (f && segment_comes awaited k.next_number)
+brings k (item.Part r d b f media) awaited = part_comes awaited k.next_number (length k.open_parts) || (f && segment_comes awaited k.next_number)
 brings k (item.Break r) awaited = false
+brings k (item.Init r media) awaited = false
 brings k (item.End r) awaited = true
 brings k (item.Range r id attributes) awaited = false
 brings k (item.Unrange r id) awaited = false
@@ -81,14 +82,17 @@ segment_done k msn le e =
 
 step : (k : Compact) (i : Item) (a : Awaited) → k.settings.first ≤ k.next_number → k.ended ≡ false → held_in k a ≡ false
     → (held_in (with_item k i) a || (with_item k i).ended) ≡ brings k i a
-step k (item.Part r d b f) Nothing le e h = absurd (true≢false h)
-step k (item.Part r d b true) (Segment msn) le e h = segment_done k msn le e
-step k (item.Part r d b false) (Segment msn) le e h = neither (held_in k (Segment msn)) k.ended h e
-step k (item.Part r d b true) (Part msn index) le e h = part_brings k true msn index e
-step k (item.Part r d b false) (Part msn index) le e h = part_brings k false msn index e
+step k (item.Part r d b f media) Nothing le e h = absurd (true≢false h)
+step k (item.Part r d b true media) (Segment msn) le e h = segment_done k msn le e
+step k (item.Part r d b false media) (Segment msn) le e h = neither (held_in k (Segment msn)) k.ended h e
+step k (item.Part r d b true media) (Part msn index) le e h = part_brings k true msn index e
+step k (item.Part r d b false media) (Part msn index) le e h = part_brings k false msn index e
 step k (item.Break r) Nothing le e h = absurd (true≢false h)
+step k (item.Init r media) Nothing le e h = absurd (true≢false h)
 step k (item.Break r) (Segment msn) le e h = neither (held_in k (Segment msn)) k.ended h e
+step k (item.Init r media) (Segment msn) le e h = neither (held_in k (Segment msn)) k.ended h e
 step k (item.Break r) (Part msn index) le e h = neither (held_in k (Part msn index)) k.ended h e
+step k (item.Init r media) (Part msn index) le e h = neither (held_in k (Part msn index)) k.ended h e
 step k (item.End r) a le e h = ap (λ b. held_in (with_item k (item.End r)) a || b) (ended_end k.open_parts k) ∙ or_true (held_in (with_item k (item.End r)) a)
 step k (item.Range r id attributes) a le e h = neither (held_in k a) k.ended h e
 step k (item.Unrange r id) a le e h = neither (held_in k a) k.ended h e
@@ -144,11 +148,12 @@ split_false false x y = refl
 -- the two releases of an item free what it brings
 both : (k : Compact) (i : Item) (w : Wanted)
     → (frees_opt (first_release k i) w || frees_opt (second_release k i) w) ≡ ((w.rendition == rendition_of i) && brings k i w.awaited)
-both k (item.Part r d b true) w =
+both k (item.Part r d b true media) w =
     split_true (w.rendition == r) (part_comes w.awaited k.next_number (length k.open_parts)) (segment_comes w.awaited k.next_number)
-both k (item.Part r d b false) w =
+both k (item.Part r d b false media) w =
     split_false (w.rendition == r) (part_comes w.awaited k.next_number (length k.open_parts)) (segment_comes w.awaited k.next_number)
 both k (item.Break r) w = sym (and_false (w.rendition == r))
+both k (item.Init r media) w = sym (and_false (w.rendition == r))
 both k (item.End r) w = or_false (w.rendition == r) ∙ sym (and_true (w.rendition == r))
 both k (item.Range r id attributes) w = sym (and_false (w.rendition == r))
 both k (item.Unrange r id) w = sym (and_false (w.rendition == r))

@@ -86,9 +86,10 @@ part_apart k i r n first second s e f h =
 
 apart_at : (o : Option Rendition) (i : Item) → AreApart (releases_at o i)
 apart_at None i first second s e f h = absurd (none_some first e)
-apart_at (Some k) (item.Part r d b true) first second s e f h = part_apart k.window (item.Part r d b true) r d first second s (sym (its_own _ _ e)) (sym (its_own _ _ f)) h
-apart_at (Some k) (item.Part r d b false) first second s e f h = absurd (none_some second f)
+apart_at (Some k) (item.Part r d b true media) first second s e f h = part_apart k.window (item.Part r d b true media) r d first second s (sym (its_own _ _ e)) (sym (its_own _ _ f)) h
+apart_at (Some k) (item.Part r d b false media) first second s e f h = absurd (none_some second f)
 apart_at (Some k) (item.Break r) first second s e f h = absurd (none_some first e)
+apart_at (Some k) (item.Init r media) first second s e f h = absurd (none_some first e)
 apart_at (Some k) (item.End r) first second s e f h = absurd (none_some second f)
 apart_at (Some k) (item.Range r id attributes) first second s e f h = absurd (none_some first e)
 apart_at (Some k) (item.Unrange r id) first second s e f h = absurd (none_some first e)

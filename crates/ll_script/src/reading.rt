@@ -14,8 +14,8 @@ use crate::act::{Act, Acts};
 use crate::hex::{is_hex, read_hex};
 use ll_attr::{after, cut, parse_number};
 use ll_directive::{TargetFault, named_channel, read_target};
-use ll_item::{Channels, Item, Settings, SettingsFault};
-use ll_publish::{Line, Refusal, told_bytes};
+use ll_item::{Channels, Item, Media, Settings, SettingsFault, told_bytes};
+use ll_publish::{Line, Refusal};
 use std::alloc::Global;
 use std::str;
 use thiserror::Error;
@@ -125,25 +125,53 @@ fn read_other(
 fn read_offer(alloc: Global, declared: &Channels, text: &[u8]) -> Result<Acts, LineFault>
     ensures { IsRead declared.now (Some (spec.offer declared.now text.now ∷ [])) result }
 {
-    let (name, line) = match Line::of(text) {
-        Line::Item(name, line, _media) => (name, line),
-        Line::Bad => return Ok(Acts::One(Act::Refuse(Refusal::BadLine))),
-        Line::TooLong => return Ok(Acts::One(Act::Refuse(Refusal::LineTooLong))),
-        Line::MediaTooLong => return Ok(Acts::One(Act::Refuse(Refusal::MediaTooLong))),
-    };
+    match Line::of(text) {
+        Line::Item(name, line, _) => read_announced(alloc, declared, name, line),
+        Line::Bad => Ok(Acts::One(Act::Refuse(Refusal::BadLine))),
+        Line::TooLong => Ok(Acts::One(Act::Refuse(Refusal::LineTooLong))),
+        Line::MediaTooLong => Ok(Acts::One(Act::Refuse(Refusal::MediaTooLong))),
+    }
+}
+
+/// An item that is announced to the channel of this name by a line in which its bytes may stand.
+fn read_announced(
+    alloc: Global,
+    declared: &Channels,
+    name: &str,
+    line: &str,
+) -> Result<Acts, LineFault>
+    ensures { IsRead declared.now (Some (spec.offer_within (channel_of_name declared.now 0 name.now) (spec.without_bytes line.now) ∷ [])) result }
+{
+    let (line, length) = without_bytes(line);
+    match Media::of_length(length) {
+        Some(media) => read_offered(alloc, declared, name, line, media),
+        None => Ok(Acts::One(Act::Refuse(Refusal::MediaTooLong))),
+    }
+}
+
+/// An item of this line and so many bytes for the channel of this name.
+fn read_offered(
+    alloc: Global,
+    declared: &Channels,
+    name: &str,
+    line: &str,
+    media: Media,
+) -> Result<Acts, LineFault>
+    ensures { IsRead declared.now (Some (spec.offer_to (channel_of_name declared.now 0 name.now) (line.now, media) ∷ [])) result }
+{
     match declared.find(name) {
-        Some((place, settings)) => read_item(alloc, place, settings, without_bytes(line)),
+        Some((place, settings)) => read_item(alloc, place, settings, line, media),
         None => Ok(Acts::One(Act::Refuse(Refusal::UnknownChannel))),
     }
 }
 
-/// An item's line without its bytes, which stand after it as a word of hexadecimal digits. They aren't kept.
-fn without_bytes(line: &str) -> &str
-    ensures { result.now ≡ spec.without_bytes line.now }
+/// An item's line without its bytes, which stand after it as a word of hexadecimal digits, and how many there are.
+fn without_bytes(line: &str) -> (&str, u64)
+    ensures { (result.0.now, result.1) ≡ spec.without_bytes line.now }
 {
     match told_bytes(line) {
-        Some((item, word)) if spells_bytes(word) => item,
-        _ => line,
+        Some((item, word)) if spells_bytes(word) => (item, word.len() as u64 / 2),
+        _ => (line, 0),
     }
 }
 
@@ -160,10 +188,11 @@ fn read_item(
     place: usize,
     settings: &Settings,
     line: &str,
+    media: Media,
 ) -> Result<Acts, LineFault>
-    ensures { (channels : List Configuration) → IsRead channels (Some (spec.item_act place (item_in settings.now line.now) ∷ [])) result }
+    ensures { (channels : List Configuration) → IsRead channels (Some (spec.item_act place (item_in settings.now line.now media) ∷ [])) result }
 {
-    match Item::read(alloc, settings, line) {
+    match Item::read(alloc, settings, line, media) {
         Ok(item) => Ok(Acts::One(Act::Offer { place, item })),
         Err(fault) => Ok(Acts::One(Act::Refuse(Refusal::from(fault)))),
     }

@@ -1,5 +1,5 @@
 -- What a line makes happen: settings within their limits are declared, and items are offered as they were read.
-use Rattle.std.proofs.Common.{◌≡◌, ℕ, ◌+◌, ◌<◌, ◌≤◌, ◌==◌, ◌&&◌, ◌^◌, Bool, true, false, List, [], ◌∷◌, ◌++◌, Option, Some, None, is_none, Result, Ok, Err, length, length-append, refl, ap, sym, ◌∙◌, subst, arith, codes, get_or, nat_le, nat_lt, take, if◌then◌else◌, option_map}
+use Rattle.std.proofs.Common.{◌≡◌, ℕ, ◌+◌, ◌<◌, ◌≤◌, ◌==◌, ◌&&◌, ◌^◌, ◌/◌, Bool, true, false, List, [], ◌∷◌, ◌++◌, Option, Some, None, is_none, Result, Ok, Err, length, length-append, refl, ap, sym, ◌∙◌, subst, arith, codes, get_or, nat_le, nat_lt, take, if◌then◌else◌, option_map}
 use Rattle.std.proofs.lemmas.Bool.Decides.{nat_tests}
 use Rattle.std.proofs.Math.Seq.{get_or-append_seam}
 use Rattle.std.proofs.lemmas.List.{drop_all, take-append-le, take_all}
@@ -17,12 +17,15 @@ use Rattle.ll_item.specs.declared.item.Item.{Item}
 use Rattle.ll_item.specs.declared.item.ItemFault.{ItemFault}
 use Rattle.ll_item.specs.declared.settings.SettingsFault.{SettingsFault}
 use Rattle.ll_item.proofs.WithinLimits.{within}
-use Rattle.ll_publish.proofs.LastWord.{IsLine, told-line}
-use Rattle.ll_publish.specs.Announced.{told_bytes}
+use Rattle.ll_item.proofs.LastWord.{IsLine, told-line}
+use Rattle.ll_item.specs.Announced.{lacks_length, told_bytes}
+use Rattle.ll_item.specs.Media.{media_limit}
+use Rattle.ll_publish.specs.Line as said
 use Rattle.ll_publish.specs.Lines.{line_by}
+use Rattle.ll_publish.specs.declared.refusal.Refusal.TheVariants as refused
 use Rattle.ll_script.specs.Hex.{bytes_in_hex}
 use Rattle.ll_item.specs.Channels.{channel_of_name}
-use Rattle.ll_script.specs.Lines.{Kind, acts, acts_by, alone, ask, ask_in, begun, begun_by, bytes_by, bytes_of, clocks_from, close_of, declaration, drop_of, get_by, get_of, is_passed_over, item_act, item_before, kinds, offer, offer_by, offer_to, reading, rises, spells_bytes, starved, without_bytes}
+use Rattle.ll_script.specs.Lines.{Kind, acts, acts_by, alone, ask, ask_in, begun, begun_by, bytes_by, bytes_of, clocks_from, close_of, declaration, drop_of, get_by, get_of, is_passed_over, item_act, item_before, kinds, offer, offer_by, offer_to, offer_within, reading, rises, spells_bytes, starved, without_bytes}
 use Rattle.ll_script.specs.declared.act.Act.{Act}
 use Rattle.ll_script.specs.declared.act.Act.TheVariants.{Declare, Offer, Refuse, Ask, Answer, Close, Clock, RefuseClock, Bytes, Drop}
 use Rattle.ll_verdict.proofs.ListLemmas.{Each}
@@ -83,9 +86,16 @@ item_act-sound : (place : ℕ) (r : Result Item ItemFault) → ((i : Item) → r
 item_act-sound place (Ok i) f = f i refl
 item_act-sound place (Err fault) f = tt
 
-offer_to-sound : (o : Option (ℕ × Configuration)) (line : List ℕ) → IsUtf8 line → IsSound (offer_to o line)
-offer_to-sound None line u = tt
-offer_to-sound (Some channel) line u = item_act-sound channel.0 (item_in channel.1 line) (λ i h. item-read channel.1 line i u h)
+offer_to-sound : (o : Option (ℕ × Configuration)) (item : List ℕ × ℕ) → IsUtf8 item.0 → IsSound (offer_to o item)
+offer_to-sound None item u = tt
+offer_to-sound (Some channel) item u = item_act-sound channel.0 (item_in channel.1 item.0 item.1) (λ i h. item-read channel.1 item.0 item.1 i u h)
+
+offer_within-sound : (o : Option (ℕ × Configuration)) (item : List ℕ × ℕ) → IsUtf8 item.0 → IsSound (offer_within o item)
+offer_within-sound o item u = by_many (nat_le item.1 media_limit)
+  where
+    by_many : (b : Bool) → IsSound (if b then offer_to o item else Refuse refused.MediaTooLong)
+    by_many true = offer_to-sound o item u
+    by_many false = tt
 
 -- an item's line without its bytes is UTF-8, as it stands before a space
 before_space : (line item word : List ℕ) → line ≡ item ++ 32 ∷ word → IsUtf8 line → IsUtf8 item
@@ -95,18 +105,21 @@ before_space line item word e u =
     let front : take (length item) line ≡ item = ap (take (length item)) e ∙ take-append-le (length item) item (32 ∷ word) (omega arith) ∙ take_all (length item) item (omega arith) in
     subst IsUtf8 front (IsUtf8-take line (length item) u (IsCharBoundary-before_ascii line (length item) (omega (arith, long)) (omega (arith, here))))
 
-item_before-utf8 : (line : List ℕ) (o : Option (List ℕ × List ℕ)) → IsLine line o → IsUtf8 line → IsUtf8 (item_before o line)
+item_before-utf8 : (line : List ℕ) (o : Option (List ℕ × List ℕ)) → IsLine line o → IsUtf8 line → IsUtf8 (item_before o line).0
 item_before-utf8 line None told u = u
 item_before-utf8 line (Some t) told u = by_hex (spells_bytes t.1)
   where
-    by_hex : (b : Bool) → IsUtf8 (if b then t.0 else line)
+    by_hex : (b : Bool) → IsUtf8 (let item : List ℕ × ℕ = if b then (t.0, length t.1 / 2) else (line, 0) in item).0
     by_hex true = before_space line t.0 t.1 told u
     by_hex false = u
 
 cut-sound : (channels : List Configuration) (x y : Bool) (name line : List ℕ) → (x ≡ true → IsUtf8 line)
     → IsSound (offer_by channels (line_by (if x && y then Some (name, line) else None)))
-cut-sound channels true true name line u =
-    offer_to-sound (channel_of_name channels 0 name) (without_bytes line) (item_before-utf8 line (told_bytes line) (told-line line) (u refl))
+cut-sound channels true true name line u = by_length (lacks_length (words line))
+  where
+    by_length : (b : Bool) → IsSound (offer_by channels (if b then said.Bad else said.Item name line []))
+    by_length true = tt
+    by_length false = offer_within-sound (channel_of_name channels 0 name) (without_bytes line) (item_before-utf8 line (told_bytes line) (told-line line) (u refl))
 cut-sound channels true false name line u = tt
 cut-sound channels false y name line u = tt
 

@@ -1,5 +1,5 @@
 -- What is read of a line in UTF-8 has its texts in UTF-8, and attribute lists that are read again as they are spelled.
-use Rattle.std.proofs.Common.{◌≡◌, ◌≢◌, ℕ, ◌+◌, ◌<◌, Bool, true, false, List, [], ◌∷◌, ◌++◌, Option, Some, None, Result, Ok, Err, length, length-append, refl, sym, subst, arith, codes, bytes_eq, get_or, if◌then◌else◌}
+use Rattle.std.proofs.Common.{◌≡◌, ◌≢◌, ℕ, ◌+◌, ◌<◌, ◌==◌, Bool, true, false, List, [], ◌∷◌, ◌++◌, Option, Some, None, Result, Ok, Err, length, length-append, refl, sym, subst, arith, codes, bytes_eq, get_or, if◌then◌else◌}
 use Rattle.std.proofs.lemmas.Str.{IsCharBoundary-after_ascii, IsCharBoundary-before_ascii, IsUtf8-drop, IsUtf8-take, is_utf8-from_IsUtf8}
 use Rattle.std.proofs.Math.Seq.{drop-append-add, get_or-append_seam, take-append_seam}
 use Rattle.std.specs.Str.{IsUtf8, is_utf8}
@@ -13,10 +13,10 @@ use Rattle.ll_attr.specs.declared.attributes.AttrValue.TheVariants.{Quoted, Bare
 use Rattle.ll_attr.proofs.Joined.{joined_words}
 use Rattle.ll_attr.proofs.Spelled.{read_again, written_again}
 use Rattle.ll_attr.proofs.Tails.{left_read}
-use Rattle.ll_item.specs.Items.{alone_in, break_at, end_at, flags_in, item_in, item_of, named, part_at, part_by, part_in, range_at, range_in, range_of, range_with, unrange_at, unrange_in}
+use Rattle.ll_item.specs.Items.{alone_in, bare_of, break_at, end_at, flags_in, init_at, item_in, item_of, named, part_at, part_by, part_in, range_at, range_in, range_of, range_with, unrange_at, unrange_in}
 use Rattle.ll_item.specs.Settings.{Configuration}
 use Rattle.ll_item.specs.declared.item.Item.{Item}
-use Rattle.ll_item.specs.declared.item.Item.TheVariants.{Part, Break, End, Range, Unrange}
+use Rattle.ll_item.specs.declared.item.Item.TheVariants.{Part, Init, Break, End, Range, Unrange}
 use Rattle.ll_item.specs.declared.item.ItemFault.{ItemFault}
 use Rattle.ll_item.specs.declared.item.ItemFault.TheVariants.{BadAttribute, BadLine}
 use Rattle.ll_laws.specs.Published.{IsSpelled}
@@ -25,7 +25,8 @@ use Rattle.ll_laws.specs.Published.{IsSpelled}
 abbrev pub IsRead : Item → Type 0
 IsRead (Range rendition id attributes) = (is_utf8 id ≡ true) × (attributes ≢ [] → IsSpelled attributes)
 IsRead (Unrange rendition id) = is_utf8 id ≡ true
-IsRead (Part rendition duration independent finish) = Unit
+IsRead (Part rendition duration independent finish media) = Unit
+IsRead (Init rendition media) = Unit
 IsRead (Break rendition) = Unit
 IsRead (End rendition) = Unit
 
@@ -85,18 +86,22 @@ range_read r text (Ok (a ∷ more)) i u e h =
 
 -- ---- the kinds of items
 
-part_read : (n : Result ℕ ItemFault) (d : ℕ) (f : Bool × Bool) (i : Item) → part_at n d f ≡ Ok i → IsRead i
-part_read (Err fault) d f i h = cc
-part_read (Ok r) d f i h = same IsRead (Part r d f.0 f.1) i h tt
+part_read : (n : Result ℕ ItemFault) (d : ℕ) (f : Bool × Bool) (media : ℕ) (i : Item) → part_at n d f media ≡ Ok i → IsRead i
+part_read (Err fault) d f media i h = cc
+part_read (Ok r) d f media i h = same IsRead (Part r d f.0 f.1 media) i h tt
 
-part_by-read : (c : Configuration) (name : List ℕ) (d : Option ℕ) (f : Option (Bool × Bool)) (i : Item) → part_by c name d f ≡ Ok i → IsRead i
-part_by-read c name None f i h = cc
-part_by-read c name (Some d) None i h = cc
-part_by-read c name (Some d) (Some f) i h = part_read (named c name) d f i h
+part_by-read : (c : Configuration) (name : List ℕ) (d : Option ℕ) (f : Option (Bool × Bool)) (media : ℕ) (i : Item) → part_by c name d f media ≡ Ok i → IsRead i
+part_by-read c name None f media i h = cc
+part_by-read c name (Some d) None media i h = cc
+part_by-read c name (Some d) (Some f) media i h = part_read (named c name) d f media i h
 
-part_in-read : (c : Configuration) (rest : List (List ℕ)) (i : Item) → part_in c rest ≡ Ok i → IsRead i
-part_in-read c (name ∷ duration ∷ flags ∷ []) i h = part_by-read c name (number_in 20 duration) (flags_in flags) i h
-part_in-read c other i h = cc
+part_in-read : (c : Configuration) (rest : List (List ℕ)) (media : ℕ) (i : Item) → part_in c rest media ≡ Ok i → IsRead i
+part_in-read c (name ∷ duration ∷ flags ∷ []) media i h = part_by-read c name (number_in 20 duration) (flags_in flags) media i h
+part_in-read c other media i h = cc
+
+init-read : (n : Result ℕ ItemFault) (media : ℕ) (i : Item) → init_at n media ≡ Ok i → IsRead i
+init-read (Err fault) media i h = cc
+init-read (Ok r) media i h = same IsRead (Init r media) i h tt
 
 break-read : (n : Result ℕ ItemFault) (i : Item) → break_at n ≡ Ok i → IsRead i
 break-read (Err fault) i h = cc
@@ -122,23 +127,33 @@ unrange_in-read : (c : Configuration) (kind : List ℕ) (rest : List (List ℕ))
 unrange_in-read c kind (name ∷ first ∷ more) i u h = unrange_at-read (named c name) (joined (first ∷ more)) i (after_two kind name first more u) h
 unrange_in-read c kind other i u h = cc
 
-by_kind : {X : Type 0} (b1 b2 b3 b4 b5 : Bool) (r1 r2 r3 r4 r5 : Result Item ItemFault) (i : Item)
-    → (r1 ≡ Ok i → X) → (r2 ≡ Ok i → X) → (r3 ≡ Ok i → X) → (r4 ≡ Ok i → X) → (r5 ≡ Ok i → X)
-    → (if b1 then r1 else if b2 then r2 else if b3 then r3 else if b4 then r4 else if b5 then r5 else Err BadLine) ≡ Ok i → X
-by_kind true b2 b3 b4 b5 r1 r2 r3 r4 r5 i f1 f2 f3 f4 f5 h = f1 h
-by_kind false true b3 b4 b5 r1 r2 r3 r4 r5 i f1 f2 f3 f4 f5 h = f2 h
-by_kind false false true b4 b5 r1 r2 r3 r4 r5 i f1 f2 f3 f4 f5 h = f3 h
-by_kind false false false true b5 r1 r2 r3 r4 r5 i f1 f2 f3 f4 f5 h = f4 h
-by_kind false false false false true r1 r2 r3 r4 r5 i f1 f2 f3 f4 f5 h = f5 h
-by_kind false false false false false r1 r2 r3 r4 r5 i f1 f2 f3 f4 f5 h = cc
+by_kind : {X : Type 0} (b1 b2 b3 b4 : Bool) (r1 r2 r3 r4 : Result Item ItemFault) (i : Item) → (r1 ≡ Ok i → X) → (r2 ≡ Ok i → X) → (r3 ≡ Ok i → X) → (r4 ≡ Ok i → X)
+    → (if b1 then r1 else if b2 then r2 else if b3 then r3 else if b4 then r4 else Err BadLine) ≡ Ok i → X
+by_kind true b2 b3 b4 r1 r2 r3 r4 i f1 f2 f3 f4 h = f1 h
+by_kind false true b3 b4 r1 r2 r3 r4 i f1 f2 f3 f4 h = f2 h
+by_kind false false true b4 r1 r2 r3 r4 i f1 f2 f3 f4 h = f3 h
+by_kind false false false true r1 r2 r3 r4 i f1 f2 f3 f4 h = f4 h
+by_kind false false false false r1 r2 r3 r4 i f1 f2 f3 f4 h = cc
 
-of_words : (c : Configuration) (ws : List (List ℕ)) (i : Item) → IsUtf8 (joined ws) → item_of c ws ≡ Ok i → IsRead i
-of_words c [] i u h = cc
-of_words c (kind ∷ rest) i u h =
-    by_kind (bytes_eq kind (codes "part")) (bytes_eq kind (codes "break")) (bytes_eq kind (codes "range")) (bytes_eq kind (codes "unrange")) (bytes_eq kind (codes "end"))
-    (part_in c rest) (break_at (alone_in c rest)) (range_in c rest) (unrange_in c rest) (end_at (alone_in c rest)) i
-    (part_in-read c rest i) (break-read (alone_in c rest) i) (range_in-read c kind rest i u) (unrange_in-read c kind rest i u) (end-read (alone_in c rest) i) h
+bare-read : (c : Configuration) (kind : List ℕ) (rest : List (List ℕ)) (i : Item) → IsUtf8 (joined (kind ∷ rest)) → bare_of c kind rest ≡ Ok i → IsRead i
+bare-read c kind rest i u h =
+    by_kind (bytes_eq kind (codes "break")) (bytes_eq kind (codes "range")) (bytes_eq kind (codes "unrange")) (bytes_eq kind (codes "end"))
+    (break_at (alone_in c rest)) (range_in c rest) (unrange_in c rest) (end_at (alone_in c rest)) i
+    (break-read (alone_in c rest) i) (range_in-read c kind rest i u) (unrange_in-read c kind rest i u) (end-read (alone_in c rest) i) h
+
+by_bytes : {X : Type 0} (b1 b2 b3 : Bool) (r1 r2 r3 : Result Item ItemFault) (i : Item) → (r1 ≡ Ok i → X) → (r2 ≡ Ok i → X) → (r3 ≡ Ok i → X)
+    → (if b1 then r1 else if b2 then r2 else if b3 then r3 else Err BadLine) ≡ Ok i → X
+by_bytes true b2 b3 r1 r2 r3 i f1 f2 f3 h = f1 h
+by_bytes false true b3 r1 r2 r3 i f1 f2 f3 h = f2 h
+by_bytes false false true r1 r2 r3 i f1 f2 f3 h = f3 h
+by_bytes false false false r1 r2 r3 i f1 f2 f3 h = cc
+
+of_words : (c : Configuration) (ws : List (List ℕ)) (media : ℕ) (i : Item) → IsUtf8 (joined ws) → item_of c ws media ≡ Ok i → IsRead i
+of_words c [] media i u h = cc
+of_words c (kind ∷ rest) media i u h =
+    by_bytes (bytes_eq kind (codes "part")) (bytes_eq kind (codes "init")) (media == 0) (part_in c rest media) (init_at (alone_in c rest) media) (bare_of c kind rest) i
+    (part_in-read c rest media i) (init-read (alone_in c rest) media i) (bare-read c kind rest i u) h
 
 -- the item of a line in UTF-8
-pub item-read : (c : Configuration) (line : List ℕ) (i : Item) → IsUtf8 line → item_in c line ≡ Ok i → IsRead i
-item-read c line i u h = of_words c (words line) i (subst IsUtf8 (sym (joined_words line)) u) h
+pub item-read : (c : Configuration) (line : List ℕ) (media : ℕ) (i : Item) → IsUtf8 line → item_in c line media ≡ Ok i → IsRead i
+item-read c line media i u h = of_words c (words line) media i (subst IsUtf8 (sym (joined_words line)) u) h

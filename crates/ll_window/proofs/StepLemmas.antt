@@ -135,8 +135,9 @@ kept_of c t = kept c t.ended (split t.parts) t.end_time t.pending (last_of c t.p
 
 -- a date range changes nothing of it
 silent_step : (c : Configuration) (t : Told) (i : Item) → is_about_ranges i ≡ true → kept_of c (step t i) ≡ kept_of c t
-silent_step c t (item.Part r d b f) h = absurd (grind (arith, h))
+silent_step c t (item.Part r d b f media) h = absurd (grind (arith, h))
 silent_step c t (item.Break r) h = absurd (grind (arith, h))
+silent_step c t (item.Init r media) h = absurd (grind (arith, h))
 silent_step c t (item.End r) h = absurd (grind (arith, h))
 silent_step c t (item.Range r id attributes) h = refl
 silent_step c t (item.Unrange r id) h = refl
@@ -145,13 +146,14 @@ pub silent : (c : Configuration) (items : List Item) (i : Item) → is_about_ran
 silent c items i h = ap (kept_of c) (fold-append step start items (i ∷ [])) ∙ silent_step c (told items) i h
 
 one_more : (c : Configuration) (t : Told) (i : Item) → t.ended ≡ false → kept_of c (step t i) ≡ with_item (kept_of c t) i
-one_more c t (item.Part r d i f) h =
+one_more c t (item.Part r d i f media) h =
     let p : Part = record { duration = d; independent = i; finish = f; after_break = t.pending } in
     ap (λ e. kept c e (split (t.parts ++ p ∷ [])) (t.end_time + d) false (last_of c (t.parts ++ p ∷ []))) h
     ∙ ap₂ (λ s last. kept c false s (t.end_time + d) false last) (split-snoc t.parts p) (last-snoc c.first t.parts p)
     ∙ kept-added c f (split t.parts) t.end_time t.pending (last_of c t.parts) p
-    ∙ ap (λ e. with_item (kept c e (split t.parts) t.end_time t.pending (last_of c t.parts)) (item.Part r d i f)) (sym h)
+    ∙ ap (λ e. with_item (kept c e (split t.parts) t.end_time t.pending (last_of c t.parts)) (item.Part r d i f media)) (sym h)
 one_more c t (item.Break r) h = refl
+one_more c t (item.Init r media) h = refl
 one_more c t (item.End r) h =
     kept-ended c (split t.parts).finished (split t.parts).unfinished t.end_time t.pending (last_of c t.parts)
     ∙ ap (λ e. with_end (kept c e (split t.parts) t.end_time t.pending (last_of c t.parts))) (sym h)
@@ -163,8 +165,9 @@ compact-snoc c items i h = ap (kept_of c) (fold-append step start items (i ∷ [
 
 -- why an item may not follow is told by what is kept
 refusal-going : (c : Configuration) (items : List Item) (i : Item) → refusal_before_end c items i ≡ refusal_going_on (compact c items) i
-refusal-going c items (item.Part r d i f) = refl
+refusal-going c items (item.Part r d i f media) = refl
 refusal-going c items (item.Break r) = refl
+refusal-going c items (item.Init r media) = refl
 refusal-going c items (item.End r) = refl
 refusal-going c items (item.Range r id attributes) = refl
 refusal-going c items (item.Unrange r id) = refl

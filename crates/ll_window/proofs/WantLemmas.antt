@@ -95,8 +95,9 @@ held-append m p n i (x ∷ ps) qs e =
     ∙ held_step x.finish _ _ _ _ _ (held-append m p (n + 1) 0 ps qs) (held-append m p n (i + 1) ps qs) (sym (held_any m p (numbered n i x) _ _ x.finish) ∙ e)
 
 part_stays : (m p n : ℕ) (t : Told) (i : Item) → held m p (numbered_parts n 0 t.parts) ≡ true → held m p (numbered_parts n 0 (step t i).parts) ≡ true
-part_stays m p n t (item.Part r d f g) e = held-append m p n 0 t.parts _ e
+part_stays m p n t (item.Part r d f g media) e = held-append m p n 0 t.parts _ e
 part_stays m p n t (item.Break r) e = e
+part_stays m p n t (item.Init r media) e = e
 part_stays m p n t (item.End r) e = e
 part_stays m p n t (item.Range r id attributes) e = e
 part_stays m p n t (item.Unrange r id) e = e
@@ -131,11 +132,12 @@ ended_more true s = omega arith
 ended_more false s = omega (arith, length-append s.finished (closed s.unfinished))
 
 no_fewer : (t : Told) (i : Item) → count t ≤ count (step t i)
-no_fewer t (item.Part r d f g) =
+no_fewer t (item.Part r d f g media) =
     let p : Part = record { duration = d; independent = f; finish = g; after_break = t.pending } in
     let more = no_fewer_by t.ended g (split t.parts) p in
     let e = ap (λ s. length (finished_by t.ended s)) (split-snoc t.parts p) in omega (arith, more, e)
 no_fewer t (item.Break r) = omega arith
+no_fewer t (item.Init r media) = omega arith
 no_fewer t (item.End r) = ended_more t.ended (split t.parts)
 no_fewer t (item.Range r id attributes) = omega arith
 no_fewer t (item.Unrange r id) = omega arith
@@ -160,8 +162,9 @@ both c m p t = (
 )
 
 silent_step : (c : Configuration) (m p : ℕ) (t : Told) (i : Item) → is_about_ranges i ≡ true → both c m p (step t i) ≡ both c m p t
-silent_step c m p t (item.Part r d b f) h = absurd (grind (arith, h))
+silent_step c m p t (item.Part r d b f media) h = absurd (grind (arith, h))
 silent_step c m p t (item.Break r) h = absurd (grind (arith, h))
+silent_step c m p t (item.Init r media) h = absurd (grind (arith, h))
 silent_step c m p t (item.End r) h = absurd (grind (arith, h))
 silent_step c m p t (item.Range r id attributes) h = refl
 silent_step c m p t (item.Unrange r id) h = refl

@@ -32,9 +32,10 @@ break_refusal (p ∷ ps) = Some OpenSegment
 
 -- why an item may not follow these items of its rendition, which has not ended
 abbrev pub refusal_before_end : Configuration → List Item → Item → Option PushFault
-refusal_before_end c before (item.Part rendition micros independent finish) =
+refusal_before_end c before (item.Part rendition micros independent finish media) =
     part_refusal c (c.first + length (segments before)) (duration (open_segment before)) (end_time before) micros
 refusal_before_end c before (item.Break rendition) = break_refusal (open_segment before)
+refusal_before_end c before (item.Init rendition media) = None
 refusal_before_end c before (item.End rendition) = None
 refusal_before_end c before (item.Range rendition id attributes) = None
 refusal_before_end c before (item.Unrange rendition id) = None
@@ -49,8 +50,9 @@ refusal c before item = refusal_by (ended before) (refusal_before_end c before i
 
 -- why an item may not follow where this is kept of the items before it and the rendition has not ended
 abbrev pub refusal_going_on : Compact → Item → Option PushFault
-refusal_going_on k (item.Part rendition micros independent finish) = part_refusal k.settings k.next_number (duration k.open_parts) k.end_time micros
+refusal_going_on k (item.Part rendition micros independent finish media) = part_refusal k.settings k.next_number (duration k.open_parts) k.end_time micros
 refusal_going_on k (item.Break rendition) = break_refusal k.open_parts
+refusal_going_on k (item.Init rendition media) = None
 refusal_going_on k (item.End rendition) = None
 refusal_going_on k (item.Range rendition id attributes) = None
 refusal_going_on k (item.Unrange rendition id) = None

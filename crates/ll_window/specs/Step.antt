@@ -72,9 +72,10 @@ abbrev pub with_end : Compact → Compact
 with_end k = ended_by k.open_parts k
 
 abbrev pub with_item : Compact → Item → Compact
-with_item k (item.Part rendition duration independent finish) =
+with_item k (item.Part rendition duration independent finish media) =
     with_part k (record { duration = duration; independent = independent; finish = finish; after_break = k.pending })
 with_item k (item.Break rendition) = with_break k
+with_item k (item.Init rendition media) = k
 with_item k (item.End rendition) = with_end k
 with_item k (item.Range rendition id attributes) = k
 with_item k (item.Unrange rendition id) = k

@@ -278,7 +278,8 @@ impl Window {
             return Some(PushFault::Ended);
         }
         match item {
-            Item::End { .. } | Item::Range { .. } | Item::Unrange { .. } => None,
+            Item::Init { .. } | Item::End { .. } | Item::Range { .. } | Item::Unrange { .. } =>
+                None,
             Item::Part { duration, .. } => self.part_fault(*duration),
             Item::Break { .. } if self.open_parts.is_empty() => None,
             Item::Break { .. } => Some(PushFault::OpenSegment),
@@ -335,7 +336,7 @@ impl Window {
             })?,
             Item::Break { .. } => self.progress.pending = true,
             Item::End { .. } => self.end()?,
-            Item::Range { .. } | Item::Unrange { .. } => {}
+            Item::Init { .. } | Item::Range { .. } | Item::Unrange { .. } => {}
         }
         Ok(())
     }

@@ -1,8 +1,8 @@
 -- The last word stands after the last space.
 use Rattle.std.proofs.Common.{◌≡◌, MatchOption, None, Some, subst, sym}
-use Rattle.ll_publish.proofs.LastWord.{told-has, told-none, told-not}
-use Rattle.ll_publish.specs.Announced as spec
-use Rattle.ll_publish.proofs.announced.told_bytes.Goals as goal
+use Rattle.ll_item.proofs.LastWord.{told-has, told-none, told-not}
+use Rattle.ll_item.specs.Announced as spec
+use Rattle.ll_item.proofs.item_bytes.told_bytes.Goals as goal
 
 pub returns-in_err-item : goal.returns-in_err-item
 returns-in_err-item c =

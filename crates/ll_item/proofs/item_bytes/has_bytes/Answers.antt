@@ -1,8 +1,8 @@
 -- A part has three words more.
 use Rattle.std.proofs.Common.{ap, ◌∙◌, ◌∷◌, sym}
-use Rattle.ll_publish.proofs.LastWord.{part_by}
-use Rattle.ll_publish.specs.Announced as spec
-use Rattle.ll_publish.proofs.announced.has_bytes.Goals as goal
+use Rattle.ll_item.proofs.LastWord.{part_by}
+use Rattle.ll_item.specs.Announced as spec
+use Rattle.ll_item.proofs.item_bytes.has_bytes.Goals as goal
 
 pub returns-then-eq : goal.returns-then-eq
 returns-then-eq c =

@@ -1,12 +1,12 @@
 //! The bytes of an item, as its line tells them.
-ghost use Rattle.std.specs.Prelude.{◌≡◌, ◌++◌, ◌∷◌, [], MatchOption, None, Some};
+ghost use Rattle.std.specs.Prelude.{◌≡◌, MatchOption, None, Some};
 ghost use Rattle.ll_attr.specs.Words.{words};
-ghost use Rattle.ll_publish.specs.Announced as spec;
+ghost use Rattle.ll_item.specs.Announced as spec;
 
 use ll_attr::{cut, parse_number};
 
 /// The line of an item and how many bytes follow it, where the last word of a line tells that.
-pub(crate) fn announced(line: &str) -> Option<(&str, u64)>
+pub fn announced(line: &str) -> Option<(&str, u64)>
     ensures { MatchOption result (spec.announced line.now ≡ None) (λ a. spec.announced line.now ≡ Some (a.0.now, a.1)) }
 {
     let (item, length) = told_bytes(line)?;
@@ -28,9 +28,9 @@ pub fn told_bytes(line: &str) -> Option<(&str, &str)>
     }
 }
 
-/// What stands before the last space and what stands after it, where there is one.
-fn cut_last(line: &str) -> Option<(&str, &str)>
-    ensures { MatchOption result (words line.now ≡ line.now ∷ []) (λ c. words line.now ≡ words c.0.now ++ c.1.now ∷ []) }
+/// What stands before the last space of a line, and the word after it, where there is a space.
+pub fn cut_last(line: &str) -> Option<(&str, &str)>
+    ensures { MatchOption result (spec.cut_last line.now ≡ None) (λ c. spec.cut_last line.now ≡ Some (c.0.now, c.1.now)) }
 {
     line.rsplit_once(' ')
 }
@@ -47,6 +47,16 @@ fn has_bytes(item: &str) -> bool
     };
     match cut(rest, ' ') {
         Some((_, last)) => kind == "part" && cut(last, ' ').is_none(),
+        None => false,
+    }
+}
+
+/// Whether a line is that of an initialization section whose length it doesn't tell.
+pub fn lacks_length(line: &str) -> bool
+    ensures { result ≡ spec.lacks_length (words line.now) }
+{
+    match cut(line, ' ') {
+        Some((kind, rest)) => kind == "init" && cut(rest, ' ').is_none(),
         None => false,
     }
 }

@@ -9,7 +9,7 @@ use Rattle.std.proofs.lemmas.Str.Pattern.{NoCharPasses-char, drop_at_char}
 use Rattle.std.specs.List.{onto_first}
 use Rattle.ll_attr.proofs.Joined.{joined_words, some_word}
 use Rattle.ll_attr.specs.Words.{joined, words}
-use Rattle.ll_publish.specs.Announced.{has_bytes, split_last, told_by, told_bytes}
+use Rattle.ll_item.specs.Announced.{cut_by, cut_last, has_bytes, lacks_length, split_last, told_by, told_bytes}
 
 abbrev is_space : ℕ → Bool
 is_space b = b == 32
@@ -22,7 +22,7 @@ onto_more : (x : ℕ) (ws vs : List (List ℕ)) (word : List ℕ) (more : List (
 onto_more x ws vs word more e = ap (λ l. onto_first x (l ++ vs)) e ∙ sym (ap (λ l. onto_first x l ++ vs) e)
 
 -- the words before a space, and those after it
-words-more : (a b : List ℕ) → words (a ++ 32 ∷ b) ≡ words a ++ words b
+pub words-more : (a b : List ℕ) → words (a ++ 32 ∷ b) ≡ words a ++ words b
 words-more [] b = slice_split-cons_yes is_space 32 b refl
 words-more (x ∷ a) b = by_test (is_space x) refl (words-more a b)
   where
@@ -58,20 +58,26 @@ split_more [] last = refl
 split_more (w ∷ []) last = refl
 split_more (w ∷ v ∷ ws) last = ap (option_map (λ s. (w ∷ s.0, s.1))) (split_more (v ∷ ws) last)
 
--- what is told of a line that was cut at its last space
-told_cut : (line item last : List ℕ) → words line ≡ words item ++ last ∷ [] → told_bytes line ≡ (if has_bytes (words item) then Some (item, last) else None)
-told_cut line item last h =
-    ap (λ ws. told_by (split_last ws)) h ∙ ap told_by (split_more (words item) last)
-    ∙ ap (λ t. if has_bytes (words item) then Some (t, last) else None) (joined_words item)
+-- a line of this text and this last word is cut into them
+pub cut-is : (line item last : List ℕ) → words line ≡ words item ++ last ∷ [] → cut_last line ≡ Some (item, last)
+cut-is line item last h =
+    let some = some_word item in
+    ap (λ ws. cut_by (split_last ws)) h ∙ ap cut_by (split_more (words item) last) ∙ ap (λ ws. cut_by (Some (ws, last))) some.2
+    ∙ ap (λ ws. let o : Option (List ℕ × List ℕ) = Some (joined ws, last) in o) (sym some.2) ∙ ap (λ text. Some (text, last)) (joined_words item)
 
-pub told-has : (line item last : List ℕ) → words line ≡ words item ++ last ∷ [] → true ≡ has_bytes (words item) → told_bytes line ≡ Some (item, last)
-told-has line item last h has = told_cut line item last h ∙ ap (λ b. if b then Some (item, last) else None) (sym has)
+pub cut-found : (line : List ℕ) (r : Option (Bor (List ℕ) × Bor (List ℕ))) → MatchOption r (words line ≡ line ∷ []) (λ c. words line ≡ words c.0.now ++ c.1.now ∷ [])
+    → MatchOption r (cut_last line ≡ None) (λ c. cut_last line ≡ Some (c.0.now, c.1.now))
+cut-found line None h = ap (λ ws. cut_by (split_last ws)) h
+cut-found line (Some c) h = cut-is line c.0.now c.1.now h
 
-pub told-not : (line item last : List ℕ) → words line ≡ words item ++ last ∷ [] → false ≡ has_bytes (words item) → told_bytes line ≡ None
-told-not line item last h has = told_cut line item last h ∙ ap (λ b. if b then Some (item, last) else None) (sym has)
+pub told-has : (line item last : List ℕ) → cut_last line ≡ Some (item, last) → true ≡ has_bytes (words item) → told_bytes line ≡ Some (item, last)
+told-has line item last h has = ap told_by h ∙ ap (λ b. if b then Some (item, last) else None) (sym has)
 
-pub told-none : (line : List ℕ) → words line ≡ line ∷ [] → told_bytes line ≡ None
-told-none line h = ap (λ ws. told_by (split_last ws)) h
+pub told-not : (line item last : List ℕ) → cut_last line ≡ Some (item, last) → false ≡ has_bytes (words item) → told_bytes line ≡ None
+told-not line item last h has = ap told_by h ∙ ap (λ b. if b then Some (item, last) else None) (sym has)
+
+pub told-none : (line : List ℕ) → cut_last line ≡ None → told_bytes line ≡ None
+told-none line h = ap told_by h
 
 five_words : (a b c d rest : List ℕ) → has_bytes (a ∷ b ∷ c ∷ d ∷ words rest) ≡ false
 five_words a b c d rest = let some = some_word rest in ap (λ ws. has_bytes (a ∷ b ∷ c ∷ d ∷ ws)) some.2
@@ -83,6 +89,17 @@ part_by a b c last None true m e n = sym (ap (λ ws. has_bytes (a ∷ b ∷ c �
 part_by a b c last None false m e n = absurd (cc)
 part_by a b c last (Some x) true m e n = absurd (cc)
 part_by a b c last (Some x) false m e n = sym (ap (λ ws. has_bytes (a ∷ b ∷ c ∷ ws)) m ∙ five_words a b c x.0.now x.1.now)
+
+three_words : (a b rest : List ℕ) → lacks_length (a ∷ b ∷ words rest) ≡ false
+three_words a b rest = let some = some_word rest in ap (λ ws. lacks_length (a ∷ b ∷ ws)) some.2
+
+-- an initialization section's length isn't told where the second of its words is the last one
+pub alone_by : (a rest : List ℕ) (r : Option (Bor (List ℕ) × Bor (List ℕ))) (t : Bool) → MatchOption r (words rest ≡ rest ∷ []) (λ x. words rest ≡ x.0.now ∷ words x.1.now)
+    → bytes_eq a (codes "init") ≡ true → is_some r ≡ not t → t ≡ lacks_length (a ∷ words rest)
+alone_by a rest None true m e n = sym (ap (λ ws. lacks_length (a ∷ ws)) m ∙ e)
+alone_by a rest None false m e n = absurd (cc)
+alone_by a rest (Some x) true m e n = absurd (cc)
+alone_by a rest (Some x) false m e n = sym (ap (λ ws. lacks_length (a ∷ ws)) m ∙ three_words a x.0.now x.1.now)
 
 -- ---- a line again, from what was told of it
 
@@ -102,26 +119,31 @@ split-again (next ∷ ws) word = by_split (split_last (next ∷ ws)) (split-agai
     by_split None e = absurd (cc)
     by_split (Some s) e = ap (λ l. word ∷ l) e
 
-front_more : (front : List (List ℕ)) (last : List ℕ) → has_bytes front ≡ true → joined (front ++ last ∷ []) ≡ joined front ++ 32 ∷ last
-front_more [] last e = absurd (cc)
-front_more (word ∷ ws) last e = joined-last word ws last
-
 abbrev pub IsLine : List ℕ → Option (List ℕ × List ℕ) → Type 0
 IsLine line None = Unit
 IsLine line (Some t) = line ≡ t.0 ++ 32 ∷ t.1
 
-told-by : (o : Option (List (List ℕ) × List ℕ)) → IsLine (joined (again o)) (told_by o)
-told-by None = tt
-told-by (Some s) = by_has (has_bytes s.0) refl
-  where
-    by_has : (b : Bool) → has_bytes s.0 ≡ b → IsLine (joined (s.0 ++ s.1 ∷ [])) (if b then Some (joined s.0, s.1) else None)
-    by_has true e = front_more s.0 s.1 e
-    by_has false e = tt
+cut-by : (o : Option (List (List ℕ) × List ℕ)) → IsLine (joined (again o)) (cut_by o)
+cut-by None = tt
+cut-by (Some ([], last)) = tt
+cut-by (Some (word ∷ more, last)) = joined-last word more last
 
--- the line, a space and the word that were told are the line
-pub told-line : (line : List ℕ) → IsLine line (told_bytes line)
-told-line line =
+-- what a line is cut into, and the space between, are the line
+pub cut-line : (line : List ℕ) → IsLine line (cut_last line)
+cut-line line =
     let some = some_word line in
     let same : joined (again (split_last (words line))) ≡ line =
     ap (λ ws. joined (again (split_last ws))) some.2 ∙ ap joined (split-again some.1 some.0) ∙ ap joined (sym some.2) ∙ joined_words line in
-    subst (λ l. IsLine l (told_bytes line)) same (told-by (split_last (words line)))
+    subst (λ l. IsLine l (cut_last line)) same (cut-by (split_last (words line)))
+
+told_of : (line : List ℕ) (o : Option (List ℕ × List ℕ)) → IsLine line o → IsLine line (told_by o)
+told_of line None h = tt
+told_of line (Some (item, last)) h = by_has (has_bytes (words item))
+  where
+    by_has : (b : Bool) → IsLine line (if b then Some (item, last) else None)
+    by_has true = h
+    by_has false = tt
+
+-- the line, a space and the word that were told are the line
+pub told-line : (line : List ℕ) → IsLine line (told_bytes line)
+told-line line = told_of line (cut_last line) (cut-line line)
