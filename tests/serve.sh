@@ -92,7 +92,7 @@ held_less_than() {
     [ "$peak" -lt "$1" ] || { echo "the server held $peak KB"; return 1; }
 }
 
-# (a player that waits takes some 20 KB with its worker; a larger place on the stacks of workers would show here)
+# A player that waits takes some 20 KB with its worker: a larger place on the stacks of workers would show in the memory of a thousand.
 thousand_held() {
     local number
     start 1100 "$cam" || return 1
