@@ -1,0 +1,4 @@
+mod BoxLemmas
+pub mod MoreLemmas
+mod RunLemmas
+mod UnitLemmas

@@ -1,0 +1,81 @@
+-- The ticks of runs, one sample and one run after another.
+use Rattle.std.proofs.Common.{◌≡◌, ℕ, suc, ◌+◌, ◌-◌, ◌*◌, ◌≤◌, ◌<◌, ◌==◌, List, Bool, true, false, Option, Some, None, Result, Ok, Err, refl, ap, ap₂, subst, ◌∙◌, drop, min, if◌then◌else◌, arith}
+use Rattle.std.specs.Option.{unwrap_or}
+use Rattle.byteorder.specs.Endian.{big_number}
+use Rattle.ll_mp4.specs.Boxes.{Contents, Ended, Content, contents_in}
+use Rattle.ll_mp4.specs.Fragments as spec
+use Rattle.ll_mp4.specs.Fragments.{Run, and_run, durations, run_of, run_ticks, runs_of, tick_limit, width}
+use Rattle.ll_mp4.specs.Numbers.{◌>>=◌, has}
+use Rattle.ll_mp4.specs.Runs.{ended, first_so_far}
+use Rattle.ll_mp4.specs.declared.fault.Fault.{Fault}
+use Rattle.ll_mp4.specs.declared.kind.Kind.TheVariants.{Trun}
+use Rattle.ll_mp4.specs.declared.track.Track.{Track}
+
+-- ---- samples
+
+-- a sample that tells its duration has four bytes at least
+pub wide : (flags : ℕ) → has flags 0x000100 ≡ true → 4 ≤ width flags
+wide flags e = rw e (omega arith)
+
+one-less : (n w len : ℕ) → (n + 1) * w ≤ len → (w ≤ len) × (n * w ≤ len - w)
+one-less n w len h = let d : (n + 1) * w ≡ n * w + w = omega arith in (omega (arith, d, h), omega (arith, d, h))
+
+-- the fields of one sample are there, and those of the others after them
+pub enough_left : (count i w len : ℕ) → i < count → (count - i) * w ≤ len → (w ≤ len) × ((count - (i + 1)) * w ≤ len - w)
+enough_left count i w len l h =
+    let e : count - i ≡ count - (i + 1) + 1 = omega (arith, l) in
+    one-less (count - (i + 1)) w len (subst (λ n. n * w ≤ len) e h)
+
+-- sums that stop at a limit
+stopped : (a b c m : ℕ) → min (a + (b + c)) m ≡ min (min (a + b) m + c) m
+stopped a b c m = omega arith
+
+-- one sample more
+pub sample_more : (w count i tick : ℕ) (rest : List ℕ) → i < count
+    → min (tick + durations w (count - i) rest) tick_limit
+    ≡ min (min (tick + big_number 4 rest) tick_limit + durations w (count - (i + 1)) (drop w rest)) tick_limit
+sample_more w count i tick rest l =
+    let e : count - i ≡ suc (count - (i + 1)) = omega (arith, l) in
+    ap (λ n. min (tick + durations w n rest) tick_limit) e
+    ∙ stopped tick (big_number 4 rest) (durations w (count - (i + 1)) (drop w rest)) tick_limit
+
+-- no sample more
+pub samples_done : (w n tick : ℕ) (rest : List ℕ) → n ≡ 0 → tick ≤ tick_limit → min (tick + durations w n rest) tick_limit ≡ tick
+samples_done w n tick rest e l = ap (λ k. min (tick + durations w k rest) tick_limit) e ∙ omega (arith, l)
+
+-- ---- runs
+
+-- no run more
+pub runs_done : (track : Track) (end : ℕ) (first : Option ℕ) (rest : List ℕ) → contents_in Trun rest ≡ Ended → end ≤ tick_limit
+    → ended end first (runs_of track (contents_in Trun rest)) ≡ Ok (record { end = end; flags = unwrap_or first track.flags })
+runs_done track end first rest e l =
+    ap (λ contents. ended end first (runs_of track contents)) e ∙ ap (λ n. Ok (record { end = n; flags = unwrap_or first track.flags })) (omega (arith, l))
+
+pub runs_ended : (track : Track) (tick : ℕ) (first : Option ℕ) → ended tick first (runs_of track Ended) ≡ Ok (record { end = min (tick + 0) tick_limit; flags = unwrap_or first track.flags })
+runs_ended track tick first = refl
+
+pub runs_bad : (track : Track) (tick : ℕ) (first : Option ℕ) (trun : List ℕ) (later : Contents) (fault : Fault) → run_of trun ≡ Err fault
+    → ended tick first (runs_of track (Content trun later)) ≡ Err fault
+runs_bad track tick first trun later fault e = rw e refl
+
+flags-more : (first : Option ℕ) (track : Track) (run : Run) (flags : ℕ)
+    → unwrap_or first (if run.count == 0 then flags else spec.first_of track run) ≡ unwrap_or (first_so_far first track run) flags
+flags-more (Some first) track run flags = refl
+flags-more None track run flags = by_count (run.count == 0)
+  where
+    by_count : (b : Bool) → (if b then flags else spec.first_of track run) ≡ unwrap_or (if b then None else Some (spec.first_of track run)) flags
+    by_count true = refl
+    by_count false = refl
+
+ended-more : (track : Track) (tick : ℕ) (first : Option ℕ) (run : Run) (later : Result spec.Fragment Fault)
+    → ended tick first (later >>= (λ rest. Ok (and_run track run rest)))
+    ≡ ended (min (tick + run_ticks track run) tick_limit) (first_so_far first track run) later
+ended-more track tick first run (Err fault) = refl
+ended-more track tick first run (Ok rest) =
+    ap₂ (λ e f. Ok (record { end = e; flags = f })) (stopped tick (run_ticks track run) rest.ticks tick_limit) (flags-more first track run rest.flags)
+
+-- one run more
+pub runs_more : (track : Track) (tick : ℕ) (first : Option ℕ) (trun : List ℕ) (later : Contents) (run : Run) → run_of trun ≡ Ok run
+    → ended tick first (runs_of track (Content trun later))
+    ≡ ended (min (tick + run_ticks track run) tick_limit) (first_so_far first track run) (runs_of track later)
+runs_more track tick first trun later run e = rw e (ended-more track tick first run (runs_of track later))

@@ -1,0 +1,46 @@
+-- Where an initialization section or a part ends: a unit is the boxes up to the end of the first that is a `moov` or an `mdat`.
+use Rattle.std.specs.Prelude.{ℕ, ◌+◌, ◌==◌, ◌||◌, Bool, List, nat_lt, if◌then◌else◌, Option, Some, None, Result, Ok, Err}
+use Rattle.ll_mp4.specs.Kinds.{code}
+use Rattle.ll_mp4.specs.Boxes.{Header, Boxes, Done, Torn, Box, boxes}
+use Rattle.ll_mp4.specs.declared.fault.Fault.{Fault}
+use Rattle.ll_mp4.specs.declared.fault.Fault.TheVariants.{TooLarge}
+use Rattle.ll_mp4.specs.declared.kind.Kind.TheVariants.{Moov, Mdat}
+
+-- the most bytes of an initialization section or a part
+abbrev pub size_limit : ℕ
+size_limit = 1048576
+
+-- an initialization section ends with `moov`, and a part with `mdat`
+abbrev pub is_last : ℕ → Bool
+is_last kind = (kind == code Moov) || (kind == code Mdat)
+
+-- what stands at the front of the bytes: so many bytes up to the end of the first box that is the last of its unit; or not all of them
+-- have come; or they are refused
+pub data Unit : Type 0 where
+  Open : Unit
+  Refused : Fault → Unit
+  Closed : ℕ → Unit
+
+-- a unit of so many bytes or more
+abbrev pub within : ℕ → Unit → Unit
+within size unit = if nat_lt size_limit size then Refused TooLarge else unit
+
+abbrev pub torn : ℕ → Header → Unit
+torn before (Ok None) = Open
+torn before (Ok (Some head)) = within (before + head.size) Open
+torn before (Err fault) = Refused fault
+
+-- the unit that these boxes go on with, of which so many bytes stand before them
+abbrev pub unit_from : ℕ → Boxes → Unit
+unit_from before Done = Open
+unit_from before (Torn header) = torn before header
+unit_from before (Box kind size content later) = within (before + size) (if is_last kind then Closed (before + size) else unit_from (before + size) later)
+
+abbrev pub unit_of : List ℕ → Unit
+unit_of bytes = unit_from 0 (boxes bytes)
+
+-- a unit of so many bytes, where it was found
+abbrev pub unit_found : Result (Option ℕ) Fault → Unit
+unit_found (Ok None) = Open
+unit_found (Ok (Some size)) = Closed size
+unit_found (Err fault) = Refused fault

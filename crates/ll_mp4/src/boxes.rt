@@ -1,0 +1,115 @@
+//! Boxes (section 4.2).
+ghost use Rattle.std.specs.Prelude.{◌≡◌, ◌<◌, ◌≤◌, IfErr, IfOk, IfSome, MatchResult, Ok, Err, length};
+ghost use Rattle.ll_mp4.specs.Boxes as spec;
+ghost use Rattle.ll_mp4.specs.Boxes.{contents_in, front_of, header_of};
+ghost use Rattle.ll_mp4.specs.Found.{found, from_next, inner};
+
+use crate::fault::Fault;
+use crate::kind::Kind;
+use byteorder::{BigEndian, ByteOrder};
+
+/// A box's header.
+#[derive(Clone, Copy, Debug, PartialEq, Eq)]
+pub struct Head {
+    /// The four bytes of the type as a number, the highest first.
+    pub kind: u32,
+    /// How many bytes the header has.
+    pub len: usize,
+    /// How many bytes the box has, header and content.
+    pub size: u64,
+}
+
+/// A box in the content of another, and what stands after it.
+#[derive(Clone, Copy)]
+pub(crate) struct Found<'a> {
+    pub(crate) kind: u32,
+    pub(crate) content: &'a [u8],
+    pub(crate) rest: &'a [u8],
+}
+
+/// The header at the front of some bytes; none where bytes of it are missing.
+pub fn read_head(bytes: &[u8]) -> Result<Option<Head>, Fault>
+    ensures told { result ≡ header_of bytes.now }
+    ensures least { IfOk result (λ head. IfSome head (λ h. 8 ≤ h.size)) }
+    ensures fault { IfErr result (λ fault. fault ≡ Fault.BadBox) }
+{
+    if bytes.len() < 8 {
+        return Ok(None);
+    }
+    let kind = BigEndian::read_u32(&bytes[4..]);
+    let size = BigEndian::read_u32(bytes);
+    if size != 1 {
+        return sized(kind, 8, size as u64);
+    }
+    if bytes.len() < 16 {
+        return Ok(None);
+    }
+    sized(kind, 16, BigEndian::read_u64(&bytes[8..]))
+}
+
+/// A box is no smaller than its header.
+fn sized(kind: u32, len: usize, size: u64) -> Result<Option<Head>, Fault>
+    ensures told { result ≡ spec.sized kind len size }
+    ensures least { IfOk result (λ head. IfSome head (λ h. len ≤ h.size)) }
+    ensures fault { IfErr result (λ fault. fault ≡ Fault.BadBox) }
+{
+    if size < len as u64 {
+        return Err(Fault::BadBox);
+    }
+    Ok(Some(Head { kind, len, size }))
+}
+
+/// The box at the front of bytes that hold boxes alone; none where there are no bytes.
+pub(crate) fn read_front(bytes: &[u8]) -> Result<Option<Found<'_>>, Fault>
+    ensures told { found result ≡ inner (front_of bytes.now) }
+    ensures fault { IfErr result (λ fault. fault ≡ Fault.BadBox) }
+    ensures shorter { IfOk result (λ front. IfSome front (λ f. length f.rest.now < length bytes.now)) }
+{
+    if bytes.is_empty() {
+        return Ok(None);
+    }
+    let Some(head) = read_head(bytes)? else {
+        return Err(Fault::BadBox);
+    };
+    if (bytes.len() as u64) < head.size {
+        return Err(Fault::BadBox);
+    }
+    let (front, rest) = bytes.split_at(head.size as usize);
+    let (_, content) = front.split_at(head.len);
+    Ok(Some(Found {
+        kind: head.kind,
+        content,
+        rest,
+    }))
+}
+
+/// The content of the first box of a type, and what stands after that box.
+#[tactic(auto, using(crate::proofs::BoxLemmas::contents_front))]
+pub fn next_of(kind: Kind, bytes: &[u8]) -> Result<Option<(&[u8], &[u8])>, Fault>
+    ensures told { contents_in kind bytes.now ≡ from_next kind result }
+    ensures fault { IfErr result (λ fault. fault ≡ Fault.BadBox) }
+    ensures shorter { IfOk result (λ next. IfSome next (λ n. length n.1.now < length bytes.now)) }
+{
+    let code = kind.code();
+    let mut rest = bytes;
+    'boxes: while let Some(front) = read_front(rest)? {
+        rest = front.rest;
+        if front.kind == code {
+            return Ok(Some((front.content, rest)));
+        }
+    }
+    Ok(None)
+}
+
+/// The content of the only box of a type.
+pub fn only(kind: Kind, bytes: &[u8]) -> Result<&[u8], Fault>
+    ensures { MatchResult result (λ content. spec.only kind bytes.now ≡ Ok content.now) (λ fault. spec.only kind bytes.now ≡ Err fault) }
+{
+    let Some((content, rest)) = next_of(kind, bytes)? else {
+        return Err(Fault::Missing(kind));
+    };
+    match next_of(kind, rest)? {
+        None => Ok(content),
+        Some(_) => Err(Fault::Several(kind)),
+    }
+}

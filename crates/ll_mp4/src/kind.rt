@@ -1,0 +1,87 @@
+ghost use Rattle.std.specs.Prelude.{◌≡◌};
+ghost use Rattle.ll_mp4.specs.Kinds.{code, name};
+
+use std::fmt;
+
+/// The types of boxes that are looked at.
+#[derive(Clone, Copy, Debug, PartialEq, Eq)]
+pub enum Kind {
+    /// The movie: what an initialization section ends with (section 8.2.1).
+    Moov,
+    /// A track (section 8.3.1).
+    Trak,
+    /// A track's header, with its ID (section 8.3.2).
+    Tkhd,
+    /// A track's media (section 8.4.1).
+    Mdia,
+    /// A media header, with its time scale (section 8.4.2).
+    Mdhd,
+    /// What says that a movie has fragments (section 8.8.1).
+    Mvex,
+    /// The defaults of a track's fragments (section 8.8.3).
+    Trex,
+    /// A movie fragment (section 8.8.4).
+    Moof,
+    /// A track's fragment (section 8.8.6).
+    Traf,
+    /// A track fragment's header (section 8.8.7).
+    Tfhd,
+    /// A run of samples (section 8.8.8).
+    Trun,
+    /// Samples: what a part ends with (section 8.1.1).
+    Mdat,
+}
+
+impl Kind {
+    /// The four bytes of the type as a number, the highest first.
+    #[tactic(auto, unfolding(crate::specs::Kinds::code))]
+    pub fn code(self) -> u32
+        ensures { result ≡ code self }
+    {
+        match self {
+            Kind::Moov => 0x6d6f_6f76,
+            Kind::Trak => 0x7472_616b,
+            Kind::Tkhd => 0x746b_6864,
+            Kind::Mdia => 0x6d64_6961,
+            Kind::Mdhd => 0x6d64_6864,
+            Kind::Mvex => 0x6d76_6578,
+            Kind::Trex => 0x7472_6578,
+            Kind::Moof => 0x6d6f_6f66,
+            Kind::Traf => 0x7472_6166,
+            Kind::Tfhd => 0x7466_6864,
+            Kind::Trun => 0x7472_756e,
+            Kind::Mdat => 0x6d64_6174,
+        }
+    }
+
+    /// The type as it is written.
+    pub fn name(self) -> &'static str
+        ensures { result.now ≡ name self }
+    {
+        match self {
+            Kind::Moov => "moov",
+            Kind::Trak => "trak",
+            Kind::Tkhd => "tkhd",
+            Kind::Mdia => "mdia",
+            Kind::Mdhd => "mdhd",
+            Kind::Mvex => "mvex",
+            Kind::Trex => "trex",
+            Kind::Moof => "moof",
+            Kind::Traf => "traf",
+            Kind::Tfhd => "tfhd",
+            Kind::Trun => "trun",
+            Kind::Mdat => "mdat",
+        }
+    }
+}
+
+impl fmt::Display for Kind {
+    ghost use Rattle.std.specs.Prelude.{Some};
+    ghost use Rattle.ll_mp4.specs.Kinds.{name};
+
+    ghost output = { λ kind. Some (name kind) };
+
+    fn fmt<W: fmt::Write>(&self, f: &mut fmt::Formatter<W>) -> fmt::Result {
+        f.write_str(self.name())
+    }
+}

@@ -1,0 +1,12 @@
+/// The only track of a movie, with the defaults of its fragments.
+#[derive(Clone, Copy, Debug, PartialEq, Eq)]
+pub struct Track {
+    /// Its ID (section 8.3.2).
+    pub id: u32,
+    /// How many ticks a second has (section 8.4.2); never 0.
+    pub scale: u32,
+    /// The duration in ticks of a sample that tells none (section 8.8.3).
+    pub duration: u32,
+    /// The flags of a sample that tells none (section 8.8.3).
+    pub flags: u32,
+}

@@ -1,0 +1,5 @@
+mod GivenLaws
+mod JudgeLemmas
+mod StepLemmas
+mod StreamLaws
+mod WorkedExamples

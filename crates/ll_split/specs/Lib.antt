@@ -1,0 +1,6 @@
+pub mod Laws
+pub mod Meaning
+pub mod Past
+pub mod Pieces
+pub mod Streams
+pub mod Worked
