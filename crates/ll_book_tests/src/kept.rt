@@ -4,7 +4,7 @@ ghost use Rattle.ll_verdict.specs.Waiting.{AreBelow};
 
 use ll_book::{Book, Pages, ParkFault, Release, Released, release_law};
 use ll_directive::Awaited;
-use ll_item::{Item, Media, Settings};
+use ll_item::{Item, Payload, Settings};
 use ll_page::{Rendition, Shown};
 use ll_range::Ranges;
 use ll_verdict::{Entry, Settled, Wanted};
@@ -132,7 +132,7 @@ fn pages_of(
 /// A rendition to which this part was published. No item that is refused is told apart from no memory.
 fn rendition_of(alloc: Global, settings: &Settings, text: &str) -> Result<Rendition, AllocError> {
     let mut window = Window::new(alloc, settings)?;
-    let Ok(item) = Item::read(alloc, settings, text, Media::none()) else {
+    let Ok(item) = Item::read(alloc, settings, text, &Payload::none()) else {
         return Err(AllocError);
     };
     if window.push(item).is_err() {

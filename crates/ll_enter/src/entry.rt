@@ -144,7 +144,7 @@ fn collect(
     if !replayer.room().is_open(ask) {
         return Err(CheckKind::Refused);
     }
-    let reply = outcome_in(&replayer.collect(ask));
+    let reply = outcome_in(replayer.collect(ask));
     if !is_same(Some(outcome), told(version, reply)) {
         return Err(CheckKind::WrongReply);
     }
@@ -176,8 +176,8 @@ pub(crate) fn is_after(ask: u64, asks: u64) -> bool
 }
 
 /// What a reply comes to, where there is one.
-fn outcome_in(reply: &Option<Stamped<Reply>>) -> Option<Outcome>
-    ensures { result ≡ option_map (λ (m : StampedValue verdict.Reply). outcome_of m.value) reply.now }
+fn outcome_in(reply: Option<Stamped<Reply>>) -> Option<Outcome>
+    ensures { result ≡ option_map (λ (m : StampedValue verdict.Reply). outcome_of m.value) reply }
 {
     match reply {
         Some(reply) => Some(reply.get().outcome()),

@@ -1,7 +1,7 @@
 -- The line of an entry is read as that entry, in the format that is written; and the fields of a line are read again in each format.
-use Rattle.std.proofs.Common.{◌≡◌, ℕ, ◌≤◌, ◌-◌, ◌++◌, List, [], true, false, Option, Some, None, Ok, refl, ap, sym, ◌∙◌, codes, decimal, length, take, length-append, bytes_eq, arith, if◌then◌else◌}
+use Rattle.std.proofs.Common.{◌≡◌, ℕ, ◌≤◌, ◌++◌, List, [], true, false, Option, Some, None, Ok, refl, ap, sym, subst, ◌∙◌, codes, decimal, length, bytes_eq, arith, if◌then◌else◌}
 use Rattle.std.proofs.lemmas.Bool.{and_from}
-use Rattle.std.proofs.lemmas.List.{append-nil}
+use Rattle.std.proofs.lemmas.List.{append-nil, length-replicate}
 use Rattle.ll_attr.specs.declared.attributes.Attribute.{Attribute}
 use Rattle.ll_directive.specs.Targets.{WantValue}
 use Rattle.ll_directive.specs.declared.want.Awaited.{Awaited}
@@ -10,8 +10,8 @@ use Rattle.ll_format.specs.Format.{◌>>=◌, Format, up_to}
 use Rattle.ll_format.specs.Words.{is_one_line}
 use Rattle.ll_format.proofs.FormatLaws.{FormatLaws, WordLaws, up_to-laws, to_end-laws, key_again, inside_both}
 use Rattle.ll_item.proofs.LastWord.{cut-is, words-more}
-use Rattle.ll_item.specs.Items.{media_of}
-use Rattle.ll_item.specs.Media.{media_limit}
+use Rattle.ll_item.specs.Items.{blank, item_in, media_of}
+use Rattle.ll_item.specs.Media.{media_limit, zeros}
 use Rattle.ll_item.specs.Names.{is_name}
 use Rattle.ll_item.specs.Settings.{Configuration, limit_broken}
 use Rattle.ll_item.proofs.WithinLimits.{within}
@@ -20,6 +20,7 @@ use Rattle.ll_item.specs.declared.item.Item.TheVariants as item
 use Rattle.ll_entry.specs.ItemLines.{IsWritable, item_line, part_line, init_line, break_line, end_line, range_line, unrange_line, flags_text, name_of}
 use Rattle.ll_verdict.specs.declared.reply.Outcome.{Outcome}
 use Rattle.ll_entry.specs.Entries.{reply_fields, place_fields, ask_fields, collect_fields, want_by, ask_of, collect_of, counted, entry_by, item_text, measured, media, publish_by, published, with_key, entry_in}
+use Rattle.ll_entry.specs.Blank.{blank_entry}
 use Rattle.ll_entry.specs.Laws.{EntryLaw}
 use Rattle.ll_entry.specs.Lines.{msn_of, part_of, ask_values, counted_line, entry_line, published_line, AwaitedWithin, IsSpelled}
 use Rattle.ll_entry.specs.Replies.{most, count, or_dash, WithinDash, OutcomeWithin, awaited_of}
@@ -35,10 +36,10 @@ use Rattle.ll_entry.proofs.Numbers.{number-word}
 use Rattle.ll_format.proofs.WordLaws.{number-laws}
 use Rattle.ll_entry.proofs.ReplyLaws.{count-laws, count-lacks, count-within, name-laws, name-lacks, or_dash-laws, or_dash-lacks, spaced-laws, update-laws, update-lacks, update-within, outcome-laws, or_held-laws}
 
--- the line is read as the entry, is one line, and isn't the last one of a chunk
+-- the line is read as the entry without its bytes, is one line, and isn't the last one of a chunk
 abbrev pub IsReadAgain : Configuration → Recorded → Type 0
 IsReadAgain c entry =
-    (entry_in Two c (entry_line c entry) ≡ Ok entry) × (is_one_line (entry_line c entry) ≡ true) × (bytes_eq (entry_line c entry) last_line ≡ false)
+    (entry_in Two c (entry_line c entry) ≡ Ok (blank_entry entry)) × (is_one_line (entry_line c entry) ≡ true) × (bytes_eq (entry_line c entry) last_line ≡ false)
 
 -- ---- fields
 
@@ -173,9 +174,9 @@ unrange_again : (name id : List ℕ) → item_text Two (unrange_line name id) �
 unfolding unrange_line
 unrange_again name id = refl
 
-text_again : (c : Configuration) (i : Item) → media_of i ≤ media_limit → item_text Two (published_line c i) ≡ Some (item_line c i, media_of i)
-text_again c (item.Part r duration independent finish media) few = part_again (name_of c r) (flags_text independent finish) duration media few
-text_again c (item.Init r media) few = init_again (name_of c r) media few
+text_again : (c : Configuration) (i : Item) → length (media_of i) ≤ media_limit → item_text Two (published_line c i) ≡ Some (item_line c i, length (media_of i))
+text_again c (item.Part r duration independent finish media) few = part_again (name_of c r) (flags_text independent finish) duration (length media) few
+text_again c (item.Init r media) few = init_again (name_of c r) (length media) few
 text_again c (item.Break r) few = break_again (name_of c r)
 text_again c (item.End r) few = end_again (name_of c r)
 text_again c (item.Range r id attributes) few = range_again c r id attributes
@@ -184,15 +185,15 @@ text_again c (item.Unrange r id) few = unrange_again (name_of c r) id
 counted_one : (line : List ℕ) (n : ℕ) → n ≤ media_limit → is_one_line line ≡ true → is_one_line (counted_line line n) ≡ true
 counted_one line n few h = inside_both line (codes " " ++ decimal n) h (number-word n (omega (arith, few))).one_line
 
-line_again : (c : Configuration) (i : Item) → media_of i ≤ media_limit → is_one_line (item_line c i) ≡ true → is_one_line (published_line c i) ≡ true
-line_again c (item.Part r duration independent finish media) few h = counted_one (item_line c (item.Part r duration independent finish media)) media few h
-line_again c (item.Init r media) few h = counted_one (item_line c (item.Init r media)) media few h
+line_again : (c : Configuration) (i : Item) → length (media_of i) ≤ media_limit → is_one_line (item_line c i) ≡ true → is_one_line (published_line c i) ≡ true
+line_again c (item.Part r duration independent finish media) few h = counted_one (item_line c (item.Part r duration independent finish media)) (length media) few h
+line_again c (item.Init r media) few h = counted_one (item_line c (item.Init r media)) (length media) few h
 line_again c (item.Break r) few h = h
 line_again c (item.End r) few h = h
 line_again c (item.Range r id attributes) few h = h
 line_again c (item.Unrange r id) few h = h
 
-few-bytes : (c : Configuration) (i : Item) → IsWritable c i → media_of i ≤ media_limit
+few-bytes : (c : Configuration) (i : Item) → IsWritable c i → length (media_of i) ≤ media_limit
 few-bytes c (item.Part r duration independent finish media) h = h.2
 few-bytes c (item.Init r media) h = h.1
 few-bytes c (item.Break r) h = omega arith
@@ -200,9 +201,24 @@ few-bytes c (item.End r) h = omega arith
 few-bytes c (item.Range r id attributes) h = omega arith
 few-bytes c (item.Unrange r id) h = omega arith
 
+-- so many zeros are as many bytes
+as_many : (media : List ℕ) → length media ≤ media_limit → length (zeros (length media)) ≤ media_limit
+as_many media few = subst (λ n. n ≤ media_limit) (sym (length-replicate (length media) 0)) few
+
+-- the line of an item is read as the item with zeros in place of its bytes
+blank_back : (c : Configuration) (i : Item) → limit_broken c ≡ None → IsWritable c i
+    → (item_in c (item_line c i) (zeros (length (media_of i))) ≡ Ok (blank i)) × (is_one_line (item_line c i) ≡ true)
+blank_back c (item.Part r duration independent finish media) none h =
+    item_back c (item.Part r duration independent finish (zeros (length media))) none (h.0, h.1, as_many media h.2)
+blank_back c (item.Init r media) none h = item_back c (item.Init r (zeros (length media))) none (h.0, as_many media h.1)
+blank_back c (item.Break r) none h = item_back c (item.Break r) none h
+blank_back c (item.End r) none h = item_back c (item.End r) none h
+blank_back c (item.Range r id attributes) none h = item_back c (item.Range r id attributes) none h
+blank_back c (item.Unrange r id) none h = item_back c (item.Unrange r id) none h
+
 item_again : (c : Configuration) (i : Item) → limit_broken c ≡ None → IsWritable c i → IsReadAgain c (Publish i)
 item_again c i none h =
-    let t = item_back c i none h in
+    let t = blank_back c i none h in
     let few = few-bytes c i h in (
       ap (λ t. with_key t (λ text. publish_by c (item_text Two text)) (entry_by None)) (key_again (codes "P ") (published_line c i))
           ∙ ap (publish_by c) (text_again c i few)

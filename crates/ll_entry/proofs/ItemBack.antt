@@ -45,7 +45,7 @@ flags_back true false = refl
 flags_back false true = refl
 flags_back true true = refl
 
-part_back : (c : Configuration) (name : List ℕ) (r duration media : ℕ) (independent finish : Bool) → IsTold c name r → duration < 2 ^ 64
+part_back : (c : Configuration) (name : List ℕ) (r duration : ℕ) (media : List ℕ) (independent finish : Bool) → IsTold c name r → duration < 2 ^ 64
     → Comes c (part_line name duration (flags_text independent finish)) (Part r duration independent finish media)
 unfolding part_line
 part_back c name r duration media independent finish t small =
@@ -60,7 +60,7 @@ part_back c name r duration media independent finish t small =
       words_line (codes "part" ∷ rest) all,
     )
 
-init_back : (c : Configuration) (name : List ℕ) (r media : ℕ) → IsTold c name r → Comes c (init_line name) (Init r media)
+init_back : (c : Configuration) (name : List ℕ) (r : ℕ) (media : List ℕ) → IsTold c name r → Comes c (init_line name) (Init r media)
 unfolding init_line
 init_back c name r media t =
     let all : AreWords (codes "init" ∷ name ∷ []) = also (record { spaceless = refl; one_line = refl }) (also t.word no_more) in
@@ -70,13 +70,13 @@ break_back : (c : Configuration) (name : List ℕ) (r : ℕ) → IsTold c name r
 unfolding break_line
 break_back c name r t =
     let all : AreWords (codes "break" ∷ name ∷ []) = also (record { spaceless = refl; one_line = refl }) (also t.word no_more) in
-    (ap (λ ws. item_of c ws 0) (words_back (codes "break") (name ∷ []) all) ∙ ap break_at t.back, words_line (codes "break" ∷ name ∷ []) all)
+    (ap (λ ws. item_of c ws []) (words_back (codes "break") (name ∷ []) all) ∙ ap break_at t.back, words_line (codes "break" ∷ name ∷ []) all)
 
 end_back : (c : Configuration) (name : List ℕ) (r : ℕ) → IsTold c name r → Comes c (end_line name) (End r)
 unfolding end_line
 end_back c name r t =
     let all : AreWords (codes "end" ∷ name ∷ []) = also (record { spaceless = refl; one_line = refl }) (also t.word no_more) in
-    (ap (λ ws. item_of c ws 0) (words_back (codes "end") (name ∷ []) all) ∙ ap end_at t.back, words_line (codes "end" ∷ name ∷ []) all)
+    (ap (λ ws. item_of c ws []) (words_back (codes "end") (name ∷ []) all) ∙ ap end_at t.back, words_line (codes "end" ∷ name ∷ []) all)
 
 -- a kind, a name, and what stands after it up to the line's end
 rest_words : (kind name text : List ℕ) → lacks 32 kind ≡ true → IsWord name → words (kind ++ (32 ∷ (name ++ (32 ∷ text)))) ≡ kind ∷ name ∷ words text
@@ -91,7 +91,7 @@ range_back : (c : Configuration) (name id : List ℕ) (r : ℕ) (attributes : Li
 unfolding range_line
 range_back c name id r attributes t read =
     let list = spelling (with_id id attributes) in (
-      ap (λ ws. item_of c ws 0) (rest_words (codes "range") name list refl t.word)
+      ap (λ ws. item_of c ws []) (rest_words (codes "range") name list refl t.word)
           ∙ range_words c name list
           ∙ ap (λ n. range_at n list) t.back
           ∙ ap (range_of r) read,
@@ -101,7 +101,7 @@ range_back c name id r attributes t read =
 unrange_back : (c : Configuration) (name id : List ℕ) (r : ℕ) → IsTold c name r → is_one_line id ≡ true → Comes c (unrange_line name id) (Unrange r id)
 unfolding unrange_line
 unrange_back c name id r t one = (
-  ap (λ ws. item_of c ws 0) (rest_words (codes "unrange") name id refl t.word) ∙ unrange_words c name id ∙ ap (λ n. unrange_at n id) t.back,
+  ap (λ ws. item_of c ws []) (rest_words (codes "unrange") name id refl t.word) ∙ unrange_words c name id ∙ ap (λ n. unrange_at n id) t.back,
   rest_line (codes "unrange") name id refl t.word one,
 )
 

@@ -8,6 +8,7 @@ use Rattle.std.specs.List.{AllByRecursion, list_all}
 use Rattle.std.specs.Str.{is_utf8}
 use Rattle.ll_attr.specs.Words.{pieces_at}
 use Rattle.ll_entry.proofs.ChainLemmas.{ended-parts}
+use Rattle.ll_entry.specs.Blank.{blank_entry}
 use Rattle.ll_entry.specs.Chain.{Between, Chain, Inside, checked_from, entry_at, go_on, joined, joined_by, with_line}
 use Rattle.ll_entry.specs.Entered.{event_of, fault_in}
 use Rattle.ll_entry.specs.declared.fault.CheckFault.{CheckFault}
@@ -67,5 +68,5 @@ joined-right ch line entry utf8 read none =
 pub entry-next : EntryNextLaw
 entry-next c before after lines entry within spelled utf8 none led =
     let l = read_again c entry within spelled in
-    next c before after (after ++ event_of entry ∷ []) lines (entry_line c entry) led l.1 utf8 l.2
-    (λ earlier. joined-right (chain_of c earlier after) (entry_line c entry) entry utf8 l.0 none)
+    next c before after (after ++ event_of (blank_entry entry) ∷ []) lines (entry_line c entry) led l.1 utf8 l.2
+    (λ earlier. joined-right (chain_of c earlier after) (entry_line c entry) (blank_entry entry) utf8 l.0 none)

@@ -1,4 +1,5 @@
 pub mod AcceptedItems
+pub mod BlankLemmas
 pub mod ChainLemmas
 pub mod ChunkProof
 pub mod Cuts

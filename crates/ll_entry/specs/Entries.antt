@@ -7,7 +7,7 @@ use Rattle.ll_format.specs.Format.{Format, Word, ◌>>=◌, to_end, up_to}
 use Rattle.ll_format.specs.Words.{number}
 use Rattle.ll_item.specs.Announced.{cut_last}
 use Rattle.ll_item.specs.Items.{item_in}
-use Rattle.ll_item.specs.Media.{media_limit}
+use Rattle.ll_item.specs.Media.{media_limit, zeros}
 use Rattle.ll_item.specs.Names.{is_name}
 use Rattle.ll_item.specs.Settings.{Configuration}
 use Rattle.ll_item.specs.declared.item.Item.{Item}
@@ -90,9 +90,10 @@ abbrev pub item_text : Version → List ℕ → Option (List ℕ × ℕ)
 item_text One text = if is_init_line text then None else Some (text, 0)
 item_text Two text = if is_part_line text || is_init_line text then counted text else Some (text, 0)
 
+-- an item of so many bytes: these are told by their number alone, and zeros stand for them
 abbrev pub publish_by : Configuration → Option (List ℕ × ℕ) → Result Recorded EntryFault
 publish_by c None = Err BadLine
-publish_by c (Some (text, n)) = published (item_in c text n)
+publish_by c (Some (text, n)) = published (item_in c text (zeros n))
 
 abbrev pub with_key : {A : Type 0} → Option (List ℕ) → (List ℕ → A) → A → A
 with_key (Some text) read other = read text

@@ -6,7 +6,7 @@ use Rattle.ll_item.specs.Settings.{Configuration, limit_broken, settings_in}
 use Rattle.ll_item.specs.declared.item.Item.{Item}
 use Rattle.ll_entry.specs.ItemLines.{item_line, settings_line, IsWritable}
 
--- the line of an item is read as that item, with as many bytes as it has, and is one line
+-- the line of an item is read as that item, where it has these bytes, and is one line
 abbrev pub ItemLaw : Type 0
 ItemLaw = (c : Configuration) (item : Item) → limit_broken c ≡ None → IsWritable c item
     → (item_in c (item_line c item) (media_of item) ≡ Ok item) × (is_one_line (item_line c item) ≡ true)

@@ -70,13 +70,13 @@ HasAttributes (End rendition) = Unit
 
 -- what the types of its fields keep of an item: also no more bytes than an item may have
 abbrev pub IsTyped : Item → Type 0
-IsTyped item = HasAttributes item × (media_of item ≤ media_limit)
+IsTyped item = HasAttributes item × (length (media_of item) ≤ media_limit)
 
 -- items that are read again from their lines: the rendition is one of the channel's, the duration is below 2^64, there are no more bytes than
 -- an item may have, the attributes are read from their spelling, and an id stands on one line
 abbrev pub IsWritable : Configuration → Item → Type 0
-IsWritable c (Part rendition duration independent finish media) = (rendition < length c.renditions) × (duration < 2 ^ 64) × (media ≤ media_limit)
-IsWritable c (Init rendition media) = (rendition < length c.renditions) × (media ≤ media_limit)
+IsWritable c (Part rendition duration independent finish media) = (rendition < length c.renditions) × (duration < 2 ^ 64) × (length media ≤ media_limit)
+IsWritable c (Init rendition media) = (rendition < length c.renditions) × (length media ≤ media_limit)
 IsWritable c (Break rendition) = rendition < length c.renditions
 IsWritable c (End rendition) = rendition < length c.renditions
 IsWritable c (Range rendition id attributes) =

@@ -2,6 +2,7 @@
 use Rattle.std.specs.Prelude.{◌≡◌, ℕ, ◌≤◌, List, [], ◌∷◌, ◌++◌, true, false, Option, Some, None, Ok, length, bytes_eq, codes}
 use Rattle.std.specs.Str.{is_utf8}
 use Rattle.ll_attr.specs.Words.{pieces_at}
+use Rattle.ll_entry.specs.Blank.{blank_entry}
 use Rattle.ll_entry.specs.Chain.{Between, Chain, Inside, checked_from, entries, is_channel, with_line}
 use Rattle.ll_entry.specs.Entered.{event_of, fault_in}
 use Rattle.ll_entry.specs.Lines.{IsSpelled, entry_line}
@@ -38,11 +39,11 @@ NextLaw = (c : Configuration) (before after more : List Event) (lines line : Lis
     → is_one_line line ≡ true → is_utf8 line ≡ true → bytes_eq line last_line ≡ false → ((earlier : ℕ) → with_line (chain_of c earlier after) line ≡ Ok (chain_of c earlier more))
     → IsLed c before (lines ++ with_end line) more
 
--- one more entry, where it is right after the events so far
+-- one more entry, where it is right after the events so far: a check knows the number of its bytes alone
 abbrev pub EntryNextLaw : Type 0
 EntryNextLaw = (c : Configuration) (before after : List Event) (lines : List ℕ) (entry : Recorded) → limit_broken c ≡ None
-    → IsSpelled c entry → is_utf8 (entry_line c entry) ≡ true → fault_in Two c after entry ≡ None → IsLed c before lines after
-    → IsLed c before (lines ++ with_end (entry_line c entry)) (after ++ event_of entry ∷ [])
+    → IsSpelled c entry → is_utf8 (entry_line c entry) ≡ true → fault_in Two c after (blank_entry entry) ≡ None → IsLed c before lines after
+    → IsLed c before (lines ++ with_end (entry_line c entry)) (after ++ event_of (blank_entry entry) ∷ [])
 
 -- the chunk of these lines of entries, with so many entries before it
 unfoldable pub chunk_text : Configuration → ℕ → List ℕ → List ℕ

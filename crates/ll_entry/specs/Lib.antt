@@ -1,3 +1,4 @@
+pub mod Blank
 pub mod Chain
 pub mod Entered
 pub mod Entries

@@ -1,5 +1,5 @@
 -- How the entries of a record are spelled, in the format that is written.
-use Rattle.std.specs.Prelude.{◌≡◌, ◌≤◌, ℕ, List, ◌++◌, true, Option, Some, None, codes, decimal}
+use Rattle.std.specs.Prelude.{◌≡◌, ◌≤◌, ℕ, List, ◌++◌, true, Option, Some, None, codes, decimal, length}
 use Rattle.ll_directive.specs.Targets.{WantValue}
 use Rattle.ll_directive.specs.declared.want.Awaited.{Awaited}
 use Rattle.ll_directive.specs.declared.want.Awaited.TheVariants.{Nothing, Segment, Part}
@@ -36,8 +36,8 @@ counted_line line n = line ++ (codes " " ++ decimal n)
 
 -- the line of an item: how many bytes it has stands after that of a part and of an initialization section
 abbrev pub published_line : Configuration → Item → List ℕ
-published_line c (item.Part rendition duration independent finish media) = counted_line (item_line c (item.Part rendition duration independent finish media)) media
-published_line c (item.Init rendition media) = counted_line (item_line c (item.Init rendition media)) media
+published_line c (item.Part rendition duration independent finish media) = counted_line (item_line c (item.Part rendition duration independent finish media)) (length media)
+published_line c (item.Init rendition media) = counted_line (item_line c (item.Init rendition media)) (length media)
 published_line c (item.Break rendition) = item_line c (item.Break rendition)
 published_line c (item.Range rendition id attributes) = item_line c (item.Range rendition id attributes)
 published_line c (item.Unrange rendition id) = item_line c (item.Unrange rendition id)

@@ -1,4 +1,5 @@
 //! Facts of the definitions, proved; none of these does anything.
+ghost use Rattle.ll_entry.specs.Blank.{BlankLaw};
 ghost use Rattle.ll_entry.specs.ItemLaws.{ItemLaw, SettingsLaw};
 ghost use Rattle.ll_entry.specs.Laws.{EntryLaw};
 ghost use Rattle.ll_entry.specs.Leads.{ChunkLaw, EntryNextLaw, FirstChunkLaw, NextLaw, NothingLaw};
@@ -14,10 +15,15 @@ pub fn settings_law()
     ensures { SettingsLaw }
 {}
 
-/// What is written is read again: the line of an entry is read as that entry in the format that is written, is one line, and isn't the
+/// What is written is read again: the line of an entry is read as that entry in the format that is written, with zeros in place of bytes, is one line, and isn't the
 /// last one of a chunk.
 pub fn entry_law()
     ensures { EntryLaw }
+{}
+
+/// Whatever the bytes of items are, the same entries are right and wrong: a record that tells their number alone can be checked.
+pub fn blank_law()
+    ensures { BlankLaw }
 {}
 
 /// No lines lead from the events of a channel to the same events.

@@ -18,8 +18,8 @@ pub use entry::{EntryFault, Recorded};
 pub use fault::{CheckFault, CheckKind};
 pub use frame::{LAST_LINE, header_text, place_in};
 pub use laws::{
-    chunk_law, entry_law, entry_next_law, first_chunk_law, item_law, item_writable_law, next_law,
-    nothing_law, settings_law,
+    blank_law, chunk_law, entry_law, entry_next_law, first_chunk_law, item_law, item_writable_law,
+    next_law, nothing_law, settings_law,
 };
 pub use settings::settings_text;
 pub use version::Version;

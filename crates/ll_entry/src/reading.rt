@@ -1,10 +1,11 @@
 //! Lines read as entries.
-ghost use Rattle.std.specs.Prelude.{◌≡◌, ◌≢◌, ◌<◌, IfErr, IfOk, IsErrOf, IsOk, MatchOption, Ok, Err, IfSome, None, Some, [], is_some, true};
+ghost use Rattle.std.specs.Prelude.{◌≡◌, ◌≢◌, ◌<◌, ◌≤◌, IfErr, IfOk, IsErrOf, IsOk, MatchOption, Ok, Err, IfSome, None, Some, [], is_some, true};
 ghost use Rattle.std.specs.Option.{option_map};
 ghost use Rattle.ll_item.specs.Names.{is_name};
 ghost use Rattle.ll_entry.specs.Entries as spec;
 ghost use Rattle.ll_entry.specs.Entries.{entry_in, publish_by, published};
 ghost use Rattle.ll_item.specs.Items.{item_in};
+ghost use Rattle.ll_item.specs.Media.{media_limit, zeros};
 
 use crate::entry::{EntryFault, Recorded};
 use crate::version::Version;
@@ -12,7 +13,7 @@ use crate::words::{awaited, count, or_dash, or_held, outcome, update};
 use ll_attr::{Text, after};
 use ll_directive::Want;
 use ll_format::{number, until};
-use ll_item::{Item, MEDIA_LIMIT, Media, Settings, SkipKind, cut_last, is_name};
+use ll_item::{Item, MEDIA_LIMIT, Payload, Settings, SkipKind, cut_last, is_name};
 use ll_verdict::Outcome;
 use std::alloc::Global;
 
@@ -51,46 +52,49 @@ fn read_publish(
     ensures memory { IsErrOf result EntryFault.Memory → IsOk (publish_by settings.now (spec.item_text version text.now)) }
 {
     match item_text(version, text) {
-        Some((text, media)) => read_item(alloc, settings, text, media),
+        Some((text, length)) => read_item(alloc, settings, text, length),
         None => Err(EntryFault::BadLine),
     }
 }
 
-/// The item of this line that has so many bytes.
+/// The item of this line that has so many bytes: zeros stand for them.
 fn read_item(
     alloc: Global,
     settings: &Settings,
     line: &str,
-    media: Media,
+    length: u64,
 ) -> Result<Recorded, EntryFault>
-    ensures value { IfOk result (λ entry. published (item_in settings.now line.now media) ≡ Ok entry) }
-    ensures refused { IfErr result (λ fault. fault ≢ EntryFault.Memory → published (item_in settings.now line.now media) ≡ Err fault) }
-    ensures memory { IsErrOf result EntryFault.Memory → IsOk (published (item_in settings.now line.now media)) }
+    requires few { length ≤ media_limit }
+    ensures value { IfOk result (λ entry. published (item_in settings.now line.now (zeros length)) ≡ Ok entry) }
+    ensures refused { IfErr result (λ fault. fault ≢ EntryFault.Memory → published (item_in settings.now line.now (zeros length)) ≡ Err fault) }
+    ensures memory { IsErrOf result EntryFault.Memory → IsOk (published (item_in settings.now line.now (zeros length))) }
 {
-    let item = Item::read(alloc, settings, line, media)?;
+    let payload = Payload::of_length(length).unwrap();
+    let item = Item::read(alloc, settings, line, &payload)?;
     Ok(Recorded::Publish(item))
 }
 
 /// The line of an item, and how many bytes it has. In format 2 this number stands after the line of a part and of an initialization section;
 /// format 1 knows no initialization sections and tells no bytes of parts.
-fn item_text(version: Version, text: &str) -> Option<(&str, Media)>
-    ensures { MatchOption result (spec.item_text version text.now ≡ None) (λ item. spec.item_text version text.now ≡ Some (item.0.now, item.1)) }
+fn item_text(version: Version, text: &str) -> Option<(&str, u64)>
+    ensures value { MatchOption result (spec.item_text version text.now ≡ None) (λ item. spec.item_text version text.now ≡ Some (item.0.now, item.1)) }
+    ensures few { IfSome result (λ item. item.1 ≤ media_limit) }
 {
     let is_init = after(text, "init ").is_some();
     match version {
         Version::One if is_init => None,
         Version::Two if is_init || after(text, "part ").is_some() => counted(text),
-        _ => Some((text, Media::none())),
+        _ => Some((text, 0)),
     }
 }
 
 /// The line of an item, and how many bytes it has, where this number stands after the line.
-fn counted(text: &str) -> Option<(&str, Media)>
-    ensures { MatchOption result (spec.counted text.now ≡ None) (λ item. spec.counted text.now ≡ Some (item.0.now, item.1)) }
+fn counted(text: &str) -> Option<(&str, u64)>
+    ensures value { MatchOption result (spec.counted text.now ≡ None) (λ item. spec.counted text.now ≡ Some (item.0.now, item.1)) }
+    ensures few { IfSome result (λ item. item.1 ≤ media_limit) }
 {
     let (text, length) = cut_last(text)?;
-    let length = number(length, MEDIA_LIMIT)?;
-    Some((text, Media::of_length(length)?))
+    Some((text, number(length, MEDIA_LIMIT)?))
 }
 
 /// A reading, a reply that was handed out, or a request that was given up.

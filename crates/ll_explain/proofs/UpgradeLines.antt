@@ -25,6 +25,7 @@ use Rattle.ll_entry.proofs.ToldLemmas.{told-right, whole-entry}
 use Rattle.ll_entry.specs.Chain.{Chain, entry_at}
 use Rattle.ll_entry.specs.Entries.{ask_fields, ask_in, ask_of, collect_fields, counted, collect_of, entry_by, entry_in, is_init_line, is_part_line, item_text, publish_by, published, short_in, want_by, with_key}
 use Rattle.ll_entry.specs.Frame.{last_line}
+use Rattle.ll_entry.specs.Blank.{blank_entry}
 use Rattle.ll_entry.specs.Lines.{AwaitedWithin, IsSpelled, counted_line, entry_line, msn_of, part_of}
 use Rattle.ll_entry.specs.Replies.{HeldWithin, OutcomeWithin, WithinDash, asked_for, awaited_of, count, most, or_dash, or_dash_text, or_held_text, outcome_text, told_in, update}
 use Rattle.ll_entry.specs.Told.{as_told, entry_after}
@@ -36,6 +37,7 @@ use Rattle.ll_format.proofs.FormatLaws.{FormatLaws, bind_some, guarded, key_agai
 use Rattle.ll_format.proofs.WordLaws.{lacks_from, number-lacks}
 use Rattle.ll_format.specs.Format.{◌>>=◌, up_to}
 use Rattle.ll_item.specs.Items.{item_in}
+use Rattle.ll_item.specs.Media.{zeros}
 use Rattle.ll_item.specs.Names.{is_name, is_name_byte}
 use Rattle.ll_item.specs.Settings.{Configuration, configuration_of, limit_broken, settings_by, settings_in, unless_broken}
 use Rattle.ll_item.specs.declared.item.Item.{Item}
@@ -152,7 +154,7 @@ published_is (Err fault) entry h = cc
 
 published_by : (c : Configuration) (o : Option (List ℕ × ℕ)) (entry : Recorded) → publish_by c o ≡ Ok entry → (item : Item) × (entry ≡ recorded.Publish item)
 published_by c None entry h = cc
-published_by c (Some (text, n)) entry h = published_is (item_in c text n) entry h
+published_by c (Some (text, n)) entry h = published_is (item_in c text (zeros n)) entry h
 
 publish-read : (v : Version) (c : Configuration) (line text : List ℕ) (entry : Recorded) → after (codes "P ") line ≡ Some text
     → publish_by c (item_text v text) ≡ Ok entry → IsReadBy v c line entry
@@ -308,10 +310,10 @@ pub record IsNew (c : Configuration) (entry : Recorded) (line : List ℕ) : Type
   pub read : entry_in Two c line ≡ Ok entry
   pub text : IsLine line
 
--- a line that is spelled as in format 2 stays
-same-new : (c : Configuration) (line : List ℕ) (entry : Recorded) → limit_broken c ≡ None → IsLine line → IsSpelled c entry → line ≡ entry_line c entry
-    → IsNew c entry line
-same-new c line entry limits l spelled is = record { read = ap (entry_in Two c) is ∙ (read_again c entry limits spelled).0; text = l }
+-- a line that is spelled as in format 2 stays; it has no bytes
+same-new : (c : Configuration) (line : List ℕ) (entry : Recorded) → limit_broken c ≡ None → IsLine line → blank_entry entry ≡ entry → IsSpelled c entry
+    → line ≡ entry_line c entry → IsNew c entry line
+same-new c line entry limits l bare spelled is = record { read = ap (entry_in Two c) is ∙ (read_again c entry limits spelled).0 ∙ ap Ok bare; text = l }
 
 one-new : (c : Configuration) (line : List ℕ) (entry : Recorded) → limit_broken c ≡ None → IsLine line → IsReadBy One c line (as_told One entry)
     → IsNew c entry (upgraded_line One c line (without_item entry))
@@ -322,11 +324,11 @@ one-new c line (recorded.Publish item) limits l r = record {
 one-new c line (recorded.Ask ask want reply) limits l r =
     let spelled : IsSpelled c (recorded.Ask ask want reply) = (r.0, r.1, r.2, r.3, held_within reply r.4) in
     record { read = (read_again c (recorded.Ask ask want reply) limits spelled).0; text = ask-line c ask want reply spelled }
-one-new c line (recorded.Clock ms) limits l r = same-new c line (recorded.Clock ms) limits l r.1 r.0
+one-new c line (recorded.Clock ms) limits l r = same-new c line (recorded.Clock ms) limits l refl r.1 r.0
 one-new c line (recorded.Collect ask reply) limits l r =
     let spelled : IsSpelled c (recorded.Collect ask reply) = (r.0, told_within reply r.1) in
     record { read = (read_again c (recorded.Collect ask reply) limits spelled).0; text = collect-line c ask reply spelled }
-one-new c line (recorded.Close ask) limits l r = same-new c line (recorded.Close ask) limits l r.1 r.0
+one-new c line (recorded.Close ask) limits l r = same-new c line (recorded.Close ask) limits l refl r.1 r.0
 
 -- the line that an entry has in format 2, where its line in a format is given
 pub new-line : (v : Version) (c : Configuration) (line : List ℕ) (entry : Recorded) → limit_broken c ≡ None → IsLine line

@@ -1,5 +1,5 @@
 use crate::rows::{column, number};
-use ll_item::{Item, Media, Settings, SettingsFault};
+use ll_item::{Item, Payload, Settings, SettingsFault};
 use ll_page::{Page, Rendition, Shown, SkipKind, View, delta, full};
 use ll_range::Ranges;
 use ll_window::Window;
@@ -151,7 +151,7 @@ impl Channel {
 
     /// Adds the item of a line: whether it is taken.
     pub(crate) fn publish_line(&mut self, alloc: Global, line: &str) -> bool {
-        let Ok(item) = Item::read(alloc, &self.settings, line, Media::none()) else {
+        let Ok(item) = Item::read(alloc, &self.settings, line, &Payload::none()) else {
             return false;
         };
         match self.renditions.get_mut(item.rendition()) {

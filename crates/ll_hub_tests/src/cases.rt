@@ -4,7 +4,7 @@ ghost use Rattle.std.specs.Prelude.{◌≡◌};
 use crate::rows::{number, push, push_three};
 use ll_directive::read_target;
 use ll_hub::{Blanks, Claim, Clock, Hub, HubAsked, HubFault, Ledgers, Pass, Totals};
-use ll_item::{Item, Media, Settings};
+use ll_item::{Item, Payload, Settings};
 use ll_verdict::Reply;
 use std::alloc::{AllocError, Global};
 use std::process::Abort;
@@ -137,7 +137,7 @@ pub(crate) fn publish<L: Ledgers, R: Wait + Abort>(
     line: &str,
 ) -> Result<u64, HubFault> {
     let settings = settings(rt, alloc, CAM);
-    let item = Item::read(alloc, &settings, line, Media::none()).expect(rt, "an item");
+    let item = Item::read(alloc, &settings, line, &Payload::none()).expect(rt, "an item");
     let count = hub.publish(rt, pass, channel, item)?;
     Ok(count.into_inner())
 }

@@ -9,7 +9,7 @@ use crate::rows::{number, push, same, same_number};
 use ll_check::check;
 use ll_directive::read_target;
 use ll_hub::{Blanks, Hub, Ledgers, Pass, Sink};
-use ll_item::{Item, Media};
+use ll_item::{Item, Payload};
 use ll_record::Chunk;
 use ll_room::Replayer;
 use ll_verdict::Reply;
@@ -157,7 +157,7 @@ fn playlist(reply: &Option<Reply>) -> &str {
 
 /// Publishes an item where it is kept without a hub.
 fn keep(rt: &impl Abort, alloc: Global, replayer: &mut Replayer, line: &str) {
-    let item = Item::read(alloc, replayer.room().settings(), line, Media::none()).expect(
+    let item = Item::read(alloc, replayer.room().settings(), line, &Payload::none()).expect(
         rt, "an item",
     );
     assert!(rt; replayer.publish(item).is_ok());

@@ -1,5 +1,5 @@
 -- What a publisher announces, and the lines that spell it.
-use Rattle.std.specs.Prelude.{ℕ, List, [], ◌∷◌, Bool, true, false, Option, Some, None, Result, Ok, Err, if◌then◌else◌, ◌==◌, position, bytes_eq, codes}
+use Rattle.std.specs.Prelude.{ℕ, List, [], ◌∷◌, Bool, true, false, Option, Some, None, Result, Ok, Err, if◌then◌else◌, ◌==◌, length, position, bytes_eq, codes}
 use Rattle.ll_attr.specs.Numbers.{number_in}
 use Rattle.ll_attr.specs.Words.{words, joined}
 use Rattle.ll_attr.specs.Attributes.{attributes_in}
@@ -7,6 +7,7 @@ use Rattle.ll_attr.specs.declared.attributes.Attribute.{Attribute}
 use Rattle.ll_attr.specs.declared.attributes.AttrFault.{AttrFault}
 use Rattle.ll_attr.specs.declared.attributes.AttrValue.{AttrValue}
 use Rattle.ll_attr.specs.declared.attributes.AttrValue.TheVariants.{Quoted, Bare}
+use Rattle.ll_item.specs.Media.{zeros}
 use Rattle.ll_item.specs.Names.{is_name}
 use Rattle.ll_item.specs.Settings.{Configuration}
 use Rattle.ll_item.specs.declared.item.Item.{Item}
@@ -23,14 +24,23 @@ rendition_of (End rendition) = rendition
 rendition_of (Range rendition id attributes) = rendition
 rendition_of (Unrange rendition id) = rendition
 
--- how many bytes an item has
-abbrev pub media_of : Item → ℕ
+-- the bytes of an item
+abbrev pub media_of : Item → List ℕ
 media_of (Part rendition duration independent finish media) = media
 media_of (Init rendition media) = media
-media_of (Break rendition) = 0
-media_of (End rendition) = 0
-media_of (Range rendition id attributes) = 0
-media_of (Unrange rendition id) = 0
+media_of (Break rendition) = []
+media_of (End rendition) = []
+media_of (Range rendition id attributes) = []
+media_of (Unrange rendition id) = []
+
+-- the item with zeros in place of its bytes: what is known of it where only their number is
+abbrev pub blank : Item → Item
+blank (Part rendition duration independent finish media) = Part rendition duration independent finish (zeros (length media))
+blank (Init rendition media) = Init rendition (zeros (length media))
+blank (Break rendition) = Break rendition
+blank (End rendition) = End rendition
+blank (Range rendition id attributes) = Range rendition id attributes
+blank (Unrange rendition id) = Unrange rendition id
 
 -- whether an item adds a date range or takes one away
 abbrev pub is_about_ranges : Item → Bool
@@ -62,17 +72,17 @@ named_at (Some rendition) = Ok rendition
 abbrev pub named : Configuration → List ℕ → Result ℕ ItemFault
 named c name = if is_name name then named_at (rendition_named c name) else Err BadLine
 
-abbrev pub part_at : Result ℕ ItemFault → ℕ → Bool × Bool → ℕ → Result Item ItemFault
+abbrev pub part_at : Result ℕ ItemFault → ℕ → Bool × Bool → List ℕ → Result Item ItemFault
 part_at (Err fault) duration flags media = Err fault
 part_at (Ok rendition) duration flags media = Ok (Part rendition duration flags.0 flags.1 media)
 
-abbrev pub part_by : Configuration → List ℕ → Option ℕ → Option (Bool × Bool) → ℕ → Result Item ItemFault
+abbrev pub part_by : Configuration → List ℕ → Option ℕ → Option (Bool × Bool) → List ℕ → Result Item ItemFault
 part_by c name None flags media = Err BadLine
 part_by c name (Some duration) None media = Err BadLine
 part_by c name (Some duration) (Some flags) media = part_at (named c name) duration flags media
 
 -- `RENDITION MICROSECONDS FLAGS`
-abbrev pub part_in : Configuration → List (List ℕ) → ℕ → Result Item ItemFault
+abbrev pub part_in : Configuration → List (List ℕ) → List ℕ → Result Item ItemFault
 part_in c (name ∷ duration ∷ flags ∷ []) media = part_by c name (number_in 20 duration) (flags_in flags) media
 part_in c other media = Err BadLine
 
@@ -81,7 +91,7 @@ abbrev pub alone_in : Configuration → List (List ℕ) → Result ℕ ItemFault
 alone_in c (name ∷ []) = named c name
 alone_in c other = Err BadLine
 
-abbrev pub init_at : Result ℕ ItemFault → ℕ → Result Item ItemFault
+abbrev pub init_at : Result ℕ ItemFault → List ℕ → Result Item ItemFault
 init_at (Err fault) media = Err fault
 init_at (Ok rendition) media = Ok (Init rendition media)
 
@@ -131,15 +141,15 @@ bare_of c kind rest =
     else if bytes_eq kind (codes "end") then end_at (alone_in c rest)
     else Err BadLine
 
--- `part RENDITION MICROSECONDS FLAGS` or `init RENDITION` with so many bytes, or an item that has none
-abbrev pub item_of : Configuration → List (List ℕ) → ℕ → Result Item ItemFault
+-- `part RENDITION MICROSECONDS FLAGS` or `init RENDITION` with these bytes, or an item that has none
+abbrev pub item_of : Configuration → List (List ℕ) → List ℕ → Result Item ItemFault
 item_of c [] media = Err BadLine
 item_of c (kind ∷ rest) media =
     if bytes_eq kind (codes "part") then part_in c rest media
     else if bytes_eq kind (codes "init") then init_at (alone_in c rest) media
-    else if media == 0 then bare_of c kind rest
+    else if length media == 0 then bare_of c kind rest
     else Err BadLine
 
--- the item that a line spells which has so many bytes, or what is wrong with it
-abbrev pub item_in : Configuration → List ℕ → ℕ → Result Item ItemFault
+-- the item that a line spells which has these bytes, or what is wrong with it
+abbrev pub item_in : Configuration → List ℕ → List ℕ → Result Item ItemFault
 item_in c line media = item_of c (words line) media

@@ -2,6 +2,7 @@ pub mod Announced
 pub mod ChannelPlaces
 pub mod Channels
 pub mod Configured
+pub mod Contents
 pub mod Items
 pub mod Media
 pub mod Names

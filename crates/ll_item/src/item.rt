@@ -8,7 +8,7 @@ use std::alloc::AllocError;
 use thiserror::Error;
 
 /// What a publisher announces.
-#[derive(Debug, Drop, PartialEq)]
+#[derive(Drop)]
 pub enum Item {
     /// The next part of a rendition (EXT-X-PART, section 4.4.4.9).
     Part {
@@ -20,14 +20,15 @@ pub enum Item {
         independent: bool,
         /// Whether it is the last part of its segment.
         finish: bool,
-        /// How many bytes it has.
+        /// Its bytes.
         media: Media,
     },
-    /// The Media Initialization Section of the segments from here on (EXT-X-MAP, section 4.4.4.5).
+    /// The Media Initialization Section of the segment that the next part belongs to, and of those after it until the next break
+    /// (EXT-X-MAP, section 4.4.4.5).
     Init {
         /// The rendition's index in the order of the settings.
         rendition: usize,
-        /// How many bytes it has.
+        /// Its bytes.
         media: Media,
     },
     /// What follows is encoded otherwise than what came before: the next segment is broken from the last one
@@ -124,11 +125,11 @@ impl Item {
                 duration: *duration,
                 independent: *independent,
                 finish: *finish,
-                media: *media,
+                media: media.copy()?,
             },
             Item::Init { rendition, media } => Item::Init {
                 rendition: *rendition,
-                media: *media,
+                media: media.copy()?,
             },
             Item::Break { rendition } => Item::Break {
                 rendition: *rendition,

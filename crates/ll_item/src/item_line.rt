@@ -1,5 +1,5 @@
 //! The lines that spell items.
-ghost use Rattle.std.specs.Prelude.{◌≡◌, ◌≢◌, ◌∷◌, [], ℕ, MatchOption, IfOk, IfErr, IsOk, IsErrOf, Ok, Err};
+ghost use Rattle.std.specs.Prelude.{◌≡◌, ◌≢◌, ◌∷◌, [], ℕ, List, MatchOption, IfOk, IfErr, IsOk, IsErrOf, Ok, Err};
 ghost use Rattle.ll_attr.specs.Attributes.{attributes_in};
 ghost use Rattle.ll_attr.specs.Words.{words};
 ghost use Rattle.ll_item.specs.Settings.{Configuration};
@@ -7,7 +7,7 @@ ghost use Rattle.ll_item.specs.Items.{item_in, part_in, alone_in, flags_in, rang
 ghost use Rattle.ll_item.specs.Items as spec;
 
 use crate::item::{Item, ItemFault};
-use crate::media::Media;
+use crate::media::{Media, Payload};
 use crate::name::is_name;
 use crate::settings::Settings;
 use crate::words::one_word;
@@ -24,21 +24,20 @@ impl Item {
         alloc: Global,
         settings: &Settings,
         line: &str,
-        media: Media,
+        payload: &Payload<'_>,
     ) -> Result<Item, ItemFault>
-        ensures value { IfOk result (λ item. item_in settings.now line.now media ≡ Ok item) }
-        ensures refused { IfErr result (λ fault. fault ≢ ItemFault.Memory → item_in settings.now line.now media ≡ Err fault) }
-        ensures memory { IsErrOf result ItemFault.Memory → IsOk (item_in settings.now line.now media) }
+        ensures value { IfOk result (λ item. item_in settings.now line.now payload.now ≡ Ok item) }
+        ensures refused { IfErr result (λ fault. fault ≢ ItemFault.Memory → item_in settings.now line.now payload.now ≡ Err fault) }
+        ensures memory { IsErrOf result ItemFault.Memory → IsOk (item_in settings.now line.now payload.now) }
     {
         let Some((kind, rest)) = cut(line, ' ') else {
             return Err(ItemFault::BadLine);
         };
         if kind == "part" {
-            read_part(settings, rest, media)
+            read_part(alloc, settings, rest, payload)
         } else if kind == "init" {
-            let rendition = read_alone(settings, rest)?;
-            Ok(Item::Init { rendition, media })
-        } else if media.is_empty() {
+            read_init(alloc, settings, rest, payload)
+        } else if payload.is_empty() {
             read_bare(alloc, settings, kind, rest)
         } else {
             Err(ItemFault::BadLine)
@@ -68,9 +67,15 @@ fn read_bare(alloc: Global, settings: &Settings, kind: &str, rest: &str) -> Resu
 }
 
 /// The part whose rendition, duration and flags are the words of this text.
-fn read_part(settings: &Settings, text: &str, media: Media) -> Result<Item, ItemFault>
-    ensures value { result ≡ part_in settings.now (words text.now) media }
-    ensures not_memory { IfErr result (λ fault. fault ≢ ItemFault.Memory) }
+fn read_part(
+    alloc: Global,
+    settings: &Settings,
+    text: &str,
+    payload: &Payload<'_>,
+) -> Result<Item, ItemFault>
+    ensures value { IfOk result (λ item. part_in settings.now (words text.now) payload.now ≡ Ok item) }
+    ensures refused { IfErr result (λ fault. fault ≢ ItemFault.Memory → part_in settings.now (words text.now) payload.now ≡ Err fault) }
+    ensures memory { IsErrOf result ItemFault.Memory → IsOk (part_in settings.now (words text.now) payload.now) }
 {
     let Some((name, duration, flags)) = part_words(text) else {
         return Err(ItemFault::BadLine);
@@ -81,18 +86,37 @@ fn read_part(settings: &Settings, text: &str, media: Media) -> Result<Item, Item
     let Some((independent, finish)) = part_flags(flags) else {
         return Err(ItemFault::BadLine);
     };
+    let rendition = named(settings, name)?;
     Ok(Item::Part {
-        rendition: named(settings, name)?,
+        rendition,
         duration,
         independent,
         finish,
-        media,
+        media: Media::new(alloc, payload)?,
+    })
+}
+
+/// The initialization section whose rendition's name is this text.
+fn read_init(
+    alloc: Global,
+    settings: &Settings,
+    text: &str,
+    payload: &Payload<'_>,
+) -> Result<Item, ItemFault>
+    ensures value { IfOk result (λ item. spec.init_at (alone_in settings.now (words text.now)) payload.now ≡ Ok item) }
+    ensures refused { IfErr result (λ fault. fault ≢ ItemFault.Memory → spec.init_at (alone_in settings.now (words text.now)) payload.now ≡ Err fault) }
+    ensures memory { IsErrOf result ItemFault.Memory → IsOk (spec.init_at (alone_in settings.now (words text.now)) payload.now) }
+{
+    let rendition = read_alone(settings, text)?;
+    Ok(Item::Init {
+        rendition,
+        media: Media::new(alloc, payload)?,
     })
 }
 
 /// The rendition's name, the duration and the flags of a part, where there are three words.
 fn part_words(text: &str) -> Option<(&str, &str, &str)>
-    ensures { (c : Configuration) (media : ℕ) → MatchOption result (part_in c (words text.now) media ≡ Err ItemFault.BadLine)
+    ensures { (c : Configuration) (media : List ℕ) → MatchOption result (part_in c (words text.now) media ≡ Err ItemFault.BadLine)
         (λ w. words text.now ≡ w.0.now ∷ w.1.now ∷ w.2.now ∷ []) }
 {
     let (name, rest) = cut(text, ' ')?;

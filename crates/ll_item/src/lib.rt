@@ -19,7 +19,7 @@ pub use channels::Channels;
 pub use item::{Item, ItemFault};
 pub use item_bytes::{announced, cut_last, lacks_length, told_bytes};
 pub use limits::limits_law;
-pub use media::{MEDIA_LIMIT, Media};
+pub use media::{MEDIA_LIMIT, Media, Payload};
 pub use name::is_name;
 pub use part::Part;
 pub use settings::{Settings, SettingsFault};

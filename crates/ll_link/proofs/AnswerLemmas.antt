@@ -20,10 +20,11 @@ told_answer (Ok told) = Ok told.0
 told_answer (Err fault) = Err fault
 
 -- what is told of an item that a known channel can't read is this refusal
-pub told_once : {H F : Type 0} (channels : List Configuration) (name text : List ℕ) (n place : ℕ) (c : Configuration) (told : Result (Result ℕ Refusal × Option H) F) (reason : Refusal)
-    → channel_of_name channels 0 name ≡ Some (place, c) → ((fault : ItemFault) → item_in c text n ≡ Err fault → told ≡ Ok (Err (item_refusal fault), None))
-    → refused_in (channel_of_name channels 0 name) text n ≡ Some reason → told_answer told ≡ Ok (Err reason)
-told_once channels name text n place c told reason k once e =
-    let known : refused_item (item_in c text n) ≡ Some reason = rw k at e in
-    let f = refused_item-some (item_in c text n) reason known in
+pub told_once : {A H F : Type 0} (channels : List Configuration) (name text media : List ℕ) (place : ℕ) (c : Configuration) (told : Result (Result A Refusal × Option H) F)
+    (reason : Refusal)
+    → channel_of_name channels 0 name ≡ Some (place, c) → ((fault : ItemFault) → item_in c text media ≡ Err fault → told ≡ Ok (Err (item_refusal fault), None))
+    → refused_in (channel_of_name channels 0 name) text media ≡ Some reason → told_answer told ≡ Ok (Err reason)
+told_once channels name text media place c told reason k once e =
+    let known : refused_item (item_in c text media) ≡ Some reason = rw k at e in
+    let f = refused_item-some (item_in c text media) reason known in
     ap told_answer (once f.0 f.1) ∙ ap (λ r. Ok (Err r)) f.2

@@ -1,5 +1,5 @@
 -- What is answered where no verdict of a channel stands behind it.
-use Rattle.std.specs.Prelude.{ℕ, List, Option, Some, None, Result, Ok, Err, if◌then◌else◌, length, nat_le}
+use Rattle.std.specs.Prelude.{◌≡◌, ℕ, List, Option, Some, None, Result, Ok, Err, if◌then◌else◌, length, nat_le}
 use Rattle.ll_item.specs.Items.{item_in}
 use Rattle.ll_item.specs.Media.{media_limit}
 use Rattle.ll_item.specs.Settings.{Configuration}
@@ -14,6 +14,8 @@ use Rattle.ll_locked.specs.declared.fault.HubFault.{HubFault}
 use Rattle.ll_locked.specs.declared.fault.HubFault.TheVariants as hub
 use Rattle.ll_locked.specs.declared.fault.RoomFault.TheVariants as room
 use Rattle.ll_record.specs.declared.fault.ReadingFault.TheVariants as reading
+use Rattle.ll_room.specs.StampedValue.{StampedValue}
+use Rattle.ll_room.specs.declared.stamped.Stamp.TheVariants as stamp
 use Rattle.ll_wire.specs.declared.answer.Answer.{Answer}
 use Rattle.ll_wire.specs.declared.answer.Answer.TheVariants.{Unavailable}
 use Rattle.ll_verdict.specs.declared.fault.AskFault.TheVariants.{RecordFull, Memory}
@@ -26,17 +28,38 @@ abbrev pub refused_item : Result Item ItemFault → Option Refusal
 refused_item (Ok item) = None
 refused_item (Err fault) = Some (item_refusal fault)
 
-abbrev pub refused_in : Option (ℕ × Configuration) → List ℕ → ℕ → Option Refusal
-refused_in None text n = Some UnknownChannel
-refused_in (Some found) text n = refused_item (item_in found.1 text n)
+abbrev pub refused_in : Option (ℕ × Configuration) → (text media : List ℕ) → Option Refusal
+refused_in None text media = Some UnknownChannel
+refused_in (Some found) text media = refused_item (item_in found.1 text media)
 
 -- why a line is refused before the room of a channel is asked; none where it announces an item of one of the hub's channels
 abbrev pub refused_before : List Configuration → says.Line → Option Refusal
 refused_before channels (says.Item name text media) =
-    if nat_le (length media) media_limit then refused_in (channel_of_name channels 0 name) text (length media) else Some MediaTooLong
+    if nat_le (length media) media_limit then refused_in (channel_of_name channels 0 name) text media else Some MediaTooLong
 refused_before channels says.Bad = Some BadLine
 refused_before channels says.TooLong = Some LineTooLong
 refused_before channels says.MediaTooLong = Some MediaTooLong
+
+-- an item was published: the channel at this place accepted the one of this text, with these bytes
+pub record IsItemOf (c : Configuration) (place : ℕ) (text media : List ℕ) (mark : StampedValue ℕ) : Type 0 where
+  pub item : Item
+  pub read : item_in c text media ≡ Ok item
+  pub room : mark.room ≡ place
+  pub stamp : mark.stamp ≡ stamp.Publish item
+
+-- the same, in the hub's channel of this name
+pub record IsItemIn (channels : List Configuration) (name text media : List ℕ) (mark : StampedValue ℕ) : Type 0 where
+  pub place : ℕ
+  pub settings : Configuration
+  pub known : channel_of_name channels 0 name ≡ Some (place, settings)
+  pub item : IsItemOf settings place text media mark
+
+-- what a line announces was published: its item, with its bytes, in the channel of its name
+abbrev pub IsAnnounced : List Configuration → says.Line → StampedValue ℕ → Type 0
+IsAnnounced channels (says.Item name text media) mark = IsItemIn channels name text media mark
+IsAnnounced channels says.Bad mark = ⊥
+IsAnnounced channels says.TooLong mark = ⊥
+IsAnnounced channels says.MediaTooLong mark = ⊥
 
 -- what is answered to an item that the hub refuses; no refusal of the channel's room ends the connection with Hub
 abbrev pub refused_by : HubFault → Result Refusal LinkFault

@@ -1,13 +1,13 @@
 //! A publisher's connection.
 ghost use Rattle.std.specs.Bool.{Decides};
-ghost use Rattle.std.specs.Prelude.{◌≡◌, ◌≢◌, Err, IfErr, IfOk, IsErrOf, None, Ok, OnOk, Some};
+ghost use Rattle.std.specs.Prelude.{◌≡◌, ◌≢◌, Err, IfErr, IfOk, IsErrOf, MatchResult, None, Ok, OnOk, Some};
 ghost use Rattle.std.specs.Io.KnownBytes.{Appends};
 ghost use Rattle.ll_device.specs.Inward.{looked_at};
 ghost use Rattle.ll_item.specs.Items.{item_in};
 ghost use Rattle.ll_publish.specs.Meaning.{meant};
 ghost use Rattle.ll_publish.specs.Refusals.{item_refusal, reply_line};
 ghost use Rattle.ll_item.specs.Channels.{channel_of_name};
-ghost use Rattle.ll_link.specs.Answers.{refused_before, refused_by, refused_in};
+ghost use Rattle.ll_link.specs.Answers.{IsAnnounced, IsItemIn, IsItemOf, refused_before, refused_by, refused_in};
 ghost use Rattle.ll_link.specs.Faults.{IsOwn, IsTrue};
 ghost use Rattle.ll_link.specs.Reads.{HasEnded, IsReadWithin};
 
@@ -16,9 +16,13 @@ use crate::gate::Gate;
 use crate::service::{HandedOut, Service};
 use ll_device::{Link, write_all};
 use ll_hub::{HubFault, Ledgers, Pass, RoomFault, Sink};
-use ll_item::{Item, ItemFault, Media, Settings};
+use ll_item::{Item, ItemFault, Payload, Settings};
 use ll_publish::{Feed, Line, Refusal, reply_text};
+use ll_room::Stamped;
 use std::sync::Wait;
+
+/// What a publisher's line comes to: how many items its channel has accepted with it, or why it is refused.
+type Published = Result<Stamped<u64>, Refusal>;
 
 /// How many bytes a read takes at most.
 const PIECE: usize = 65_536;
@@ -68,12 +72,22 @@ fn answer<L: Ledgers, P: Link, C, G: Gate, K: Sink, R: Wait>(
         let Some(line) = feed.next() else {
             return Ok(());
         };
-        let reply = publish(service, pass, line)?;
+        let answer = publish(service, pass, line)?;
         *answers = answers.saturating_add(1);
         service.gate.pass(*answers);
-        tell(service, link, &reply)?;
+        tell(service, link, &counted(answer))?;
     }
     unreachable!()
+}
+
+/// An answer without its stamp: how many items the channel has accepted with it, or why it is refused.
+fn counted(answer: Published) -> Result<u64, Refusal>
+    ensures { MatchResult answer (λ mark. result ≡ Ok mark.value) (λ reason. result ≡ Err reason) }
+{
+    match answer {
+        Ok(count) => Ok(count.into_inner()),
+        Err(reason) => Err(reason),
+    }
 }
 
 /// Sends the line that answers a publisher's.
@@ -99,14 +113,14 @@ fn publish<L: Ledgers, C, G, K: Sink, R: Wait>(
     service: &Service<'_, L, C, G, K, R>,
     pass: &mut Pass<L>,
     line: Line<'_>,
-) -> Result<Result<u64, Refusal>, LinkFault>
+) -> Result<Published, LinkFault>
     ensures own { IsOwn result }
     ensures refused { (reason : Refusal) → refused_before service.now.hub.now (meant line.entry) ≡ Some reason → result ≡ Ok (Err reason) }
+    ensures published { IfOk result (λ answer. IfOk answer (IsAnnounced service.now.hub.now (meant line.entry))) }
 {
     match line {
-        // The bytes themselves aren't kept: there is nothing yet that asks for them.
-        Line::Item(name, text, bytes) => match Media::of_length(bytes.len() as u64) {
-            Some(media) => publish_item(service, pass, name, text, media),
+        Line::Item(name, text, bytes) => match Payload::of_bytes(bytes) {
+            Some(payload) => publish_item(service, pass, name, text, &payload),
             None => Ok(Err(Refusal::MediaTooLong)),
         },
         Line::Bad => Ok(Err(Refusal::BadLine)),
@@ -115,28 +129,29 @@ fn publish<L: Ledgers, C, G, K: Sink, R: Wait>(
     }
 }
 
-/// Publishes an item that is spelled so and has so many bytes, in the channel of this name: how many items that has accepted with it, or why it
+/// Publishes an item that is spelled so and has these bytes, in the channel of this name: how many items that has accepted with it, or why it
 /// is refused.
 fn publish_item<L: Ledgers, C, G, K: Sink, R: Wait>(
     service: &Service<'_, L, C, G, K, R>,
     pass: &mut Pass<L>,
     name: &str,
     text: &str,
-    media: Media,
-) -> Result<Result<u64, Refusal>, LinkFault>
+    payload: &Payload<'_>,
+) -> Result<Published, LinkFault>
     ensures own { IsOwn result }
-    ensures refused { (reason : Refusal) → refused_in (channel_of_name service.now.hub.now 0 name.now) text.now media ≡ Some reason → result ≡ Ok (Err reason) }
+    ensures refused { (reason : Refusal) → refused_in (channel_of_name service.now.hub.now 0 name.now) text.now payload.now ≡ Some reason → result ≡ Ok (Err reason) }
+    ensures published { IfOk result (λ answer. IfOk answer (IsItemIn service.now.hub.now name.now text.now payload.now)) }
 {
     let Some((channel, settings)) = service.hub.find(name) else {
         return Ok(Err(Refusal::UnknownChannel));
     };
-    match publish_to(service, pass, channel, settings, text, media) {
+    match publish_to(service, pass, channel, settings, text, payload) {
         Ok((answer, _)) => Ok(answer),
         Err(fault) => Err(fault),
     }
 }
 
-/// Publishes an item that is spelled so and has so many bytes, in the channel at this place. Where the record of the channel is full, that is handed out and the
+/// Publishes an item that is spelled so and has these bytes, in the channel at this place. Where the record of the channel is full, that is handed out and the
 /// item published once more: the last answer, and whether it was handed out.
 fn publish_to<L: Ledgers, C, G, K: Sink, R: Wait>(
     service: &Service<'_, L, C, G, K, R>,
@@ -144,14 +159,15 @@ fn publish_to<L: Ledgers, C, G, K: Sink, R: Wait>(
     channel: usize,
     settings: &Settings,
     text: &str,
-    media: Media,
-) -> Result<(Result<u64, Refusal>, Option<HandedOut>), LinkFault>
+    payload: &Payload<'_>,
+) -> Result<(Published, Option<HandedOut>), LinkFault>
     ensures own { IsOwn result }
-    ensures refused { (fault : ItemFault) → item_in settings.now text.now media ≡ Err fault → result ≡ Ok (Err (item_refusal fault), None) }
+    ensures refused { (fault : ItemFault) → item_in settings.now text.now payload.now ≡ Err fault → result ≡ Ok (Err (item_refusal fault), None) }
     ensures full { IfOk result (λ told. told.0 ≡ Err Refusal.RecordFull → told.1 ≡ Some channel) }
+    ensures published { IfOk result (λ told. IfOk told.0 (IsItemOf settings.now channel text.now payload.now)) }
 {
-    let first = publish_once(service, pass, channel, settings, text, media)?;
-    publish_again(service, pass, channel, settings, text, media, first)
+    let first = publish_once(service, pass, channel, settings, text, payload)?;
+    publish_again(service, pass, channel, settings, text, payload, first)
 }
 
 /// What publishing an item comes to that was answered so at first: this answer, unless the record of the channel was full.
@@ -161,46 +177,49 @@ fn publish_again<L: Ledgers, C, G, K: Sink, R: Wait>(
     channel: usize,
     settings: &Settings,
     text: &str,
-    media: Media,
-    first: Result<u64, Refusal>,
-) -> Result<(Result<u64, Refusal>, Option<HandedOut>), LinkFault>
+    payload: &Payload<'_>,
+    first: Published,
+) -> Result<(Published, Option<HandedOut>), LinkFault>
+    requires published { IfOk first (IsItemOf settings.now channel text.now payload.now) }
     ensures own { IsOwn result }
     ensures kept { first ≢ Err Refusal.RecordFull → result ≡ Ok (first, None) }
     ensures full { IfOk result (λ told. told.0 ≡ Err Refusal.RecordFull → told.1 ≡ Some channel) }
+    ensures published { IfOk result (λ told. IfOk told.0 (IsItemOf settings.now channel text.now payload.now)) }
 {
     if !is_full(&first) {
         return Ok((first, None));
     }
     let handed = service.hand_out(channel)?;
-    let second = publish_once(service, pass, channel, settings, text, media)?;
+    let second = publish_once(service, pass, channel, settings, text, payload)?;
     Ok((second, Some(handed)))
 }
 
 /// Whether an item was refused since the record of its channel is full.
-fn is_full(answer: &Result<u64, Refusal>) -> bool
+fn is_full(answer: &Published) -> bool
     ensures { Decides result (answer.now ≡ Err Refusal.RecordFull) }
 {
     matches!(answer, Err(Refusal::RecordFull))
 }
 
-/// Publishes an item that is spelled so and has so many bytes, in the channel at this place.
+/// Publishes an item that is spelled so and has these bytes, in the channel at this place.
 fn publish_once<L: Ledgers, C, G, K, R: Wait>(
     service: &Service<'_, L, C, G, K, R>,
     pass: &mut Pass<L>,
     channel: usize,
     settings: &Settings,
     text: &str,
-    media: Media,
-) -> Result<Result<u64, Refusal>, LinkFault>
+    payload: &Payload<'_>,
+) -> Result<Published, LinkFault>
     ensures own { IsOwn result }
-    ensures refused { (fault : ItemFault) → item_in settings.now text.now media ≡ Err fault → result ≡ Ok (Err (item_refusal fault)) }
+    ensures refused { (fault : ItemFault) → item_in settings.now text.now payload.now ≡ Err fault → result ≡ Ok (Err (item_refusal fault)) }
+    ensures published { IfOk result (λ answer. IfOk answer (IsItemOf settings.now channel text.now payload.now)) }
 {
-    let item = match Item::read(service.alloc, settings, text, media) {
+    let item = match Item::read(service.alloc, settings, text, payload) {
         Ok(item) => item,
         Err(fault) => return Ok(Err(Refusal::from(fault))),
     };
     match service.hub.publish(service.rt, pass, channel, item) {
-        Ok(count) => Ok(Ok(count.into_inner())),
+        Ok(count) => Ok(Ok(count)),
         Err(fault) => Ok(Err(refusal(fault)?)),
     }
 }

@@ -3,7 +3,7 @@ ghost use Rattle.std.specs.Prelude.{◌≡◌};
 
 use crate::rows::push_three;
 use ll_hub::{Blanks, Clock, Hub, Ledgers, Pass};
-use ll_item::{Item, Media, Settings};
+use ll_item::{Item, Payload, Settings};
 use std::alloc::Global;
 use std::process::Abort;
 use std::sync::Wait;
@@ -105,7 +105,7 @@ pub(crate) fn published<L: Ledgers, R: Wait + Abort>(
     line: &str,
 ) -> u64 {
     let settings = Settings::read(alloc, CAM).expect(rt, "settings");
-    let item = Item::read(alloc, &settings, line, Media::none()).expect(rt, "an item");
+    let item = Item::read(alloc, &settings, line, &Payload::none()).expect(rt, "an item");
     let count = hub.publish(rt, pass, channel, item);
     count.expect(rt, "an item that is accepted").into_inner()
 }

@@ -1,6 +1,6 @@
 use crate::rows::{Bench, LINE, column};
 use ll_attr::{AttrList, Text};
-use ll_item::{Item, ItemFault, Media, Settings, announced};
+use ll_item::{Item, ItemFault, Media, Payload, Settings, announced};
 use std::alloc::{AllocError, Global};
 
 pub(crate) fn add_answer(
@@ -14,7 +14,6 @@ pub(crate) fn add_answer(
         "settings" => add_settings_of(alloc, told, input),
         "changed" => add_changed(alloc, told, input),
         "made" => add_made(alloc, told, input),
-        "equal" => add_equal(alloc, told, &bench.settings, input),
         _ => add_item_of(alloc, told, &bench.settings, input),
     }
 }
@@ -157,14 +156,26 @@ fn add_settings_with(
     }
 }
 
-/// The item of a line, with as many bytes as its last word tells, where that tells them.
+/// The item of a line, with the bytes that stand after it in angle brackets, where they do.
 fn read_item(alloc: Global, settings: &Settings, line: &str) -> Result<Item, ItemFault> {
+    match line.split_once(" <") {
+        Some((item, bytes)) => {
+            let bytes = bytes.trim_end_matches('>').as_bytes();
+            let payload = Payload::of_bytes(bytes).ok_or(ItemFault::BadLine)?;
+            Item::read(alloc, settings, item, &payload)
+        }
+        None => read_announced(alloc, settings, line),
+    }
+}
+
+/// The item of a line, with as many bytes as its last word tells, where that tells them.
+fn read_announced(alloc: Global, settings: &Settings, line: &str) -> Result<Item, ItemFault> {
     match announced(line) {
         Some((item, length)) => {
-            let media = Media::of_length(length).ok_or(ItemFault::BadLine)?;
-            Item::read(alloc, settings, item, media)
+            let payload = Payload::of_length(length).ok_or(ItemFault::BadLine)?;
+            Item::read(alloc, settings, item, &payload)
         }
-        None => Item::read(alloc, settings, line, Media::none()),
+        None => Item::read(alloc, settings, line, &Payload::none()),
     }
 }
 
@@ -197,20 +208,25 @@ fn add_item(told: &mut String, item: &Item) -> Result<(), AllocError> {
             media,
             ..
         } => {
-            let bytes = media.len();
-            write!(
-                told,
-                "part {rendition} {duration} {independent} {finish}, {bytes} bytes"
-            )
+            write!(told, "part {rendition} {duration} {independent} {finish}, ")?;
+            add_bytes(told, media)
         }
         Item::Init { media, .. } => {
-            let bytes = media.len();
-            write!(told, "init {rendition}, {bytes} bytes")
+            write!(told, "init {rendition}, ")?;
+            add_bytes(told, media)
         }
         Item::Break { .. } => write!(told, "break {rendition}"),
         Item::End { .. } => write!(told, "end {rendition}"),
         Item::Range { id, attributes, .. } => add_range(told, rendition, id, attributes),
         Item::Unrange { id, .. } => write!(told, "unrange {rendition} [{id}]"),
+    }
+}
+
+/// Adds the bytes, or how many they are where they weren't given.
+fn add_bytes(told: &mut String, media: &Media) -> Result<(), AllocError> {
+    match media.bytes() {
+        Some(bytes) => write!(told, "{bytes:?}"),
+        None => write!(told, "{} bytes", media.len()),
     }
 }
 
@@ -229,6 +245,10 @@ pub(crate) const ITEMS: &str = r#"item: item
 part hi 1000000 - => part 1 1000000 false false, 0 bytes
 part hi 1000000 - 0 => part 1 1000000 false false, 0 bytes
 part hi 1000000 - 1 => part 1 1000000 false false, 1 bytes
+part hi 1000000 - <abc> => part 1 1000000 false false, [97, 98, 99]
+part hi 1000000 - <> => part 1 1000000 false false, []
+init hi <a b> => init 1, [97, 32, 98]
+break hi <> => break 1
 part hi 1000000 - 1048576 => part 1 1000000 false false, 1048576 bytes
 init hi 1 => init 1, 1 bytes
 init lo 1048576 => init 0, 1048576 bytes
@@ -253,6 +273,7 @@ pub(crate) const NO_ITEMS: &str = r#"item: item
 part zz 1 f => NoRendition
 part zz x f => BadLine
 part hi 1000000 => BadLine
+break hi <a> => BadLine
 part hi 1000000 - 1048577 => BadLine
 part hi 1000000 - 18446744073709551616 => BadLine
 part hi 1000000 - x => BadLine
@@ -307,52 +328,3 @@ unrange zz a => NoRendition
 unrange hi => BadLine
 unrange Hi a => BadLine
  => BadLine"#;
-
-/// Two lines, and whether their items are equal.
-pub(crate) const EQUAL: &str = r#"item: equal
-part hi 1000000 if | part hi 1000000 if => true
-part hi 1000000 if 1 | part hi 1000000 if 1 => true
-part hi 1000000 if 1 | part hi 1000000 if 2 => false
-init hi 1 | init hi 1 => true
-init hi 1 | init hi 2 => false
-init hi 1 | init lo 1 => false
-part hi 1000000 if | part lo 1000000 if => false
-part hi 1000000 if | part hi 999999 if => false
-part hi 1000000 if | part hi 1000000 i => false
-part hi 1000000 if | part hi 1000000 f => false
-break hi | break hi => true
-break hi | break lo => false
-break hi | end hi => false
-end hi | end hi => true
-range hi ID="x",A=1 | range hi ID="x",A=1 => true
-range hi ID="x",A=1 | range lo ID="x",A=1 => false
-range hi ID="x",A=1 | range hi ID="y",A=1 => false
-range hi ID="x",A=1 | range hi ID="x",A=2 => false
-range hi ID="x",A=1 | unrange hi x => false
-unrange hi x | unrange hi x => true
-unrange hi x | unrange hi y => false"#;
-
-fn add_equal(
-    alloc: Global,
-    told: &mut String,
-    settings: &Settings,
-    input: &str,
-) -> Result<(), AllocError> {
-    match read_item(alloc, settings, column(input, 0)) {
-        Ok(item) => add_equal_to(alloc, told, settings, &item, column(input, 1)),
-        Err(fault) => write!(told, "{fault:?}"),
-    }
-}
-
-fn add_equal_to(
-    alloc: Global,
-    told: &mut String,
-    settings: &Settings,
-    item: &Item,
-    line: &str,
-) -> Result<(), AllocError> {
-    match read_item(alloc, settings, line) {
-        Ok(other) => write!(told, "{}", *item == other),
-        Err(fault) => write!(told, "{fault:?}"),
-    }
-}

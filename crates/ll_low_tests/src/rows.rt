@@ -38,7 +38,7 @@ impl Bench {
     }
 }
 
-const TABLES: [&str; 40] = [
+const TABLES: [&str; 39] = [
     attr_tests::WRITTEN,
     attr_tests::READ,
     attr_tests::NUMBERS,
@@ -60,7 +60,6 @@ const TABLES: [&str; 40] = [
     item_tests::MADE,
     item_tests::ITEMS,
     item_tests::NO_ITEMS,
-    item_tests::EQUAL,
     range_tests::CHANGES,
     range_tests::COPIES,
     range_tests::ATTRIBUTES,

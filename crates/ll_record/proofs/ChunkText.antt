@@ -1,8 +1,9 @@
 -- The text of a chunk, and what a check makes of it.
 use Rattle.std.proofs.Common.{◌≡◌, ℕ, ◌+◌, ◌≤◌, ◌^◌, List, [], ◌∷◌, ◌++◌, Some, None, true, ap, ◌∙◌, sym, subst, codes, length, take, arith}
-use Rattle.std.proofs.lemmas.List.{length-take-le}
+use Rattle.std.proofs.lemmas.List.{length-map, length-take-le}
 use Rattle.std.proofs.lemmas.Slice.Eq.{bytes_eq-Decides}
 use Rattle.std.specs.Str.{is_utf8}
+use Rattle.ll_entry.specs.Blank.{blank_event, blank_events}
 use Rattle.ll_entry.specs.Chain.{Chain, entries, is_channel}
 use Rattle.ll_entry.specs.Replies.{most}
 use Rattle.ll_item.specs.Settings.{Configuration, limit_broken}
@@ -47,16 +48,18 @@ faithful_at : (r : Recording) (k : ChunkValue) → limit_broken r.room.settings 
     → k.text ≡ chunk_text r.room.settings r.at r.lines → (events : List Event) → IsRecorded r events → IsFaithful r events k
 faithful_at r k within utf8 few text events s =
     let c = r.room.settings in
-    let at : length (take r.at events) ≡ r.at = length-take-le r.at events s.early in
+    let first = blank_events (take r.at events) in
+    let at : length first ≡ r.at = length-map (take r.at events) blank_event ∙ length-take-le r.at events s.early in
     let events_are : r.room.events ≡ length events = ap (λ (h : RoomValue). h.events) s.stands in
     let early : r.at ≤ most = small r.at (length events) r.room.events s.early events_are few in
     record {
       goes_on = λ ch are is.
-          subst (λ t. IsChunkOf (Some ch) t (chain_of c ch.earlier events)) (ap (λ n. chunk_text c n r.lines) at ∙ sym text)
-          (goes_on c ch (take r.at events) events r.lines within utf8 (subst (λ n. n ≤ most) (sym at) early) s.led are is);
+          subst (λ t. IsChunkOf (Some ch) t (chain_of c ch.earlier (blank_events events))) (ap (λ n. chunk_text c n r.lines) at ∙ sym text)
+          (goes_on c ch first (blank_events events) r.lines within utf8 (subst (λ n. n ≤ most) (sym at) early) s.led are is);
       begins = λ none before of.
-          subst (λ t. IsChunkOf before t (chain_of c (entries before) events)) (ap (λ n. chunk_text c n r.lines) (sym none) ∙ sym text)
-          (first-chunk c before events r.lines within utf8 of (subst (λ n. IsLed c (take n events) r.lines events) none s.led));
+          subst (λ t. IsChunkOf before t (chain_of c (entries before) (blank_events events))) (ap (λ n. chunk_text c n r.lines) (sym none) ∙ sym text)
+          (first-chunk c before (blank_events events) r.lines within utf8 of
+          (subst (λ n. IsLed c (blank_events (take n events)) r.lines (blank_events events)) none s.led));
     }
 
 pub faithful : (r now : Recording) (k : ChunkValue) → r ≡ now → limit_broken r.room.settings ≡ None → is_utf8 (settings_line r.room.settings) ≡ true

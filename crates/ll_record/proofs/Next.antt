@@ -1,14 +1,17 @@
 -- One more event with its line: the record is that of the events with it.
 use Rattle.std.proofs.Common.{◌≡◌, ℕ, ◌+◌, ◌*◌, ◌≤◌, List, [], ◌∷◌, ◌++◌, ◌&&◌, Some, None, true, is_some, refl, ap, ap₂, ◌∙◌, sym, subst, length, take, drop, filter, arith}
-use Rattle.std.proofs.lemmas.List.{drop-append-le, drop_all, flat_map_more, length-append, take-append-le, take_all}
+use Rattle.std.proofs.lemmas.List.{drop-append-le, drop_all, flat_map_more, length-append, map-append, take-append-le, take_all}
 use Rattle.std.proofs.lemmas.List.Elements.{filter-append}
 use Rattle.std.proofs.lemmas.List.Folds.{list_all-append}
 use Rattle.std.specs.List.{flat_map, list_all}
 use Rattle.std.specs.Option.{option_map_or}
 use Rattle.std.specs.Str.{is_utf8}
+use Rattle.ll_entry.proofs.BlankLemmas.{fault-blank}
+use Rattle.ll_entry.specs.Blank.{blank_entry, blank_event, blank_events}
 use Rattle.ll_entry.specs.Entered.{event_of, fault_in}
 use Rattle.ll_entry.specs.Lines.{IsSpelled, entry_line}
 use Rattle.ll_entry.specs.declared.entry.Recorded.{Recorded}
+use Rattle.ll_entry.specs.declared.entry.Recorded.TheVariants as recorded
 use Rattle.ll_entry.specs.declared.version.Version.TheVariants.{Two}
 use Rattle.ll_item.specs.Settings.{Configuration, limit_broken}
 use Rattle.ll_entry.proofs.LeadLemmas.{entry-next}
@@ -54,6 +57,16 @@ told_next : (c : Configuration) (since : List Step) (s : Step) (entry : Recorded
 told_next c since s entry is e =
     list_all-append (can_happen c) since (s ∷ []) ∙ ap₂ (λ a b. a && (b && true)) e (ap is_some is)
 
+event-blank : (entry : Recorded) → blank_event (event_of entry) ≡ event_of (blank_entry entry)
+event-blank (recorded.Publish item) = refl
+event-blank (recorded.Ask ask want reply) = refl
+event-blank (recorded.Clock ms) = refl
+event-blank (recorded.Collect ask reply) = refl
+event-blank (recorded.Close ask) = refl
+
+blanked : (events : List Event) (entry : Recorded) → blank_events (events ++ event_of entry ∷ []) ≡ blank_events events ++ event_of (blank_entry entry) ∷ []
+blanked events entry = map-append blank_event events (event_of entry ∷ []) ∙ ap (λ e. blank_events events ++ e ∷ []) (event-blank entry)
+
 -- how a recording changes with an entry
 pub record IsNext (old new : Recording) (entry : Recorded) : Type 0 where
   pub room : IsSame old.room new.room
@@ -66,8 +79,11 @@ pub recorded-next : (old new : Recording) (events : List Event) (entry : Recorde
     → Stands new.room (events ++ event_of entry ∷ []) → IsNext old new entry → IsRecorded new (events ++ event_of entry ∷ [])
 recorded-next old new events entry within r spelled utf8 right stands n =
     let more = events ++ event_of entry ∷ [] in
-    let led : IsLed old.room.settings (take old.at events) (old.lines ++ with_end (entry_line old.room.settings entry)) more =
-    entry-next old.room.settings (take old.at events) events old.lines entry within spelled utf8 right r.led in
+    let c = old.room.settings in
+    let first = blank_events (take old.at events) in
+    let led : IsLed c first (old.lines ++ with_end (entry_line c entry)) (blank_events more) =
+    subst (IsLed c first (old.lines ++ with_end (entry_line c entry))) (sym (blanked events entry))
+    (entry-next c first (blank_events events) old.lines entry within spelled utf8 (fault-blank Two c events entry ∙ right) r.led) in
     let early : old.at ≤ length more = longer old.at (length events) (length more) r.early (one_more events (event_of entry)) in
     let begin : take new.at more ≡ take old.at events = ap (λ k. take k more) n.at ∙ take-append-le old.at events (event_of entry ∷ []) r.early in
     let is : entry_of old.room.settings (at events (event_of entry)) ≡ Some entry = right-whole old.room.settings events entry right in
@@ -77,9 +93,9 @@ recorded-next old new events entry within r spelled utf8 right stands n =
       stands = stands;
       early = subst (λ k. k ≤ length more) (sym n.at) early;
       led =
-          subst (λ (c : Configuration). IsLed c (take new.at more) new.lines more) (sym n.room.settings)
-          (subst (λ es. IsLed old.room.settings es new.lines more) (sym begin)
-          (subst (λ text. IsLed old.room.settings (take old.at events) text more) (sym n.lines) led));
+          subst (λ (c : Configuration). IsLed c (blank_events (take new.at more)) new.lines (blank_events more)) (sym n.room.settings)
+          (subst (λ es. IsLed c (blank_events es) new.lines (blank_events more)) (sym begin)
+          (subst (λ text. IsLed c first text (blank_events more)) (sym n.lines) led));
       told =
           ap₂ (λ (c : Configuration) ss. list_all (can_happen c) ss) n.room.settings since
           ∙ told_next old.room.settings (drop old.at (steps events)) (at events (event_of entry)) entry is r.told;
@@ -119,8 +135,8 @@ recorded-anew r n lines events all none s =
       stands = s.stands;
       early = omega (arith, is);
       led =
-          subst (λ text. IsLed c (take n events) text events) (sym none)
-          (subst (λ es. IsLed c es [] events) (sym (take_all n events (omega (arith, is)))) (nothing c events));
+          subst (λ text. IsLed c (blank_events (take n events)) text (blank_events events)) (sym none)
+          (subst (λ es. IsLed c (blank_events es) [] (blank_events events)) (sym (take_all n events (omega (arith, is)))) (nothing c (blank_events events)));
       calls = ap (λ es. length (filter is_call es)) (sym (drop_all n events (omega (arith, is))));
       told = ap (list_all (can_happen c)) none_since;
       spelled = none ∙ ap (flat_map (line_of c)) (sym none_since);

@@ -4,6 +4,7 @@ use Rattle.std.specs.List.{flat_map, list_all}
 use Rattle.ll_directive.specs.Targets.{WantValue}
 use Rattle.ll_item.specs.Settings.{Configuration}
 use Rattle.ll_item.specs.declared.item.Item.{Item}
+use Rattle.ll_entry.specs.Blank.{blank_events}
 use Rattle.ll_entry.specs.Leads.{IsLed}
 use Rattle.ll_entry.specs.Told.{can_happen, line_of}
 use Rattle.ll_verdict.specs.Full.{full_by, refusal_after}
@@ -33,12 +34,12 @@ is_call (Clock ms) = true
 is_call (Collect ask) = false
 is_call (Close ask) = false
 
--- The recorded channel has had these events: a check of the record's lines goes on from the events before them to all of these, and
--- these lines are no other than those of the events since then, of which each can happen after those before it.
+-- The recorded channel has had these events: a check of the record's lines goes on from the events before them to all of these, of which it knows
+-- the bytes by their number alone, and these lines are no other than those of the events since then, of which each can happen after those before it.
 pub record IsRecorded (r : Recording) (events : List Event) : Type 0 where
   pub stands : Stands r.room events
   pub early : r.at ≤ length events
-  pub led : IsLed r.room.settings (take r.at events) r.lines events
+  pub led : IsLed r.room.settings (blank_events (take r.at events)) r.lines (blank_events events)
   pub calls : r.calls ≡ length (filter is_call (drop r.at events))
   pub told : list_all (can_happen r.room.settings) (drop r.at (steps events)) ≡ true
   pub spelled : r.lines ≡ flat_map (line_of r.room.settings) (drop r.at (steps events))

@@ -1,7 +1,7 @@
 //! Records that are full.
 use crate::cases::{keep, recorder, spend};
 use ll_directive::read_target;
-use ll_item::{Item, Media};
+use ll_item::{Item, Payload};
 use ll_record::Recorder;
 use ll_room::{AskFault, Asked, Closed, Stored};
 use ll_verdict::{PublishFault, Reply};
@@ -22,7 +22,7 @@ fn rotated(rt: &impl Abort, recorder: &mut Recorder) -> u64 {
 /// What a part gets that is published: how many items the channel has then accepted.
 fn published(rt: &impl Abort, alloc: Global, recorder: &mut Recorder) -> Result<u64, PublishFault> {
     let line = "part hi 1000000 if";
-    let item = Item::read(alloc, recorder.room().settings(), line, Media::none()).expect(
+    let item = Item::read(alloc, recorder.room().settings(), line, &Payload::none()).expect(
         rt, "an item",
     );
     match recorder.publish(item) {

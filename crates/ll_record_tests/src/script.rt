@@ -3,7 +3,7 @@ use crate::cases::{keep, recorder, spend};
 use crate::dice::Dice;
 use ll_check::check;
 use ll_directive::read_target;
-use ll_item::{Item, Media};
+use ll_item::{Item, Payload};
 use ll_record::Recorder;
 use ll_room::{Asked, Closed, Collected, Parked, Stored};
 use ll_verdict::Reply;
@@ -97,7 +97,9 @@ impl Run {
     fn publish(&mut self, rt: &impl Abort, alloc: Global, dice: &mut Dice) {
         let line = item_line(alloc, dice).expect(rt, "memory");
         let settings = self.recorder.room().settings();
-        let item = Item::read(alloc, settings, line.as_str(), Media::none()).expect(rt, "an item");
+        let item = Item::read(alloc, settings, line.as_str(), &Payload::none()).expect(
+            rt, "an item",
+        );
         let answer = match self.recorder.publish(item) {
             Ok(count) => format!(in alloc; "accepted {}", count.get()),
             Err(fault) => format!(in alloc; "refused {fault}"),

@@ -1,7 +1,7 @@
 //! A channel, and what calls of it get.
 use crate::tools::{CHANNEL, Tools};
 use ll_directive::{Want, read_target};
-use ll_item::{Item, Media, Settings};
+use ll_item::{Item, Payload, Settings};
 use ll_record::{Chunk, ReadingFault, Recorder};
 use ll_room::{AskFault, Asked, Parked, Stamped, Stored};
 use ll_verdict::{PublishFault, Reply};
@@ -61,7 +61,7 @@ pub(crate) struct Row {
 /// What a line announces.
 pub(crate) fn item(alloc: Global, line: &str) -> Option<Item> {
     let settings = Settings::read(alloc, CHANNEL).ok()?;
-    Item::read(alloc, &settings, line, Media::none()).ok()
+    Item::read(alloc, &settings, line, &Payload::none()).ok()
 }
 
 /// What a target asks for.

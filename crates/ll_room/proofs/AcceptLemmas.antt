@@ -24,7 +24,9 @@ use Rattle.ll_verdict.specs.declared.wanted.Wanted.{Wanted}
 use Rattle.ll_book.specs.Pages.{PagesOf, page_in}
 use Rattle.ll_book.specs.Releases.{first_release, second_release}
 use Rattle.ll_rendition.proofs.ItemLemmas.{its_refusal}
-use Rattle.ll_room.specs.Freed.{freed_slots, releases_at, with_item}
+use Rattle.ll_room.specs.Freed.{StoresGoOn, freed_slots, releases_at, with_item, with_stores}
+use Rattle.ll_store.specs.Media.{StoreValue}
+use Rattle.ll_store.specs.Stores.{stores}
 use Rattle.ll_verdict.specs.Full.{full_by, is_full, refusal_after}
 use Rattle.ll_room.specs.Full.{refusal_by}
 use Rattle.ll_room.specs.RoomValue.{RoomValue, Stands, room_value}
@@ -39,7 +41,7 @@ past-got [] r e = grind (arith, nat_tests)
 past-got (x ∷ rs) zero e = absurd (true≢false (sym (ap is_none e)))
 past-got (x ∷ rs) (suc r) e = let h = past-got rs r e in grind (arith, nat_tests, h)
 
-refusal_as : (c : Configuration) (xs : List Item) (i : Item) (o : Option Rendition) → slice_get (renditions c xs) (rendition_of i) ≡ o
+pub refusal_as : (c : Configuration) (xs : List Item) (i : Item) (o : Option Rendition) → slice_get (renditions c xs) (rendition_of i) ≡ o
     → refusal_at o i ≡ refusal c xs i
 refusal_as c xs i None e =
     let past : nat_lt (rendition_of i) (length c.renditions) ≡ false = ap (nat_lt (rendition_of i)) (sym (length-renditions c xs)) ∙ past-got (renditions c xs) (rendition_of i) e in
@@ -58,7 +60,7 @@ refusal-told h es i stands = ap (λ x. refusal_by x i) stands ∙ refusal-of-roo
 
 -- an item that nothing refuses
 
-first_none : (f g : Option PublishFault) → first_refusal f g ≡ None → f ≡ None
+pub first_none : (f g : Option PublishFault) → first_refusal f g ≡ None → f ≡ None
 first_none None g e = refl
 first_none (Some f) g e = e
 
@@ -70,11 +72,11 @@ goes_on : (b : Bool) (f : Option PushFault) → window.refusal_by b f ≡ None �
 goes_on true f e = absurd (true≢false (sym (ap is_none e)))
 goes_on false f e = refl
 
-not_ended : (c : Configuration) (own_items : List Item) (i : Item) → rendition_refusal c own_items i ≡ None → ended own_items ≡ false
+pub not_ended : (c : Configuration) (own_items : List Item) (i : Item) → rendition_refusal c own_items i ≡ None → ended own_items ≡ false
 unfolding rendition_refusal
 not_ended c own_items i e = goes_on (ended own_items) (window.refusal_before_end c own_items i) (none_mapped (window.refusal c own_items i) (first_none _ _ e))
 
-accepted_in : (r : ℕ) (n : ℕ) (f : Option PublishFault) (b : Bool) → nat_lt r n ≡ b → cond b f (Some NoRendition) ≡ None → (nat_lt r n ≡ true) × (f ≡ None)
+pub accepted_in : (r : ℕ) (n : ℕ) (f : Option PublishFault) (b : Bool) → nat_lt r n ≡ b → cond b f (Some NoRendition) ≡ None → (nat_lt r n ≡ true) × (f ≡ None)
 accepted_in r n f true e h = (e, h)
 accepted_in r n f false e h = absurd (true≢false (sym (ap is_none h)))
 
@@ -83,7 +85,7 @@ taken_is c xs i e = ap (λ f. cond (is_none f) (xs ++ i ∷ []) xs) e
 
 -- the room after it
 
-some_kept : (rs : List Rendition) (r : ℕ) (o : Option Rendition) → slice_get rs r ≡ o → nat_lt r (length rs) ≡ true → (k : Rendition) × (slice_get rs r ≡ Some k)
+pub some_kept : (rs : List Rendition) (r : ℕ) (o : Option Rendition) → slice_get rs r ≡ o → nat_lt r (length rs) ≡ true → (k : Rendition) × (slice_get rs r ≡ Some k)
 some_kept rs r None e h = absurd (true≢false (sym h ∙ past-got rs r e))
 some_kept rs r (Some k) e h = (k, e)
 
@@ -101,11 +103,12 @@ its_page : (c : Configuration) (xs : List Item) (i : Item) (w : Wanted) → w.re
 its_page c xs i w e =
     ap₂ (λ n r. page_in (pages_with c (renditions c (xs ++ i ∷ [])) n r) w.form) (length-append xs (i ∷ [])) e
 
-abbrev home_on : ℕ → Configuration → State → List Rendition → ℕ → List Slot → RoomValue
-home_on channel c s kept_now count slots = record {
+abbrev home_on : ℕ → Configuration → State → List Rendition → List StoreValue → ℕ → List Slot → RoomValue
+home_on channel c s kept_now stores_now count slots = record {
   channel = channel;
   settings = c;
   renditions = kept_now;
+  stores = stores_now;
   count = count;
   time = s.time;
   asks = s.asks;
@@ -129,24 +132,26 @@ slots_are c es i low none =
     ∙ ap (map (settle c (xs ++ i ∷ []) (time es))) (sym (all_stay (Publish i) (state_of c es).slots (λ s. refl)))
     ∙ sym (append-nil (map (settle c (xs ++ i ∷ []) (time es)) (filter (stays (Publish i)) (state_of c es).slots)))
 
-item-next : (channel : ℕ) (c : Configuration) (es : List Event) (i : Item) (kept_now : List Rendition) → 1 ≤ c.target → refusal c (items c es) i ≡ None
-    → kept_now ≡ renditions c (items c es ++ i ∷ [])
-    → with_item (room_value channel c (state_of c es)) kept_now i ≡ room_value channel c (next c (state_of c es) (Publish i))
-item-next channel c es i kept_now low none on =
+item-next : (channel : ℕ) (c : Configuration) (es : List Event) (i : Item) (kept_now : List Rendition) (stores_now : List StoreValue) → 1 ≤ c.target
+    → refusal c (items c es) i ≡ None → kept_now ≡ renditions c (items c es ++ i ∷ []) → stores_now ≡ stores c (items c es ++ i ∷ [])
+    → with_stores (with_item (room_value channel c (state_of c es)) kept_now i) stores_now ≡ room_value channel c (next c (state_of c es) (Publish i))
+item-next channel c es i kept_now stores_now low none on stored =
     let xs = items c es in
     let s = state_of c es in
     let releases_now = releases_at (slice_get (renditions c xs) (rendition_of i)) i in
-    ap (λ ks. home_on channel c s ks (length xs + 1) (freed_slots (pages_with c ks (length xs + 1) (rendition_of i)) releases_now s.slots)) on
-    ∙ ap₂ (home_on channel c s (renditions c (xs ++ i ∷ []))) (sym (length-append xs (i ∷ []))) (slots_are c es i low none)
-    ∙ ap (λ ys. home_on channel c s (renditions c ys) (length ys) (map (settle c ys (time es)) (filter (stays (Publish i)) s.slots) ++ [])) (sym (taken_is c xs i none))
+    ap₂ (λ ks ss. home_on channel c s ks ss (length xs + 1) (freed_slots (pages_with c ks (length xs + 1) (rendition_of i)) releases_now s.slots)) on stored
+    ∙ ap₂ (home_on channel c s (renditions c (xs ++ i ∷ [])) (stores c (xs ++ i ∷ []))) (sym (length-append xs (i ∷ []))) (slots_are c es i low none)
+    ∙ ap (λ ys. home_on channel c s (renditions c ys) (stores c ys) (length ys) (map (settle c ys (time es)) (filter (stays (Publish i)) s.slots) ++ [])) (sym (taken_is c xs i none))
 
-pub publish-stands : (h new : RoomValue) (es : List Event) (i : Item) (kept_now : List Rendition) → Stands h es → 1 ≤ h.settings.target → refusal_by h i ≡ None
-    → GoOn h.renditions kept_now i → new ≡ with_item h kept_now i → Stands new (es ++ Publish i ∷ [])
-publish-stands h new es i kept_now stands low free on is =
+pub publish-stands : (h new : RoomValue) (es : List Event) (i : Item) (kept_now : List Rendition) (stores_now : List StoreValue) → Stands h es → 1 ≤ h.settings.target
+    → refusal_by h i ≡ None → GoOn h.renditions kept_now i → StoresGoOn h.renditions h.stores stores_now i
+    → new ≡ with_stores (with_item h kept_now i) stores_now → Stands new (es ++ Publish i ∷ [])
+publish-stands h new es i kept_now stores_now stands low free on stored is =
     let c = h.settings in
     let none : refusal c (items c es) i ≡ None = first_none (refusal c (items c es) i) (full_by (is_full (length es))) (sym (refusal-told h es i stands) ∙ free) in
     let whole : new ≡ room_value h.channel c (next c (state_of c es) (Publish i)) =
-    is ∙ ap (λ x. with_item x kept_now i) stands
-    ∙ item-next h.channel c es i kept_now low none (on c (items c es) (ap (λ (x : RoomValue). x.renditions) stands)) in
+    is ∙ ap (λ x. with_stores (with_item x kept_now i) stores_now) stands
+    ∙ item-next h.channel c es i kept_now stores_now low none (on c (items c es) (ap (λ (x : RoomValue). x.renditions) stands))
+    (stored c (items c es) (ap (λ (x : RoomValue). x.renditions) stands) (ap (λ (x : RoomValue). x.stores) stands)) in
     stands-by new c es (Publish i) (ap (λ (x : RoomValue). x.settings) whole)
     (whole ∙ ap (λ n. room_value n c (next c (state_of c es) (Publish i))) (sym (ap (λ (x : RoomValue). x.channel) whole)))

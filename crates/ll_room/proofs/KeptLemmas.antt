@@ -1,5 +1,5 @@
 -- What a room keeps true of itself.
-use Rattle.std.proofs.Common.{◌≡◌, not, ◌||◌, ◌==◌, true≢false, ◌≤◌, ◌<◌, ℕ, ◌+◌, ◌^◌, List, [], ◌∷◌, Bool, true, false, cond, Option, length, filter, map, refl, ap, ◌∙◌, sym, subst, suc, arith, ◌++◌, None, length-append}
+use Rattle.std.proofs.Common.{◌≡◌, not, ◌||◌, ◌==◌, true≢false, ◌≤◌, ◌<◌, ℕ, ◌+◌, ◌^◌, List, [], ◌∷◌, Bool, true, false, cond, length, filter, map, refl, ap, ◌∙◌, sym, subst, suc, arith, ◌++◌, None, length-append}
 use Rattle.std.specs.List.{list_any}
 use Rattle.ll_verdict.specs.declared.entry.Slot.{Slot}
 use Rattle.ll_book.specs.Release.{expired, is_over, over_if}
@@ -15,6 +15,7 @@ use Rattle.ll_item.specs.Settings.{Configuration}
 use Rattle.ll_page.specs.View.{renditions}
 use Rattle.ll_page.proofs.RenditionLemmas.{length-renditions}
 use Rattle.ll_rendition.specs.declared.rendition.Rendition.{Rendition}
+use Rattle.ll_store.specs.Media.{StoreValue}
 use Rattle.ll_verdict.specs.declared.entry.Entry.{Entry}
 use Rattle.ll_verdict.specs.Full.{event_end}
 
@@ -63,9 +64,9 @@ kept-held h w e ss few t is k =
       counted = omega (arith, few, k.few, k.asked, many);
     }
 
-new_kept : (channel : ℕ) (c : Configuration) (kept : List Rendition) (w : WrittenOf) (ss : List Slot) → 1 ≤ c.target → kept ≡ renditions c [] → w.pages ≡ [] → AreFew w.pieces kept → ss ≡ []
-    → IsKept (record { channel = channel; settings = c; renditions = kept; count = 0; time = 0; asks = 0; slots = ss; events = 0 }) w
-new_kept channel c kept w ss low is unwritten few none = record {
+new_kept : (channel : ℕ) (c : Configuration) (kept : List Rendition) (stored : List StoreValue) (w : WrittenOf) (ss : List Slot) → 1 ≤ c.target → kept ≡ renditions c [] → w.pages ≡ [] → AreFew w.pieces kept → ss ≡ []
+    → IsKept (record { channel = channel; settings = c; renditions = kept; stores = stored; count = 0; time = 0; asks = 0; slots = ss; events = 0 }) w
+new_kept channel c kept stored w ss low is unwritten few none = record {
   current = none-written _ w.pages unwritten;
   stored = few;
   target = low;
@@ -79,13 +80,13 @@ new_kept channel c kept w ss low is unwritten few none = record {
 }
 
 -- nothing has happened
-pub kept-new : (channel : ℕ) (c : Configuration) (m : Moment) (kept : List Rendition) (w : WrittenOf) (ss : List Slot)
+pub kept-new : (channel : ℕ) (c : Configuration) (m : Moment) (kept : List Rendition) (stored : List StoreValue) (w : WrittenOf) (ss : List Slot)
     → m ≡ record { settings = c; renditions = kept; count = 0 } → 1 ≤ c.target → kept ≡ renditions c [] → w.pages ≡ [] → AreFew w.pieces kept → ss ≡ []
-    → IsKept (record { channel = channel; settings = m.settings; renditions = m.renditions; count = m.count; time = 0; asks = 0; slots = ss; events = 0 }) w
-kept-new channel c m kept w ss made low is unwritten few none =
+    → IsKept (record { channel = channel; settings = m.settings; renditions = m.renditions; stores = stored; count = m.count; time = 0; asks = 0; slots = ss; events = 0 }) w
+kept-new channel c m kept stored w ss made low is unwritten few none =
     subst
-    (λ (n : Moment). IsKept (record { channel = channel; settings = n.settings; renditions = n.renditions; count = n.count; time = 0; asks = 0; slots = ss; events = 0 }) w)
-    (sym made) (new_kept channel c kept w ss low is unwritten few none)
+    (λ (n : Moment). IsKept (record { channel = channel; settings = n.settings; renditions = n.renditions; stores = stored; count = n.count; time = 0; asks = 0; slots = ss; events = 0 }) w)
+    (sym made) (new_kept channel c kept stored w ss low is unwritten few none)
 
 -- the newest ticket is above all others
 left_by : (t : ℕ) (s : Slot) (ss : List Slot) → s.entry.ticket < t → filter (λ n. not (n == t)) (map ticket_in ss ++ t ∷ []) ≡ map ticket_in ss

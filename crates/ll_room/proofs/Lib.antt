@@ -7,6 +7,7 @@ pub mod KeptLemmas
 pub mod PublishLemmas
 pub mod SettleLemmas
 pub mod StandLemmas
+pub mod StoreLemmas
 pub mod StoredLemmas
 pub mod TicketLemmas
 pub mod WrittenLemmas

@@ -1,8 +1,7 @@
 -- What one more item makes of what is kept of the renditions.
-use Rattle.std.proofs.Common.{◌≡◌, ℕ, zero, suc, ◌+◌, ◌<◌, ◌==◌, List, [], ◌∷◌, ◌++◌, Bool, true, false, ◌&&◌, ◌||◌, cond, Option, None, Some, is_none, refl, ap, ap₂, sym, subst, ◌∙◌, true≢false, filter, map, length, arith}
-use Rattle.std.specs.Prelude.{Result, Ok, Err, OnOk, slice_get, slice_set}
+use Rattle.std.proofs.Common.{◌≡◌, ℕ, suc, ◌+◌, ◌<◌, ◌==◌, List, [], ◌∷◌, Bool, true, false, ◌&&◌, ◌||◌, cond, Option, None, Some, is_none, refl, ap, ap₂, sym, subst, ◌∙◌, true≢false, filter, map, length, arith}
+use Rattle.std.specs.Prelude.{slice_get}
 use Rattle.std.specs.List.{list_any}
-use Rattle.std.proofs.lemmas.Bool.Decides.{nat_tests}
 use Rattle.ll_item.specs.Items.{rendition_of}
 use Rattle.ll_item.specs.declared.item.Item.{Item}
 use Rattle.ll_item.specs.declared.item.Item.TheVariants as item

@@ -1,7 +1,11 @@
 -- For private contracts: which releases an item brings, where what is kept of its rendition was this before it.
-use Rattle.std.specs.Prelude.{◌≡◌, ◌+◌, List, true, false, Option, Some, None, map, slice_get}
+use Rattle.std.specs.Prelude.{◌≡◌, ◌+◌, ◌++◌, List, [], ◌∷◌, true, false, Option, Some, None, map, slice_get}
 use Rattle.ll_item.specs.Items.{rendition_of}
+use Rattle.ll_item.specs.Settings.{Configuration}
 use Rattle.ll_item.specs.declared.item.Item.{Item}
+use Rattle.ll_page.specs.View.{renditions}
+use Rattle.ll_store.specs.Media.{StoreValue}
+use Rattle.ll_store.specs.Stores.{stores}
 use Rattle.ll_rendition.specs.declared.rendition.Rendition.{Rendition}
 use Rattle.ll_verdict.specs.declared.entry.Slot.{Slot}
 use Rattle.ll_book.specs.Pages.{PagesOf}
@@ -34,6 +38,14 @@ freed_slots pages both slots = map (freed pages both.1) (map (freed pages both.0
 -- the pages of a rendition after one more item, with which these are kept
 abbrev pub new_pages : RoomValue → List Rendition → Item → PagesOf
 new_pages h kept i = record { moment = record { settings = h.settings; renditions = kept; count = h.count + 1 }; rendition = rendition_of i }
+
+-- the room with these bytes for players
+abbrev pub with_stores : RoomValue → List StoreValue → RoomValue
+with_stores h kept = record h { stores = kept }
+
+-- what is kept of bytes goes on to what is kept of the items before it and of this item, where that is kept of the renditions
+abbrev pub StoresGoOn : List Rendition → List StoreValue → List StoreValue → Item → Type 0
+StoresGoOn shown old new i = (c : Configuration) (before : List Item) → shown ≡ renditions c before → old ≡ stores c before → new ≡ stores c (before ++ i ∷ [])
 
 -- the room after one more item, with which these are kept
 abbrev pub with_item : RoomValue → List Rendition → Item → RoomValue

@@ -1,5 +1,5 @@
 -- For private contracts: what a room keeps true of itself.
-use Rattle.std.specs.Prelude.{◌≡◌, ◌≤◌, ◌+◌, ◌*◌, ◌^◌, ◌++◌, List, [], ◌∷◌, None, length}
+use Rattle.std.specs.Prelude.{◌≡◌, ◌≤◌, ◌+◌, ◌*◌, ◌^◌, ◌++◌, [], ◌∷◌, None, length}
 use Rattle.ll_verdict.specs.Waiting.{AreBelow}
 use Rattle.ll_verdict.specs.declared.wanted.Wanted.{Wanted}
 use Rattle.ll_room.specs.RoomValue.{RoomValue, moment}

@@ -5,6 +5,8 @@ use Rattle.ll_item.specs.Settings.{Configuration}
 use Rattle.ll_page.specs.Page.{Moment}
 use Rattle.ll_page.specs.View.{renditions}
 use Rattle.ll_rendition.specs.declared.rendition.Rendition.{Rendition}
+use Rattle.ll_store.specs.Media.{StoreValue}
+use Rattle.ll_store.specs.Stores.{stores}
 use Rattle.ll_verdict.specs.Waiting.{ticket_in}
 use Rattle.ll_verdict.specs.Events.{Event}
 use Rattle.ll_verdict.specs.State.{State, state_of}
@@ -16,6 +18,8 @@ pub record RoomValue : Type 0 where
   pub settings : Configuration
   -- what is kept of each rendition, in the order of the settings
   pub renditions : List Rendition
+  -- the bytes that each of them has for players
+  pub stores : List StoreValue
   -- how many items were accepted
   pub count : ℕ
   -- milliseconds
@@ -33,6 +37,7 @@ room_value channel c s = record {
   channel = channel;
   settings = c;
   renditions = renditions c s.items;
+  stores = stores c s.items;
   count = length s.items;
   time = s.time;
   asks = s.asks;

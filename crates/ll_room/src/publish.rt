@@ -5,7 +5,7 @@ ghost use Rattle.ll_item.specs.declared.item.Item.{Item};
 ghost use Rattle.ll_book.specs.Releases.{takes_any};
 ghost use Rattle.ll_page.specs.View.{GoOn};
 ghost use Rattle.ll_verdict.specs.Events.{Event, Publish};
-ghost use Rattle.ll_room.specs.Freed.{AreApart, with_item};
+ghost use Rattle.ll_room.specs.Freed.{AreApart, StoresGoOn, with_item, with_stores};
 ghost use Rattle.ll_room.specs.Coming.{IsComing, changed};
 ghost use Rattle.ll_room.specs.Freed as spec;
 ghost use Rattle.ll_verdict.specs.Full.{event_end, refusal_after};
@@ -20,6 +20,7 @@ use ll_book::{
 };
 use ll_item::Item;
 use ll_page::Shown;
+use ll_store::{arrive, expect};
 use ll_verdict::PublishFault;
 use std::alloc::AllocError;
 
@@ -86,7 +87,8 @@ impl Room {
         requires allowed { refusal_by self.old item ≡ None }
         requires releases { (first, second) ≡ spec.releases self.old item }
         ensures goes_on { OnOk result (GoOn self.old.renditions self.new.renditions item) }
-        ensures accepted { OnOk result (self.new ≡ with_item self.old self.new.renditions item) }
+        ensures stored { OnOk result (StoresGoOn self.old.renditions self.old.stores self.new.stores item) }
+        ensures accepted { OnOk result (self.new ≡ with_stores (with_item self.old self.new.renditions item) self.new.stores) }
         ensures unchanged { OnErr result (self.new ≡ self.old) }
     {
         if takes_any(&self.book, first) || takes_any(&self.book, second) {
@@ -116,11 +118,14 @@ impl Room {
         requires first { takes_any (spec.releases self.old item).0 self.old.slots ≡ false }
         requires second { takes_any (spec.releases self.old item).1 self.old.slots ≡ false }
         ensures goes_on { OnOk result (GoOn self.old.renditions self.new.renditions item) }
-        ensures accepted { OnOk result (self.new ≡ with_item self.old self.new.renditions item) }
+        ensures stored { OnOk result (StoresGoOn self.old.renditions self.old.stores self.new.stores item) }
+        ensures accepted { OnOk result (self.new ≡ with_stores (with_item self.old self.new.renditions item) self.new.stores) }
         ensures unchanged { OnErr result (self.new ≡ self.old) }
     {
+        let arrival = expect(&mut self.stores, self.shown.renditions(), &item)?;
         self.written.drop_pages(self.shown.renditions());
         self.shown.accept(item)?;
+        arrive(&mut self.stores, arrival, self.shown.renditions());
         self.written.drop_pages(self.shown.renditions());
         self.events += 1;
         Ok(())
@@ -136,10 +141,13 @@ impl Room {
         requires allowed { refusal_by self.old item ≡ None }
         requires releases { (first, second) ≡ spec.releases self.old item }
         ensures goes_on { OnOk result (GoOn self.old.renditions self.new.renditions item) }
-        ensures accepted { OnOk result (self.new ≡ with_item self.old self.new.renditions item) }
+        ensures stored { OnOk result (StoresGoOn self.old.renditions self.old.stores self.new.stores item) }
+        ensures accepted { OnOk result (self.new ≡ with_stores (with_item self.old self.new.renditions item) self.new.stores) }
         ensures unchanged { OnErr result (self.new ≡ self.old) }
     {
+        let arrival = expect(&mut self.stores, self.shown.renditions(), &item)?;
         let coming = self.prepare(item, first, second)?;
+        arrive(&mut self.stores, arrival, coming.shown.renditions());
         self.change(coming, first, second);
         Ok(())
     }

@@ -13,6 +13,7 @@ use ll_book::Book;
 use ll_item::Settings;
 use ll_page::{Rendition, Shown};
 use ll_range::Ranges;
+use ll_store::{Store, new_stores};
 use ll_verdict::Entry;
 use ll_window::Window;
 use std::alloc::{AllocError, Global};
@@ -22,7 +23,7 @@ use std::sync::Arc;
 /// How many events a channel takes.
 pub(crate) const EVENT_END: u64 = 1 << 60;
 
-/// What is kept of one channel in place of its events: of each rendition what playlists still show, the channel's time, and the
+/// What is kept of one channel in place of its events: of each rendition what playlists still show and its bytes, the channel's time, and the
 /// requests that wait or whose replies wait.
 #[derive(Drop)]
 pub struct Room {
@@ -30,6 +31,8 @@ pub struct Room {
     pub(crate) channel: u64,
     /// The channel as it is now. Its pages share it.
     pub(crate) shown: Shown,
+    /// The bytes that each rendition has for players. Pages hold none of them.
+    pub(crate) stores: Vec<Store>,
     pub(crate) written: Written,
     pub(crate) time: u64,
     pub(crate) asks: u64,
@@ -40,6 +43,7 @@ pub struct Room {
 impl Model for Room {
     ghost use Rattle.ll_room.specs.RoomValue.{RoomValue};
     ghost use Rattle.ll_room.specs.Kept.{IsKept};
+    ghost use Rattle.ll_store.specs.Stores.{all_kept};
 
     ghost Value = { RoomValue };
 
@@ -47,6 +51,7 @@ impl Model for Room {
       channel = r.channel;
       settings = r.shown.settings;
       renditions = r.shown.renditions;
+      stores = all_kept r.stores.items;
       count = r.shown.count;
       time = r.time;
       asks = r.asks;
@@ -58,6 +63,7 @@ impl Model for Room {
       channel = r.channel;
       settings = r.shown.settings;
       renditions = r.shown.renditions;
+      stores = all_kept r.stores.items;
       count = r.shown.count;
       time = r.time;
       asks = r.asks;
@@ -76,10 +82,12 @@ impl Room {
         let settings = Arc::new(alloc, settings)?;
         let renditions = no_items(alloc, &settings)?;
         let written = Written::new(alloc, &renditions)?;
+        let stores = new_stores(alloc, &settings)?;
         Ok(Room {
             alloc,
             channel,
             shown: Shown::new(alloc, &settings, renditions, 0)?,
+            stores,
             written,
             time: 0,
             asks: 0,

@@ -1,6 +1,6 @@
 //! Requests that wait in a channel, step by step.
 use ll_directive::read_target;
-use ll_item::{Item, Media, Settings};
+use ll_item::{Item, Payload, Settings};
 use ll_rooms::{ActAnswer, Owner, Rooms};
 use ll_verdict::Reply;
 use std::alloc::Global;
@@ -111,7 +111,7 @@ fn take(alloc: Global, rooms: &mut Rooms, step: Step) -> Option<String> {
     let answer = match step {
         Step::Offer(line) => {
             let settings = Settings::read(alloc, CHANNEL).ok()?;
-            let item = Item::read(alloc, &settings, line, Media::none()).ok()?;
+            let item = Item::read(alloc, &settings, line, &Payload::none()).ok()?;
             rooms.offer(0, item).ok()?
         }
         Step::Ask(id, target) => {

@@ -1,6 +1,6 @@
 //! Rooms, and the values that stand for the requests that wait in them.
 use ll_directive::read_target;
-use ll_item::{Item, Media, Settings};
+use ll_item::{Item, Payload, Settings};
 use ll_room::{Asked, Closed, Collected, Parked, Room, Stamped};
 use ll_rooms::Shelf;
 use ll_verdict::Reply;
@@ -25,9 +25,13 @@ fn room(alloc: Global, number: u64) -> Result<Room, Fail> {
 
 /// A part that is accepted: how many items the room has accepted with it.
 fn publish(rt: &impl Abort, alloc: Global, room: &mut Room) -> Stamped<u64> {
-    let item = Item::read(alloc, room.settings(), "part hi 1000000 i", Media::none()).expect(
-        rt, "an item",
-    );
+    let item = Item::read(
+        alloc,
+        room.settings(),
+        "part hi 1000000 i",
+        &Payload::none(),
+    )
+    .expect(rt, "an item");
     room.publish(item).expect(rt, "the part is accepted")
 }
 

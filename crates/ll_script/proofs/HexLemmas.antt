@@ -1,6 +1,7 @@
 -- Bytes in hexadecimal digits: when a text spells some, and how they are read two digits at a time.
-use Rattle.std.proofs.Common.{◌≡◌, ℕ, ◌+◌, ◌*◌, ◌%◌, ◌<◌, List, [], ◌∷◌, ◌++◌, Bool, true, false, ◌&&◌, Option, Some, None, is_some, refl, ap, sym, subst, ◌∙◌, length, arith, nat_eq, slice_index_or, append-nil, append_assoc}
+use Rattle.std.proofs.Common.{◌≡◌, ℕ, ◌+◌, ◌*◌, ◌/◌, ◌%◌, ◌<◌, List, [], ◌∷◌, ◌++◌, Bool, true, false, ◌&&◌, Option, Some, None, is_some, refl, ap, sym, subst, ◌∙◌, length, arith, nat_eq, slice_index_or, append-nil, append_assoc}
 use Rattle.std.proofs.lemmas.Bool.Decides.{nat_tests}
+use Rattle.std.proofs.lemmas.Option.{none-some, same_Some}
 use Rattle.std.specs.Prelude.{IsSome, option_map}
 use Rattle.std.specs.List.{list_all}
 use Rattle.std.specs.Option.{unwrap_or}
@@ -75,3 +76,22 @@ pub read-all : (text rest items : List ℕ) → length rest < 2 → IsReadTo tex
 read-all text [] items short h = h.1 ∙ ap Some (append-nil items)
 read-all text (a ∷ []) items short h = absurd (let none = h.0 in cc)
 read-all text (a ∷ b ∷ more) items short h = absurd (omega (arith, short))
+
+two-digits : (high low : Option ℕ) (later : Option (List ℕ)) (more bytes : List ℕ) → ((rest : List ℕ) → later ≡ Some rest → length more ≡ 2 * length rest)
+    → byte_before high low later ≡ Some bytes → 2 + length more ≡ 2 * length bytes
+two-digits (Some high) (Some low) (Some rest) more bytes all e =
+    let n = ap length (same_Some ((16 * high + low) ∷ rest) bytes e) in
+    omega (arith, all rest refl, n)
+two-digits (Some high) (Some low) None more bytes all e = absurd (none-some bytes e)
+two-digits (Some high) None later more bytes all e = absurd (none-some bytes e)
+two-digits None low later more bytes all e = absurd (none-some bytes e)
+
+digits-spelled : (text bytes : List ℕ) → bytes_in_hex text ≡ Some bytes → length text ≡ 2 * length bytes
+digits-spelled [] bytes e = let n = ap length (same_Some [] bytes e) in omega (arith, n)
+digits-spelled (a ∷ []) bytes e = absurd (none-some bytes e)
+digits-spelled (a ∷ b ∷ more) bytes e =
+    let n = two-digits (hex_digit a) (hex_digit b) (bytes_in_hex more) more bytes (digits-spelled more) e in omega (arith, n)
+
+-- a text spells half as many bytes as it has digits
+pub half-spelled : (text bytes : List ℕ) → bytes_in_hex text ≡ Some bytes → length text / 2 ≡ length bytes
+half-spelled text bytes e = omega (arith, digits-spelled text bytes e)

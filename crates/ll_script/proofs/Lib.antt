@@ -1,3 +1,4 @@
+pub mod AnnouncedLemmas
 pub mod HexLemmas
 pub mod ReadingLemmas
 pub mod SettingsLemmas

@@ -28,6 +28,7 @@ lines = record {
   late = refl;
   too_late = refl;
   unknown = refl;
+  with_bytes = refl;
   came = refl;
   zeros_in_front = refl;
   capital = refl;

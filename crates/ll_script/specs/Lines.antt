@@ -1,5 +1,5 @@
 -- What the lines of a script mean.
-use Rattle.std.specs.Prelude.{◌≡◌, ℕ, ◌+◌, ◌^◌, List, [], ◌∷◌, Bool, true, false, ◌==◌, Option, Some, None, Result, Ok, Err, if◌then◌else◌, is_none, is_some, length, ◌/◌, map, option_map, nat_le, nat_lt, codes}
+use Rattle.std.specs.Prelude.{◌≡◌, ℕ, ◌+◌, ◌^◌, List, [], ◌∷◌, Bool, true, false, ◌==◌, Option, Some, None, Result, Ok, Err, if◌then◌else◌, is_none, length, map, option_map, nat_le, nat_lt, codes}
 use Rattle.std.specs.Str.{is_utf8}
 use Rattle.ll_attr.specs.Numbers.{number_in}
 use Rattle.ll_attr.specs.Words.{words, after}
@@ -37,26 +37,30 @@ abbrev pub item_act : ℕ → Result Item ItemFault → Act
 item_act place (Ok item) = Offer place item
 item_act place (Err fault) = Refuse (item_refusal fault)
 
-abbrev pub offer_to : Option (ℕ × Configuration) → List ℕ × ℕ → Act
+abbrev pub offer_to : Option (ℕ × Configuration) → List ℕ × List ℕ → Act
 offer_to None item = Refuse refused.UnknownChannel
 offer_to (Some channel) item = item_act channel.0 (item_in channel.1 item.0 item.1)
 
--- an item's line and how many bytes it has; too many are refused before anything else is looked at
-abbrev pub offer_within : Option (ℕ × Configuration) → List ℕ × ℕ → Act
-offer_within channel item = if nat_le item.1 media_limit then offer_to channel item else Refuse refused.MediaTooLong
+-- an item's line and its bytes; too many are refused before anything else is looked at
+abbrev pub offer_within : Option (ℕ × Configuration) → List ℕ × List ℕ → Act
+offer_within channel item = if nat_le (length item.1) media_limit then offer_to channel item else Refuse refused.MediaTooLong
 
--- whether a word spells one byte or more by two hexadecimal digits each
-abbrev pub spells_bytes : List ℕ → Bool
-spells_bytes [] = false
-spells_bytes (b ∷ bs) = is_some (bytes_in_hex (b ∷ bs))
+-- the bytes that a word spells by two hexadecimal digits each, where there is one or more
+abbrev pub bytes_spelled : List ℕ → Option (List ℕ)
+bytes_spelled [] = None
+bytes_spelled (b ∷ bs) = bytes_in_hex (b ∷ bs)
 
-abbrev pub item_before : Option (List ℕ × List ℕ) → List ℕ → List ℕ × ℕ
-item_before None line = (line, 0)
-item_before (Some (item, word)) line = if spells_bytes word then (item, length word / 2) else (line, 0)
+abbrev pub item_with : Option (List ℕ) → List ℕ → List ℕ → List ℕ × List ℕ
+item_with None item line = (line, [])
+item_with (Some bytes) item line = (item, bytes)
 
--- An item's line without its bytes, and how many there are: in a script these stand as one word in the place of their number. No item has the line
--- of another word there.
-abbrev pub without_bytes : List ℕ → List ℕ × ℕ
+abbrev pub item_before : Option (List ℕ × List ℕ) → List ℕ → List ℕ × List ℕ
+item_before None line = (line, [])
+item_before (Some (item, word)) line = item_with (bytes_spelled word) item line
+
+-- An item's line without its bytes, and these: in a script they stand as one word in the place of their number. No item has the line of another
+-- word there.
+abbrev pub without_bytes : List ℕ → List ℕ × List ℕ
 without_bytes line = item_before (told_bytes line) line
 
 abbrev pub offer_by : List Configuration → Line → Act

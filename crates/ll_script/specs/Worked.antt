@@ -5,11 +5,12 @@ use Rattle.ll_directive.specs.declared.fault.TargetFault.TheVariants as target
 use Rattle.ll_directive.specs.declared.want.Awaited.{Awaited}
 use Rattle.ll_directive.specs.declared.want.Awaited.TheVariants as awaited
 use Rattle.ll_item.specs.Settings.{Configuration}
+use Rattle.ll_item.specs.declared.item.Item.TheVariants.{Init}
 use Rattle.ll_publish.specs.Refusals.{no_line, ok_line}
 use Rattle.ll_publish.specs.declared.refusal.Refusal.TheVariants as refused
 use Rattle.ll_script.specs.Answers.{clock_line, fault_line, reply_lines, sent_line, shut_line}
 use Rattle.ll_script.specs.Lines.{acts}
-use Rattle.ll_script.specs.declared.act.Act.TheVariants.{Refuse, Ask, Answer, Close, Clock, RefuseClock, Bytes, Drop}
+use Rattle.ll_script.specs.declared.act.Act.TheVariants.{Offer, Refuse, Ask, Answer, Close, Clock, RefuseClock, Bytes, Drop}
 use Rattle.ll_script.specs.declared.clock.ClockRefusal.TheVariants as clock
 use Rattle.ll_verdict.specs.declared.reply.Reply.TheVariants as reply
 
@@ -42,6 +43,8 @@ pub record WorkedLines : Type 0 where
   pub late : acts both (Some 6) (codes "clock 1152921504606846977") ≡ Some (RefuseClock ∷ [])
   pub too_late : acts both (Some 6) (codes "clock 18446744073709551616") ≡ None
   pub unknown : acts both (Some 6) (codes "pub three end hi") ≡ Some (Refuse refused.UnknownChannel ∷ [])
+  -- two digits for each byte, in the place of their number
+  pub with_bytes : acts both (Some 6) (codes "pub two init hi 6162") ≡ Some (Offer 1 (Init 0 (97 ∷ 98 ∷ [])) ∷ [])
   pub came : acts both (Some 6) (codes "bytes 1 474554") ≡ Some (Bytes 1 (codes "GET") ∷ [])
   pub zeros_in_front : acts both (Some 6) (codes "bytes 01 0a") ≡ Some (Bytes 1 (10 ∷ []) ∷ [])
   pub capital : acts both (Some 6) (codes "bytes 1 0A") ≡ None

@@ -3,7 +3,6 @@ ghost use Rattle.std.specs.Prelude.{◌≡◌, IfOk, IsSome, Some, is_some};
 ghost use Rattle.std.specs.List.{list_all};
 ghost use Rattle.ll_script.specs.Hex.{bytes_in_hex, hex_digit};
 
-use crate::piece::Piece;
 use std::alloc::{AllocError, Global};
 
 /// Whether a text spells bytes by two digits each.
@@ -21,9 +20,9 @@ fn all_digits(text: &str) -> bool
 }
 
 /// The bytes that a text spells by two digits each. They take memory once.
-pub(crate) fn read_hex(alloc: Global, text: &str) -> Result<Piece, AllocError>
+pub(crate) fn read_hex(alloc: Global, text: &str) -> Result<Vec<u8>, AllocError>
     requires { IsSome (bytes_in_hex text.now) }
-    ensures { IfOk result (λ p. bytes_in_hex text.now ≡ Some p) }
+    ensures { IfOk result (λ bytes. bytes_in_hex text.now ≡ Some bytes.items) }
 {
     let mut bytes = Vec::with_capacity(alloc, text.len() / 2)?;
     // Each byte of the text is a digit, so neither 0 is taken.
@@ -32,7 +31,7 @@ pub(crate) fn read_hex(alloc: Global, text: &str) -> Result<Piece, AllocError>
         let low = digit(pair[1]).unwrap_or(0);
         bytes.push_reserved(16 * high + low);
     }
-    Ok(Piece::new(bytes))
+    Ok(bytes)
 }
 
 /// What a digit stands for: 0 to 9, and a to f in lower case alone.

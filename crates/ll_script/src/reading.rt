@@ -1,9 +1,10 @@
 //! What the lines of a script mean.
-ghost use Rattle.std.specs.Prelude.{◌≡◌, ◌∷◌, [], IfOk, IsErrOf, IsSome, MatchOption, Ok, None, Some, codes, if◌then◌else◌, is_some, ℕ, List, Option};
+ghost use Rattle.std.specs.Prelude.{◌≡◌, ◌∷◌, [], IfOk, IsErrOf, IsSome, MatchOption, Ok, None, Some, codes, if◌then◌else◌, is_some, length, ℕ, List, Option};
 ghost use Rattle.ll_attr.specs.Words.{after, words};
 ghost use Rattle.ll_item.specs.Channels.{channel_of_name};
 ghost use Rattle.ll_directive.specs.Targets.{WantValue, want_in};
 ghost use Rattle.ll_item.specs.Items.{item_in};
+ghost use Rattle.ll_item.specs.Media.{zeros};
 ghost use Rattle.ll_item.specs.Settings.{Configuration, settings_in};
 ghost use Rattle.ll_script.specs.Hex.{bytes_in_hex};
 ghost use Rattle.ll_script.specs.Lines.{alone};
@@ -12,9 +13,10 @@ ghost use Rattle.ll_script.specs.Reads.{IsRead};
 
 use crate::act::{Act, Acts};
 use crate::hex::{is_hex, read_hex};
+use crate::piece::Piece;
 use ll_attr::{after, cut, parse_number};
 use ll_directive::{TargetFault, named_channel, read_target};
-use ll_item::{Channels, Item, Media, Settings, SettingsFault, told_bytes};
+use ll_item::{Channels, Item, Payload, Settings, SettingsFault, told_bytes};
 use ll_publish::{Line, Refusal};
 use std::alloc::Global;
 use std::str;
@@ -142,44 +144,73 @@ fn read_announced(
 ) -> Result<Acts, LineFault>
     ensures { IsRead declared.now (Some (spec.offer_within (channel_of_name declared.now 0 name.now) (spec.without_bytes line.now) ∷ [])) result }
 {
-    let (line, length) = without_bytes(line);
-    match Media::of_length(length) {
-        Some(media) => read_offered(alloc, declared, name, line, media),
-        None => Ok(Acts::One(Act::Refuse(Refusal::MediaTooLong))),
-    }
-}
-
-/// An item of this line and so many bytes for the channel of this name.
-fn read_offered(
-    alloc: Global,
-    declared: &Channels,
-    name: &str,
-    line: &str,
-    media: Media,
-) -> Result<Acts, LineFault>
-    ensures { IsRead declared.now (Some (spec.offer_to (channel_of_name declared.now 0 name.now) (line.now, media) ∷ [])) result }
-{
-    match declared.find(name) {
-        Some((place, settings)) => read_item(alloc, place, settings, line, media),
-        None => Ok(Acts::One(Act::Refuse(Refusal::UnknownChannel))),
-    }
-}
-
-/// An item's line without its bytes, which stand after it as a word of hexadecimal digits, and how many there are.
-fn without_bytes(line: &str) -> (&str, u64)
-    ensures { (result.0.now, result.1) ≡ spec.without_bytes line.now }
-{
     match told_bytes(line) {
-        Some((item, word)) if spells_bytes(word) => (item, word.len() as u64 / 2),
-        _ => (line, 0),
+        Some((item, word)) if spells_bytes(word) => {
+            read_spelled(alloc, declared, name, item, word)
+        }
+        _ => read_offered(alloc, declared, name, line, &Payload::none()),
     }
 }
 
 /// Whether a word spells one byte or more by two digits each.
 fn spells_bytes(word: &str) -> bool
-    ensures { result ≡ spec.spells_bytes word.now }
+    ensures { result ≡ is_some (spec.bytes_spelled word.now) }
 {
     !word.is_empty() && is_hex(word)
+}
+
+/// An item of this line for the channel of this name, with the bytes that these digits spell. Memory for them is taken only where they aren't too
+/// many, and that none is found comes after all other faults.
+fn read_spelled(
+    alloc: Global,
+    declared: &Channels,
+    name: &str,
+    line: &str,
+    digits: &str,
+) -> Result<Acts, LineFault>
+    requires { IsSome (bytes_in_hex digits.now) }
+    ensures { (media : List ℕ) → bytes_in_hex digits.now ≡ Some media
+        → IsRead declared.now (Some (spec.offer_within (channel_of_name declared.now 0 name.now) (line.now, media) ∷ [])) result }
+{
+    let Some(blank) = Payload::of_length(digits.len() as u64 / 2) else {
+        return Ok(Acts::One(Act::Refuse(Refusal::MediaTooLong)));
+    };
+    match read_hex(alloc, digits) {
+        Ok(bytes) => read_with_bytes(alloc, declared, name, line, bytes.as_slice()),
+        Err(_) => read_unkept(alloc, declared, name, line, &blank),
+    }
+}
+
+/// An item of this line and these bytes for the channel of this name.
+fn read_with_bytes(
+    alloc: Global,
+    declared: &Channels,
+    name: &str,
+    line: &str,
+    bytes: &[u8],
+) -> Result<Acts, LineFault>
+    ensures { IsRead declared.now (Some (spec.offer_within (channel_of_name declared.now 0 name.now) (line.now, bytes.now) ∷ [])) result }
+{
+    match Payload::of_bytes(bytes) {
+        Some(payload) => read_offered(alloc, declared, name, line, &payload),
+        None => Ok(Acts::One(Act::Refuse(Refusal::MediaTooLong))),
+    }
+}
+
+/// An item of this line and payload for the channel of this name.
+fn read_offered(
+    alloc: Global,
+    declared: &Channels,
+    name: &str,
+    line: &str,
+    payload: &Payload<'_>,
+) -> Result<Acts, LineFault>
+    ensures { IsRead declared.now (Some (spec.offer_to (channel_of_name declared.now 0 name.now) (line.now, payload.now) ∷ [])) result }
+{
+    match declared.find(name) {
+        Some((place, settings)) => read_item(alloc, place, settings, line, payload),
+        None => Ok(Acts::One(Act::Refuse(Refusal::UnknownChannel))),
+    }
 }
 
 /// What an item's line makes happen in the channel at this place.
@@ -188,13 +219,46 @@ fn read_item(
     place: usize,
     settings: &Settings,
     line: &str,
-    media: Media,
+    payload: &Payload<'_>,
 ) -> Result<Acts, LineFault>
-    ensures { (channels : List Configuration) → IsRead channels (Some (spec.item_act place (item_in settings.now line.now media) ∷ [])) result }
+    ensures { (channels : List Configuration) → IsRead channels (Some (spec.item_act place (item_in settings.now line.now payload.now) ∷ [])) result }
 {
-    match Item::read(alloc, settings, line, media) {
+    match Item::read(alloc, settings, line, payload) {
         Ok(item) => Ok(Acts::One(Act::Offer { place, item })),
         Err(fault) => Ok(Acts::One(Act::Refuse(Refusal::from(fault)))),
+    }
+}
+
+/// An item of this line for the channel of this name, for whose bytes no memory was found; so many zeros stand for them.
+fn read_unkept(
+    alloc: Global,
+    declared: &Channels,
+    name: &str,
+    line: &str,
+    blank: &Payload<'_>,
+) -> Result<Acts, LineFault>
+    ensures { (media : List ℕ) → blank.now ≡ zeros (length media)
+        → IsRead declared.now (Some (spec.offer_to (channel_of_name declared.now 0 name.now) (line.now, media) ∷ [])) result }
+{
+    match declared.find(name) {
+        Some((_, settings)) => refuse_unkept(alloc, settings, line, blank),
+        None => Ok(Acts::One(Act::Refuse(Refusal::UnknownChannel))),
+    }
+}
+
+/// Why an item of this line isn't offered to a channel of these settings, where no memory was found for its bytes.
+fn refuse_unkept(
+    alloc: Global,
+    settings: &Settings,
+    line: &str,
+    blank: &Payload<'_>,
+) -> Result<Acts, LineFault>
+    ensures { (channels : List Configuration) (place : ℕ) (media : List ℕ) → blank.now ≡ zeros (length media)
+        → IsRead channels (Some (spec.item_act place (item_in settings.now line.now media) ∷ [])) result }
+{
+    match Item::read(alloc, settings, line, blank).err() {
+        Some(fault) => Ok(Acts::One(Act::Refuse(Refusal::from(fault)))),
+        None => Ok(Acts::One(Act::Refuse(Refusal::Memory))),
     }
 }
 
@@ -292,7 +356,10 @@ fn read_piece(alloc: Global, text: &str) -> Result<Acts, LineFault>
         return Err(LineFault::BadLine);
     };
     match read_hex(alloc, hex) {
-        Ok(piece) => Ok(Acts::One(Act::Bytes { number, piece })),
+        Ok(bytes) => Ok(Acts::One(Act::Bytes {
+            number,
+            piece: Piece::new(bytes),
+        })),
         Err(_) => Err(LineFault::Memory),
     }
 }

@@ -25,7 +25,7 @@ use Rattle.ll_publish.specs.Lines.{line_by}
 use Rattle.ll_publish.specs.declared.refusal.Refusal.TheVariants as refused
 use Rattle.ll_script.specs.Hex.{bytes_in_hex}
 use Rattle.ll_item.specs.Channels.{channel_of_name}
-use Rattle.ll_script.specs.Lines.{Kind, acts, acts_by, alone, ask, ask_in, begun, begun_by, bytes_by, bytes_of, clocks_from, close_of, declaration, drop_of, get_by, get_of, is_passed_over, item_act, item_before, kinds, offer, offer_by, offer_to, offer_within, reading, rises, spells_bytes, starved, without_bytes}
+use Rattle.ll_script.specs.Lines.{Kind, acts, acts_by, alone, ask, ask_in, begun, begun_by, bytes_by, bytes_of, bytes_spelled, clocks_from, close_of, declaration, drop_of, get_by, get_of, is_passed_over, item_act, item_before, item_with, kinds, offer, offer_by, offer_to, offer_within, reading, rises, starved, without_bytes}
 use Rattle.ll_script.specs.declared.act.Act.{Act}
 use Rattle.ll_script.specs.declared.act.Act.TheVariants.{Declare, Offer, Refuse, Ask, Answer, Close, Clock, RefuseClock, Bytes, Drop}
 use Rattle.ll_verdict.proofs.ListLemmas.{Each}
@@ -86,12 +86,12 @@ item_act-sound : (place : ℕ) (r : Result Item ItemFault) → ((i : Item) → r
 item_act-sound place (Ok i) f = f i refl
 item_act-sound place (Err fault) f = tt
 
-offer_to-sound : (o : Option (ℕ × Configuration)) (item : List ℕ × ℕ) → IsUtf8 item.0 → IsSound (offer_to o item)
+offer_to-sound : (o : Option (ℕ × Configuration)) (item : List ℕ × List ℕ) → IsUtf8 item.0 → IsSound (offer_to o item)
 offer_to-sound None item u = tt
 offer_to-sound (Some channel) item u = item_act-sound channel.0 (item_in channel.1 item.0 item.1) (λ i h. item-read channel.1 item.0 item.1 i u h)
 
-offer_within-sound : (o : Option (ℕ × Configuration)) (item : List ℕ × ℕ) → IsUtf8 item.0 → IsSound (offer_within o item)
-offer_within-sound o item u = by_many (nat_le item.1 media_limit)
+offer_within-sound : (o : Option (ℕ × Configuration)) (item : List ℕ × List ℕ) → IsUtf8 item.0 → IsSound (offer_within o item)
+offer_within-sound o item u = by_many (nat_le (length item.1) media_limit)
   where
     by_many : (b : Bool) → IsSound (if b then offer_to o item else Refuse refused.MediaTooLong)
     by_many true = offer_to-sound o item u
@@ -107,11 +107,11 @@ before_space line item word e u =
 
 item_before-utf8 : (line : List ℕ) (o : Option (List ℕ × List ℕ)) → IsLine line o → IsUtf8 line → IsUtf8 (item_before o line).0
 item_before-utf8 line None told u = u
-item_before-utf8 line (Some t) told u = by_hex (spells_bytes t.1)
+item_before-utf8 line (Some t) told u = by_bytes (bytes_spelled t.1)
   where
-    by_hex : (b : Bool) → IsUtf8 (let item : List ℕ × ℕ = if b then (t.0, length t.1 / 2) else (line, 0) in item).0
-    by_hex true = before_space line t.0 t.1 told u
-    by_hex false = u
+    by_bytes : (o : Option (List ℕ)) → IsUtf8 (item_with o t.0 line).0
+    by_bytes None = u
+    by_bytes (Some media) = before_space line t.0 t.1 told u
 
 cut-sound : (channels : List Configuration) (x y : Bool) (name line : List ℕ) → (x ≡ true → IsUtf8 line)
     → IsSound (offer_by channels (line_by (if x && y then Some (name, line) else None)))

@@ -86,20 +86,20 @@ range_read r text (Ok (a ∷ more)) i u e h =
 
 -- ---- the kinds of items
 
-part_read : (n : Result ℕ ItemFault) (d : ℕ) (f : Bool × Bool) (media : ℕ) (i : Item) → part_at n d f media ≡ Ok i → IsRead i
+part_read : (n : Result ℕ ItemFault) (d : ℕ) (f : Bool × Bool) (media : List ℕ) (i : Item) → part_at n d f media ≡ Ok i → IsRead i
 part_read (Err fault) d f media i h = cc
 part_read (Ok r) d f media i h = same IsRead (Part r d f.0 f.1 media) i h tt
 
-part_by-read : (c : Configuration) (name : List ℕ) (d : Option ℕ) (f : Option (Bool × Bool)) (media : ℕ) (i : Item) → part_by c name d f media ≡ Ok i → IsRead i
+part_by-read : (c : Configuration) (name : List ℕ) (d : Option ℕ) (f : Option (Bool × Bool)) (media : List ℕ) (i : Item) → part_by c name d f media ≡ Ok i → IsRead i
 part_by-read c name None f media i h = cc
 part_by-read c name (Some d) None media i h = cc
 part_by-read c name (Some d) (Some f) media i h = part_read (named c name) d f media i h
 
-part_in-read : (c : Configuration) (rest : List (List ℕ)) (media : ℕ) (i : Item) → part_in c rest media ≡ Ok i → IsRead i
+part_in-read : (c : Configuration) (rest : List (List ℕ)) (media : List ℕ) (i : Item) → part_in c rest media ≡ Ok i → IsRead i
 part_in-read c (name ∷ duration ∷ flags ∷ []) media i h = part_by-read c name (number_in 20 duration) (flags_in flags) media i h
 part_in-read c other media i h = cc
 
-init-read : (n : Result ℕ ItemFault) (media : ℕ) (i : Item) → init_at n media ≡ Ok i → IsRead i
+init-read : (n : Result ℕ ItemFault) (media : List ℕ) (i : Item) → init_at n media ≡ Ok i → IsRead i
 init-read (Err fault) media i h = cc
 init-read (Ok r) media i h = same IsRead (Init r media) i h tt
 
@@ -148,12 +148,12 @@ by_bytes false true b3 r1 r2 r3 i f1 f2 f3 h = f2 h
 by_bytes false false true r1 r2 r3 i f1 f2 f3 h = f3 h
 by_bytes false false false r1 r2 r3 i f1 f2 f3 h = cc
 
-of_words : (c : Configuration) (ws : List (List ℕ)) (media : ℕ) (i : Item) → IsUtf8 (joined ws) → item_of c ws media ≡ Ok i → IsRead i
+of_words : (c : Configuration) (ws : List (List ℕ)) (media : List ℕ) (i : Item) → IsUtf8 (joined ws) → item_of c ws media ≡ Ok i → IsRead i
 of_words c [] media i u h = cc
 of_words c (kind ∷ rest) media i u h =
-    by_bytes (bytes_eq kind (codes "part")) (bytes_eq kind (codes "init")) (media == 0) (part_in c rest media) (init_at (alone_in c rest) media) (bare_of c kind rest) i
+    by_bytes (bytes_eq kind (codes "part")) (bytes_eq kind (codes "init")) (length media == 0) (part_in c rest media) (init_at (alone_in c rest) media) (bare_of c kind rest) i
     (part_in-read c rest media i) (init-read (alone_in c rest) media i) (bare-read c kind rest i u) h
 
 -- the item of a line in UTF-8
-pub item-read : (c : Configuration) (line : List ℕ) (media : ℕ) (i : Item) → IsUtf8 line → item_in c line media ≡ Ok i → IsRead i
+pub item-read : (c : Configuration) (line media : List ℕ) (i : Item) → IsUtf8 line → item_in c line media ≡ Ok i → IsRead i
 item-read c line media i u h = of_words c (words line) media i (subst IsUtf8 (sym (joined_words line)) u) h

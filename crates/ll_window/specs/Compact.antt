@@ -6,7 +6,7 @@ use Rattle.ll_item.specs.declared.item.Item.{Item}
 use Rattle.ll_item.specs.declared.part.Part.{Part}
 use Rattle.ll_window.specs.declared.part_position.PartPosition.{PartPosition}
 use Rattle.ll_window.specs.Numbers.{numbered_parts, last_place}
-use Rattle.ll_window.specs.Rows.{Row, row, rows, lasting, broken_in}
+use Rattle.ll_window.specs.Rows.{Row, row, rows, lasting, broken_in, is_broken, one_if}
 use Rattle.ll_item.specs.Told.{end_time, told}
 use Rattle.ll_window.specs.Segments.{parts, segments, open_segment, duration, ended}
 use Rattle.ll_window.specs.Window.{window_limit, near_limit, gone, window, listed, skipped_in}
@@ -52,6 +52,20 @@ compact c items = record {
   last = last_place (numbered_parts c.first 0 (parts items));
   ended = ended items;
 }
+
+-- the map number of the segment that the next part belongs to: how many segments are broken so far, and one more where a break is pending
+abbrev pub map_now : Compact → ℕ
+map_now k = k.maps + one_if (is_broken k.open_parts) + one_if k.pending
+
+-- whether the first of these segments is broken, or the other where there are none
+abbrev pub first_broken : List Row → Bool → Bool
+first_broken [] other = other
+first_broken (row ∷ rows) other = row.segment.broken
+
+-- the map number in force at the first segment that playlists show, of the window's or the open one: as many broken segments as have left the
+-- window, and one more where that one is broken
+abbrev pub first_map : Compact → ℕ
+first_map k = k.discontinuity + one_if (first_broken k.window (is_broken k.open_parts))
 
 -- the open segment, where it has a part
 abbrev pub open_row : ℕ → ℕ → ℕ → List Part → Option Row

@@ -1,5 +1,5 @@
 //! How far a rendition has come.
-ghost use Rattle.std.specs.Prelude.{◌≡◌, ◌+◌, ◌<◌, ◌^◌};
+ghost use Rattle.std.specs.Prelude.{◌≡◌, ◌+◌, ◌<◌, ◌≤◌, ◌^◌};
 ghost use Rattle.ll_window.specs.Rows.{row};
 ghost use Rattle.ll_window.specs.Segments.{duration};
 ghost use Rattle.ll_window.specs.Rows as spec;
@@ -48,6 +48,14 @@ impl Progress {
         }
     }
 
+    /// The map number of the segment that the next part belongs to, where the open segment has these parts.
+    pub(crate) fn map_number(&self, parts: &[Part]) -> u64
+        requires few { self.now.maps + 2 < 2 ^ 64 }
+        ensures { result ≡ self.now.maps + spec.one_if (spec.is_broken parts.now) + spec.one_if self.now.pending }
+    {
+        self.maps + one_if(is_broken(parts)) + one_if(self.pending)
+    }
+
     /// With one more part of so many microseconds, which stands here.
     pub(crate) fn with_part(self, micros: u64, place: PartPosition) -> Progress
         requires open { self.open_duration + micros < 2 ^ 64 }
@@ -79,8 +87,16 @@ impl Progress {
     }
 }
 
+/// One where something is so, else none.
+pub(crate) fn one_if(so: bool) -> u64
+    ensures value { result ≡ spec.one_if so }
+    ensures few { result ≤ 1 }
+{
+    if so { 1 } else { 0 }
+}
+
 /// Whether a segment of these parts is broken from the one before.
-fn is_broken(parts: &[Part]) -> bool
+pub(crate) fn is_broken(parts: &[Part]) -> bool
     ensures { result ≡ spec.is_broken parts.now }
 {
     match parts.first() {

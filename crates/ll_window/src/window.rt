@@ -3,7 +3,7 @@ ghost use Rattle.std.specs.Arc.{arc_value};
 ghost use Rattle.std.specs.Option.{option_map};
 ghost use Rattle.ll_item.specs.declared.item.Item.{Item};
 ghost use Rattle.ll_attr.specs.YearEnd.{last_micro};
-ghost use Rattle.ll_window.specs.Compact.{compact, unfinished};
+ghost use Rattle.ll_window.specs.Compact.{compact, first_map, map_now, unfinished};
 ghost use Rattle.ll_window.specs.Compact as kept;
 ghost use Rattle.ll_window.specs.Refusal.{refusal, refusal_after, part_refusal};
 ghost use Rattle.ll_window.specs.Segments.{duration};
@@ -13,7 +13,7 @@ ghost use Rattle.ll_window.specs.Window.{segment_at, parts_at};
 
 use crate::finished::Finished;
 use crate::part_position::PartPosition;
-use crate::progress::Progress;
+use crate::progress::{Progress, is_broken, one_if};
 use crate::segment::Segment;
 use ll_item::{Item, Part, Settings};
 use std::alloc::{AllocError, Global};
@@ -202,6 +202,25 @@ impl Window {
         ensures { result.now ≡ self.now.open_parts }
     {
         self.open_parts.as_slice()
+    }
+
+    /// The number of the Media Initialization Section of the segment that the next part belongs to: how many segments are broken so far, and one
+    /// more where a break stands after the last part (EXT-X-MAP, section 4.4.4.5).
+    pub fn map_number(&self) -> u64
+        ensures { result ≡ map_now self.now }
+    {
+        self.progress.map_number(self.open_parts.as_slice())
+    }
+
+    /// The number of the Media Initialization Section in force at the first segment that a playlist shows, which is finished or open.
+    pub fn first_map_number(&self) -> u64
+        ensures { result ≡ first_map self.now }
+    {
+        let broken = match self.finished.row(0) {
+            Some(kept) => kept.segment.broken,
+            None => is_broken(self.open_parts.as_slice()),
+        };
+        self.finished.discontinuity + one_if(broken)
     }
 
     /// The media sequence number of the open segment, or of the next where none is open (section 4.4.3.2).

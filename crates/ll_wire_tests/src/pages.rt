@@ -1,5 +1,5 @@
 //! A playlist.
-use ll_item::{Item, Media, Settings};
+use ll_item::{Item, Payload, Settings};
 use ll_page::{Page, Rendition, Shown};
 use ll_range::Ranges;
 use ll_window::Window;
@@ -23,7 +23,7 @@ fn page_of(alloc: Global, settings: &Settings) -> Result<Option<Page>, AllocErro
 
 fn rendition(alloc: Global, settings: &Settings) -> Result<Rendition, AllocError> {
     let mut window = Window::new(alloc, settings)?;
-    let Ok(item) = Item::read(alloc, settings, "part hi 1000000 -", Media::none()) else {
+    let Ok(item) = Item::read(alloc, settings, "part hi 1000000 -", &Payload::none()) else {
         return Err(AllocError);
     };
     if window.push(item).is_err() {

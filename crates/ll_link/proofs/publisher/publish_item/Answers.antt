@@ -6,11 +6,11 @@ use Rattle.ll_link.proofs.publisher.publish_item.Goals as goal
 pub returns-in-Ok-clause-refused : goal.returns-in-Ok-clause-refused
 returns-in-Ok-clause-refused g c reason e =
     sym (ap told_answer c.in-Ok.is)
-    ∙ told_once c.args.service.now.hub.now c.args.name.now c.args.text.now c.args.media c.in-Some.channel c.in-Some.settings.now c.publish_to.result reason
+    ∙ told_once c.args.service.now.hub.now c.args.name.now c.args.text.now c.args.payload.now c.in-Some.channel c.in-Some.settings.now c.publish_to.result reason
     c.in-Some.ensures c.publish_to.ensures.refused e
 
 pub returns-in-Err-clause-refused : goal.returns-in-Err-clause-refused
 returns-in-Err-clause-refused g c reason e =
     sym (ap told_answer c.in-Err.is)
-    ∙ told_once c.args.service.now.hub.now c.args.name.now c.args.text.now c.args.media c.in-Some.channel c.in-Some.settings.now c.publish_to.result reason
+    ∙ told_once c.args.service.now.hub.now c.args.name.now c.args.text.now c.args.payload.now c.in-Some.channel c.in-Some.settings.now c.publish_to.result reason
     c.in-Some.ensures c.publish_to.ensures.refused e

@@ -1,5 +1,5 @@
 -- Two digits are read at a time.
-use Rattle.std.proofs.Common.{◌+◌, ◌*◌, ◌<◌, ◌≤◌, ◌++◌, ◌∷◌, [], Some, ap, ap₂, arith, length, length-append, subst, sym, ◌∙◌}
+use Rattle.std.proofs.Common.{◌+◌, ◌*◌, ◌<◌, ◌≤◌, ◌++◌, ◌∷◌, [], ap, ap₂, arith, length, length-append, subst, sym, ◌∙◌}
 use Rattle.std.specs.Option.{unwrap_or}
 use Rattle.std.specs.Prelude.{vec_capacity, vec_len}
 use Rattle.std.specs.Slice.Iter.{chunks_exact_rest, chunks_exact_size}
@@ -43,4 +43,4 @@ pub returns : goal.returns
 returns c =
     let before = c.loop-pair.invariant in
     let short : length (chunks_exact_rest c.loop-pair.pair-iterator) < 2 = omega (arith, c.in-None.ensures.steps.1, before.0) in
-    read-all c.args.text.now (chunks_exact_rest c.loop-pair.pair-iterator) c.loop-pair.bytes.items short before.1 ∙ ap Some (sym c.new.ensures)
+    read-all c.args.text.now (chunks_exact_rest c.loop-pair.pair-iterator) c.loop-pair.bytes.items short before.1

@@ -11,10 +11,10 @@ use Rattle.ll_room.proofs.room.Room.accept.Goals as goal
 pub returns-clause-accepted : goal.returns-clause-accepted
 returns-clause-accepted c es stands =
     let h = c.args.self.now in
-    publish-stands h c.take_in.new.self es c.args.item c.take_in.new.self.renditions stands
+    publish-stands h c.take_in.new.self es c.args.item c.take_in.new.self.renditions c.take_in.new.self.stores stands
     (subst (λ (x : RoomValue). 1 ≤ x.settings.target) c.in_ok-take_in.ensures.accepted (low c.take_in.new.self (the_view c.self.inside) c.self.view_is c.self.invariant.target))
     c.requires
-    c.in_ok-take_in.ensures.goes_on c.in_ok-take_in.ensures.accepted
+    c.in_ok-take_in.ensures.goes_on c.in_ok-take_in.ensures.stored c.in_ok-take_in.ensures.accepted
 
 pub returns-clause-still_open : goal.returns-clause-still_open
 returns-clause-still_open c =

@@ -1,0 +1,11 @@
+pub mod Grouped
+pub mod Last
+pub mod OwnLemmas
+pub mod Parts
+pub mod SectionBytes
+pub mod Shown
+pub mod Steps
+pub mod StoreStep
+pub mod StoresLemmas
+pub mod StoresStep
+pub mod WindowBytes

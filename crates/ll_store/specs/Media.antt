@@ -1,0 +1,50 @@
+-- The bytes that a rendition has for players: of segments, parts and Media Initialization Sections.
+use Rattle.std.specs.Prelude.{ℕ, ◌-◌, List, [], ◌∷◌, ◌++◌, Option, None, drop, if◌then◌else◌, length, nat_le, option_and_then, option_map, slice_get}
+use Rattle.std.specs.List.{concat}
+use Rattle.ll_item.specs.Settings.{Configuration}
+use Rattle.ll_item.specs.declared.item.Item.{Item}
+use Rattle.ll_window.specs.Compact.{Compact, compact}
+use Rattle.ll_store.specs.Parts.{open_bytes, segment_bytes}
+use Rattle.ll_store.specs.declared.segment.Section.{Section}
+use Rattle.ll_store.specs.Sections.{kept_sections, section_of, sections}
+use Rattle.ll_store.specs.declared.what.What.{What}
+use Rattle.ll_store.specs.declared.what.What.TheVariants as what
+
+-- what is kept of the bytes of all items of a rendition
+pub record StoreValue : Type 0 where
+  -- of each part of each segment of the window
+  pub window : List (List (List ℕ))
+  -- of each part of the open segment
+  pub unfinished : List (List ℕ)
+  pub sections : List Section
+
+-- the last so many
+abbrev pub last_of : {A : Type 0} → ℕ → List A → List A
+last_of n xs = drop (length xs - n) xs
+
+abbrev pub store : Configuration → List Item → StoreValue
+store c items = record {
+  window = last_of (length (compact c items).window) (segment_bytes items);
+  unfinished = open_bytes items;
+  sections = kept_sections (compact c items) (sections c items);
+}
+
+-- the one of this number, where the first has that number
+abbrev pub numbered : {A : Type 0} → ℕ → ℕ → List A → Option A
+numbered first number xs = if nat_le first number then slice_get xs (number - first) else None
+
+-- the Media Sequence Number of the window's first segment
+abbrev pub first_shown : Compact → ℕ
+first_shown k = k.next_number - length k.window
+
+-- A segment of the window, once it is finished; a part of one of these or of the open segment; a section that is in force at one of these, or that
+-- would be set now. Media is given up when its segment leaves the window.
+abbrev pub media_in : Compact → StoreValue → What → Option (List ℕ)
+media_in k s what.Playlist = None
+media_in k s (what.Segment number) = option_map concat (numbered (first_shown k) number s.window)
+media_in k s (what.Part number index) = option_and_then (λ parts. slice_get parts index) (numbered (first_shown k) number (s.window ++ s.unfinished ∷ []))
+media_in k s (what.Init number) = section_of number s.sections
+
+-- what there is of all items of a rendition
+abbrev pub media : Configuration → List Item → What → Option (List ℕ)
+media c items asked = media_in (compact c items) (store c items) asked

@@ -1,0 +1,36 @@
+-- Media Initialization Sections: the bytes that were last set for each map number (EXT-X-MAP, section 4.4.4.5).
+use Rattle.std.specs.Prelude.{ℕ, List, [], ◌∷◌, ◌++◌, ◌==◌, not, Option, filter, find, nat_le, option_map}
+use Rattle.ll_item.specs.Settings.{Configuration}
+use Rattle.ll_item.specs.declared.item.Item.{Item}
+use Rattle.ll_item.specs.declared.item.Item.TheVariants as item
+use Rattle.ll_store.specs.declared.segment.Section.{Section}
+use Rattle.ll_window.specs.Compact.{Compact, compact, first_map, map_now}
+
+-- a second one for the same number replaces the first
+abbrev pub with_section : ℕ → List ℕ → List Section → List Section
+with_section number bytes sections = filter (λ (s : Section). not (s.number == number)) sections ++ (record { number = number; bytes = bytes }) ∷ []
+
+-- what an item sets after what is kept of these before it
+abbrev pub and_section : Compact → List Section → Item → List Section
+and_section k sections (item.Init rendition media) = with_section (map_now k) media sections
+and_section k sections (item.Part rendition duration independent finish media) = sections
+and_section k sections (item.Break rendition) = sections
+and_section k sections (item.End rendition) = sections
+and_section k sections (item.Range rendition id attributes) = sections
+and_section k sections (item.Unrange rendition id) = sections
+
+abbrev pub sections_from : Configuration → List Item → List Section → List Item → List Section
+sections_from c before sections [] = sections
+sections_from c before sections (i ∷ items) = sections_from c (before ++ i ∷ []) (and_section (compact c before) sections i) items
+
+-- all that these items of a rendition set
+abbrev pub sections : Configuration → List Item → List Section
+sections c items = sections_from c [] [] items
+
+-- what is kept: those in force at a segment that playlists show, or that would be set now
+abbrev pub kept_sections : Compact → List Section → List Section
+kept_sections k sections = filter (λ (s : Section). nat_le (first_map k) s.number) sections
+
+-- the bytes of the section of a map number
+abbrev pub section_of : ℕ → List Section → Option (List ℕ)
+section_of number sections = option_map (λ (s : Section). s.bytes) (find (λ (s : Section). s.number == number) sections)

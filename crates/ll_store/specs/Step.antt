@@ -1,0 +1,46 @@
+-- For private contracts: what one more item makes of the bytes that are kept.
+use Rattle.std.specs.Prelude.{ℕ, List, [], ◌∷◌, ◌++◌, Bool, true, false, length}
+use Rattle.ll_item.specs.declared.item.Item.{Item}
+use Rattle.ll_item.specs.declared.item.Item.TheVariants as item
+use Rattle.ll_window.specs.Compact.{Compact}
+use Rattle.ll_store.specs.declared.brought.Brought.{Brought}
+use Rattle.ll_store.specs.declared.brought.Brought.TheVariants as brought
+use Rattle.ll_store.specs.Media.{StoreValue, last_of}
+use Rattle.ll_store.specs.Sections.{kept_sections, with_section}
+
+-- the bytes of a segment, where it has a part
+abbrev pub closed : List (List ℕ) → List (List (List ℕ))
+closed [] = []
+closed (bytes ∷ more) = (bytes ∷ more) ∷ []
+
+-- the segments that an item finishes
+abbrev pub finished_by : Bool → List (List ℕ) → List (List (List ℕ))
+finished_by true parts = parts ∷ []
+finished_by false parts = []
+
+abbrev pub left_by : Bool → List (List ℕ) → List (List ℕ)
+left_by true parts = []
+left_by false parts = parts
+
+-- what an item brings
+abbrev pub brought_by : Item → Brought
+brought_by (item.Part rendition duration independent finish media) = brought.Part media finish
+brought_by (item.Init rendition media) = brought.Section media
+brought_by (item.End rendition) = brought.End
+brought_by (item.Break rendition) = brought.Nothing
+brought_by (item.Range rendition id attributes) = brought.Nothing
+brought_by (item.Unrange rendition id) = brought.Nothing
+
+-- with what one more item brings, before anything is given up; a section is set for this map number
+abbrev pub grown : ℕ → StoreValue → Brought → StoreValue
+grown map s (brought.Part media finish) = record s {
+  window = s.window ++ finished_by finish (s.unfinished ++ media ∷ []);
+  unfinished = left_by finish (s.unfinished ++ media ∷ []);
+}
+grown map s (brought.Section media) = record s { sections = with_section map media s.sections }
+grown map s brought.End = record s { window = s.window ++ closed s.unfinished; unfinished = [] }
+grown map s brought.Nothing = s
+
+-- what is left where this is shown
+abbrev pub trimmed : Compact → StoreValue → StoreValue
+trimmed k s = record { window = last_of (length k.window) s.window; unfinished = s.unfinished; sections = kept_sections k s.sections }

@@ -1,0 +1,46 @@
+//! What an item brings to the bytes that are kept.
+ghost use Rattle.std.specs.Prelude.{◌≡◌, IfOk};
+ghost use Rattle.ll_store.specs.Step.{brought_by};
+
+use ll_item::{Item, Media};
+use std::alloc::AllocError;
+
+/// What an item brings to the bytes that are kept of its rendition.
+#[derive(Drop)]
+pub enum Brought {
+    /// The bytes of a part.
+    Part {
+        /// Its bytes.
+        media: Media,
+        /// Whether it is the last part of its segment.
+        finish: bool,
+    },
+    /// The bytes of a Media Initialization Section.
+    Section {
+        /// Its bytes.
+        media: Media,
+    },
+    /// The end, which finishes an open segment.
+    End,
+    /// No bytes.
+    Nothing,
+}
+
+impl Brought {
+    /// What this item brings: another holder of its bytes. It fails only where no memory is found.
+    pub fn by(item: &Item) -> Result<Brought, AllocError>
+        ensures { IfOk result (λ brought. brought ≡ brought_by item.now) }
+    {
+        Ok(match item {
+            Item::Part { finish, media, .. } => Brought::Part {
+                media: media.copy()?,
+                finish: *finish,
+            },
+            Item::Init { media, .. } => Brought::Section {
+                media: media.copy()?,
+            },
+            Item::End { .. } => Brought::End,
+            Item::Break { .. } | Item::Range { .. } | Item::Unrange { .. } => Brought::Nothing,
+        })
+    }
+}

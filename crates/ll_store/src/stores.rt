@@ -1,0 +1,87 @@
+//! The bytes that all renditions of a channel have for players.
+ghost use Rattle.std.specs.Prelude.{◌≡◌, [], IfOk, OnOk, true};
+ghost use Rattle.ll_item.specs.Items.{rendition_of};
+ghost use Rattle.ll_store.specs.Step.{brought_by};
+ghost use Rattle.ll_store.specs.Stores as spec;
+ghost use Rattle.ll_store.specs.Stores.{all_kept, is_ready_at, stores, stores_with};
+
+use crate::arrival::Arrival;
+use crate::brought::Brought;
+use crate::store::Store;
+use ll_item::{Item, Settings};
+use ll_rendition::Rendition;
+use std::alloc::{AllocError, Global};
+
+/// What is kept of no items, for each rendition of a channel of these settings. It fails only where no memory is found.
+pub fn new_stores(alloc: Global, settings: &Settings) -> Result<Vec<Store>, AllocError>
+    ensures { IfOk result (λ made. all_kept made.items ≡ stores settings.now []) }
+{
+    let names = settings.renditions();
+    let mut made = Vec::with_capacity(alloc, names.len())?;
+    for _name in names {
+        made.push(Store::new(alloc))?;
+    }
+    Ok(made)
+}
+
+/// What an item brings, where this is kept of all renditions before it; memory for it is found. It fails only where none is found.
+pub fn expect(
+    stores: &mut Vec<Store>,
+    renditions: &[Rendition],
+    item: &Item,
+) -> Result<Arrival, AllocError>
+    ensures unchanged { all_kept stores.new.items ≡ all_kept stores.old.items }
+    ensures ready { IfOk result (λ a. is_ready_at a.rendition stores.new.items ≡ true) }
+    ensures rendition { IfOk result (λ a. a.rendition ≡ rendition_of item.now) }
+    ensures map { IfOk result (λ a. a.map ≡ spec.map_at (rendition_of item.now) renditions.now) }
+    ensures brought { IfOk result (λ a. a.brought ≡ brought_by item.now) }
+{
+    let rendition = item.rendition();
+    let brought = Brought::by(item)?;
+    reserve_at(stores, rendition)?;
+    let map = map_at(renditions, rendition);
+    Ok(Arrival {
+        rendition,
+        map,
+        brought,
+    })
+}
+
+/// Takes in what an item brings that was accepted, where this is kept of all renditions with it. It takes no memory.
+pub fn arrive(stores: &mut Vec<Store>, arrival: Arrival, renditions: &[Rendition])
+    requires { is_ready_at arrival.rendition stores.old.items ≡ true }
+    ensures { all_kept stores.new.items ≡ stores_with arrival renditions.now (all_kept stores.old.items) }
+{
+    let Arrival {
+        rendition,
+        map,
+        brought,
+    } = arrival;
+    let Some(kept) = renditions.get(rendition) else {
+        return;
+    };
+    if let Some(store) = stores.get_mut(rendition) {
+        store.accept(brought, map, &kept.window);
+    }
+}
+
+/// Finds memory in the store at this place for what one more item brings.
+fn reserve_at(stores: &mut Vec<Store>, place: usize) -> Result<(), AllocError>
+    ensures unchanged { all_kept stores.new.items ≡ all_kept stores.old.items }
+    ensures ready { OnOk result (is_ready_at place stores.new.items ≡ true) }
+{
+    match stores.get_mut(place) {
+        Some(store) => store.reserve(),
+        None => Ok(()),
+    }
+}
+
+/// The map number for which a section of the rendition at this place is set now.
+fn map_at(renditions: &[Rendition], place: usize) -> u64
+    ensures { result ≡ spec.map_at place renditions.now }
+{
+    match renditions.get(place) {
+        Some(kept) => kept.window.map_number(),
+        None => 0,
+    }
+}
