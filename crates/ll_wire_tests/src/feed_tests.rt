@@ -105,12 +105,13 @@ cam part \u{ff} 1 f 3␊x y␊ => Bad; x 1 y; ";
 
 fn add_stream(alloc: Global, told: &mut String, input: &str) -> Result<(), AllocError> {
     let bytes = bytes(alloc, input)?;
-    add_both_ways(alloc, told, &bytes)
+    add_each_way(alloc, told, &bytes)
 }
 
-/// Notes the lines of all bytes at once, and those of one after another where they differ.
-fn add_both_ways(alloc: Global, told: &mut String, bytes: &[u8]) -> Result<(), AllocError> {
+/// Notes the lines of bytes that come in large pieces, and where they differ those of pieces of 100 bytes and of one.
+fn add_each_way(alloc: Global, told: &mut String, bytes: &[u8]) -> Result<(), AllocError> {
     add_lines(alloc, told, bytes, 9_999)?;
+    add_others(alloc, told, bytes, 100)?;
     add_others(alloc, told, bytes, 1)
 }
 
@@ -144,7 +145,7 @@ pub(crate) const LONG: &str = "feed: long
 fn add_long(alloc: Global, told: &mut String, input: &str) -> Result<(), AllocError> {
     let line = "x".repeat(alloc, number(input, 0).saturating_sub(2))?;
     let text = format!(in alloc; "c {line}{}", column(input, 1))?;
-    add_both_ways(alloc, told, text.as_str().as_bytes())
+    add_each_way(alloc, told, text.as_str().as_bytes())
 }
 
 /// How many bytes a part has, what comes after them, and what is told.
