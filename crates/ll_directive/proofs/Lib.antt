@@ -1,4 +1,4 @@
 pub mod Decoded
-pub mod Paths
+pub mod Pieces
 pub mod Short
 pub mod Tells

@@ -1,5 +1,5 @@
 -- What the target of a player's request wants (section 6.2.5 of draft-pantos-hls-rfc8216bis).
-use Rattle.std.specs.Prelude.{ℕ, List, [], ◌∷◌, Bool, ◌&&◌, ◌||◌, ◌==◌, not, Option, Some, None, Result, Ok, Err, if◌then◌else◌, ok_or, option_and_then, option_map, map, filter, length, nat_le, bytes_eq, codes}
+use Rattle.std.specs.Prelude.{◌≡◌, ℕ, List, [], ◌∷◌, Bool, false, ◌&&◌, ◌||◌, ◌==◌, not, Option, Some, None, Result, Ok, Err, if◌then◌else◌, ok_or, option_and_then, option_map, map, filter, length, nat_le, bytes_eq, codes}
 use Rattle.std.specs.Char.{is_ascii_graphic}
 use Rattle.std.specs.List.{list_all, before_first, after_first}
 use Rattle.std.specs.Option.{option_or}
@@ -10,8 +10,11 @@ use Rattle.ll_attr.specs.Words.{pieces_at, after}
 use Rattle.ll_item.specs.Names.{is_name}
 use Rattle.ll_item.specs.declared.skip_kind.SkipKind.{SkipKind}
 use Rattle.ll_item.specs.declared.skip_kind.SkipKind.TheVariants.{Yes, V2}
+use Rattle.ll_directive.specs.Files.{file_in, is_playlist}
 use Rattle.ll_directive.specs.declared.want.Awaited.{Awaited}
 use Rattle.ll_directive.specs.declared.want.Awaited.TheVariants.{Nothing, Segment, Part}
+use Rattle.ll_store.specs.declared.what.What.{What}
+use Rattle.ll_store.specs.declared.what.What.TheVariants as what
 use Rattle.ll_directive.specs.declared.fault.TargetFault.{TargetFault}
 use Rattle.ll_directive.specs.declared.fault.TargetFault.TheVariants.{BadTarget, NotFound, BadMsn, BadPart, BadSkip, Double, PartAlone, Memory}
 
@@ -19,9 +22,26 @@ pub record WantValue : Type 0 where
   -- the names in the path
   pub channel : List ℕ
   pub rendition : List ℕ
+  -- the file that it is for
+  pub what : What
   pub awaited : Awaited
-  -- which delta update it is for; none for the full playlist
+  -- which delta update it is for; none for the full playlist, and for media
   pub skip : Option SkipKind
+
+-- what a request for media waits for, where it waits: a part, until it is there
+abbrev pub awaits : What → Awaited
+awaits what.Playlist = Nothing
+awaits (what.Segment number) = Nothing
+awaits (what.Part number index) = Part number index
+awaits (what.Init number) = Nothing
+
+-- a request for media has no directives
+abbrev pub IsPlain : WantValue → Type 0
+IsPlain w = is_playlist w.what ≡ false → (w.awaited ≡ awaits w.what) × (w.skip ≡ None)
+
+-- a request for media of a rendition
+abbrev pub media_want : List ℕ → List ℕ → What → WantValue
+media_want channel rendition what = record { channel = channel; rendition = rendition; what = what; awaited = awaits what; skip = None }
 
 infixl 10 ◌>>=◌
 abbrev pub ◌>>=◌ : {A B : Type 0} → Result A TargetFault → (A → Result B TargetFault) → Result B TargetFault
@@ -63,10 +83,10 @@ path_of front = option_or (after (codes "/") front) (option_and_then after_autho
 abbrev pub path_in : List ℕ → Option (List ℕ)
 path_in target = if list_all is_target_byte target then path_of (before_first is_question target) else None
 
--- the names of the channel and the rendition in `CHANNEL/RENDITION/live.m3u8`, the parts of a path between slashes
-abbrev pub names_in : List (List ℕ) → Option (List ℕ × List ℕ)
+-- the names of the channel and the rendition, and what of it, in `CHANNEL/RENDITION/FILE`, the parts of a path between slashes
+abbrev pub names_in : List (List ℕ) → Option (List ℕ × (List ℕ × What))
 names_in (channel ∷ rendition ∷ file ∷ []) =
-    if is_name channel && is_name rendition && bytes_eq file (codes "live.m3u8") then Some (channel, rendition) else None
+    if is_name channel && is_name rendition then option_map (λ what. (channel, (rendition, what))) (file_in file) else None
 names_in other = None
 
 -- ---- the query
@@ -115,13 +135,17 @@ directives_in pairs =
 
 -- ---- the whole
 
+-- what a request asks of a file by its query: that of media isn't read
+abbrev pub directives_for : What → List (List ℕ × List ℕ) → Result (Awaited × Option SkipKind) TargetFault
+directives_for what pairs = if is_playlist what then directives_in pairs else Ok (awaits what, None)
+
 -- what a target wants, or its first fault
 abbrev pub want_in : List ℕ → Result WantValue TargetFault
 want_in target = do
   path ← ok_or (path_in target) BadTarget
   names ← ok_or (names_in (pieces_at 47 path)) NotFound
-  directives ← directives_in (parse (after_first is_question target))
-  Ok (record { channel = names.0; rendition = names.1; awaited = directives.0; skip = directives.1 })
+  directives ← directives_for names.1.1 (parse (after_first is_question target))
+  Ok (record { channel = names.0; rendition = names.1.0; what = names.1.1; awaited = directives.0; skip = directives.1 })
 
 -- the status of the answer
 abbrev pub status_of : TargetFault → ℕ

@@ -1,13 +1,16 @@
-//! What the target of a player's request wants: a playlist, and which part of the stream it waits for. Sections are those of
+//! What the target of a player's request wants: a playlist, and which part of the stream it waits for, or media. Sections are those of
 //! draft-pantos-hls-rfc8216bis.
 #![tactic(auto)]
 
 mod fault;
+mod file;
 mod path;
 mod query;
 mod target;
 mod want;
 
 pub use fault::TargetFault;
+pub use file::media_file;
+pub use ll_store::What;
 pub use target::{named_channel, read_target};
 pub use want::{Awaited, Want};

@@ -4,8 +4,10 @@ ghost use Rattle.std.specs.List.{before_first, after_first};
 ghost use Rattle.ll_attr.specs.Words.{pieces_at};
 ghost use Rattle.ll_directive.specs.Targets as spec;
 
+use crate::file::file_in;
 use ll_attr::{after, cut};
 use ll_item::is_name;
+use ll_store::What;
 
 /// What stands before the first separator, or the whole text, and what stands after it, or nothing.
 pub(crate) fn split(text: &str, separator: char) -> (&str, &str)
@@ -53,16 +55,19 @@ fn is_scheme(text: &str) -> bool
     text.eq_ignore_ascii_case("http") || text.eq_ignore_ascii_case("https")
 }
 
-/// The names of the channel and the rendition in `CHANNEL/RENDITION/live.m3u8`.
-pub(crate) fn names_in(path: &str) -> Option<(&str, &str)>
+/// The names of the channel and the rendition, and what of it, in `CHANNEL/RENDITION/FILE`.
+#[tactic(auto, using(crate::proofs::Pieces::more_names))]
+pub(crate) fn names_in(path: &str) -> Option<(&str, &str, What)>
     ensures { MatchOption result (spec.names_in (pieces_at 47 path.now) ≡ None)
-        (λ names. spec.names_in (pieces_at 47 path.now) ≡ Some (names.0.now, names.1.now)) }
+        (λ names. spec.names_in (pieces_at 47 path.now) ≡ Some (names.0.now, (names.1.now, names.2))) }
 {
     let (channel, rest) = cut(path, '/')?;
     let (rendition, file) = cut(rest, '/')?;
-    if is_name(channel) && is_name(rendition) && file == "live.m3u8" {
-        Some((channel, rendition))
-    } else {
-        None
+    if cut(file, '/').is_some() {
+        return None;
     }
+    if !is_name(channel) || !is_name(rendition) {
+        return None;
+    }
+    Some((channel, rendition, file_in(file)?))
 }

@@ -1,19 +1,22 @@
 //! A target, read.
 ghost use Rattle.std.specs.Prelude.{◌≡◌, ◌≢◌, IfOk, IfErr, IsOk, IsErrOf, Ok, Err, None, Some, MatchOption};
 ghost use Rattle.std.specs.List.{after_first, list_all};
+ghost use Rattle.form_urlencoded.specs.Form.{parse};
 ghost use Rattle.ll_directive.specs.Targets.{want_in};
 ghost use Rattle.ll_directive.specs.Targets as spec;
 
 use crate::fault::TargetFault;
 use crate::path::{names_in, path_of, split};
 use crate::query::read_query;
-use crate::want::Want;
+use crate::want::{Awaited, Want, awaits};
 use ll_attr::Text;
+use ll_item::SkipKind;
+use ll_store::What;
 use percent_encoding::ascii_str;
 use std::alloc::Global;
 
-/// What the target of a request wants (section 6.2.5): `/CHANNEL/RENDITION/live.m3u8`, or that after `http://` or `https://` and an
-/// authority, with a query or none. Or the target's first fault, in the order of [`TargetFault`]; memory that isn't found comes
+/// What the target of a request wants (section 6.2.5): `/CHANNEL/RENDITION/FILE`, or that after `http://` or `https://` and an
+/// authority, with a query or none. The file is a playlist, `live.m3u8`, or media as playlists name it; the query of media isn't read. Or the target's first fault, in the order of [`TargetFault`]; memory that isn't found comes
 /// after all other faults.
 pub fn read_target(alloc: Global, target: &[u8]) -> Result<Want, TargetFault>
     ensures value { IfOk result (λ want. want_in target.now ≡ Ok want) }
@@ -23,13 +26,27 @@ pub fn read_target(alloc: Global, target: &[u8]) -> Result<Want, TargetFault>
     let Some((path, query)) = parts_of(target) else {
         return Err(TargetFault::BadTarget);
     };
-    let Some((channel, rendition)) = names_in(path) else {
+    let Some((channel, rendition, what)) = names_in(path) else {
         return Err(TargetFault::NotFound);
     };
-    let (awaited, skip) = read_query(query.as_bytes())?;
+    let (awaited, skip) = directives_for(what, query)?;
     let channel = Text::from_str(alloc, channel)?;
     let rendition = Text::from_str(alloc, rendition)?;
-    Ok(Want::of(channel, rendition, awaited, skip))
+    Ok(Want::of(channel, rendition, what, awaited, skip))
+}
+
+/// What a request asks of a file by its query: that of media isn't read.
+fn directives_for(
+    what: What,
+    query: &str,
+) -> Result<(Awaited, Option<SkipKind>), TargetFault>
+    ensures value { result ≡ spec.directives_for what (parse query.now) }
+    ensures not_memory { IfErr result (λ fault. fault ≢ TargetFault.Memory) }
+{
+    match what {
+        What::Playlist => read_query(query.as_bytes()),
+        what => Ok((awaits(what), None)),
+    }
 }
 
 /// The name of the channel in a target that wants something, as [`read_target`] reads it. It takes no memory, so a channel that isn't
@@ -38,7 +55,7 @@ pub fn named_channel(target: &[u8]) -> Option<&str>
     ensures { (want : spec.WantValue) → want_in target.now ≡ Ok want → MatchOption result ⊥ (λ name. name.now ≡ want.channel) }
 {
     let (path, _) = parts_of(target)?;
-    let (channel, _) = names_in(path)?;
+    let (channel, _, _) = names_in(path)?;
     Some(channel)
 }
 

@@ -1,9 +1,13 @@
 //! What a request wants.
 ghost use Rattle.std.specs.Prelude.{◌≡◌, ◌&&◌, IfOk, None, Some, if◌then◌else◌, true};
+ghost use Rattle.ll_directive.specs.Targets as spec;
+ghost use Rattle.ll_directive.specs.Targets.{IsPlain, media_want};
 ghost use Rattle.ll_item.specs.Names.{is_name};
+ghost use Rattle.ll_store.specs.declared.what.What.TheVariants as what;
 
 use ll_attr::Text;
 use ll_item::{SkipKind, is_name};
+use ll_store::What;
 use std::alloc::AllocError;
 use std::marker::Model;
 
@@ -18,11 +22,22 @@ pub enum Awaited {
     Part(u64, u64),
 }
 
-/// What a request wants: the playlist of a rendition of a channel.
+/// What a request for media waits for, where it waits: a part, until it is there.
+pub(crate) fn awaits(what: What) -> Awaited
+    ensures { result ≡ spec.awaits what }
+{
+    match what {
+        What::Part(number, index) => Awaited::Part(number, index),
+        What::Playlist | What::Segment(_) | What::Init(_) => Awaited::Nothing,
+    }
+}
+
+/// What a request wants: the playlist or media of a rendition of a channel.
 #[derive(Drop)]
 pub struct Want {
     channel: Text,
     rendition: Text,
+    what: What,
     awaited: Awaited,
     skip: Option<SkipKind>,
 }
@@ -30,17 +45,18 @@ pub struct Want {
 impl Model for Want {
     ghost use Rattle.std.specs.Prelude.{◌≡◌, true};
     ghost use Rattle.ll_item.specs.Names.{is_name};
-    ghost use Rattle.ll_directive.specs.Targets.{WantValue};
+    ghost use Rattle.ll_directive.specs.Targets.{IsPlain, WantValue};
 
     ghost Value = { WantValue };
 
-    ghost view = { λ w. record { channel = w.channel; rendition = w.rendition; awaited = w.awaited; skip = w.skip } };
+    ghost view = { λ w. record { channel = w.channel; rendition = w.rendition; what = w.what; awaited = w.awaited; skip = w.skip } };
 
-    ghost invariant = { λ w. (is_name w.channel ≡ true) × (is_name w.rendition ≡ true) };
+    ghost invariant = { λ w. (is_name w.channel ≡ true) × (is_name w.rendition ≡ true)
+        × IsPlain (record { channel = w.channel; rendition = w.rendition; what = w.what; awaited = w.awaited; skip = w.skip }) };
 }
 
 impl Want {
-    /// What is wanted of the rendition of this name of the channel of this name; none where one of them hasn't a name's form.
+    /// The playlist of the rendition of this name of the channel of this name; none where one of them hasn't a name's form.
     pub fn new(
         channel: Text,
         rendition: Text,
@@ -48,28 +64,41 @@ impl Want {
         skip: Option<SkipKind>,
     ) -> Option<Want>
         ensures { result ≡ (if is_name channel && is_name rendition
-            then Some (record { channel = channel; rendition = rendition; awaited = awaited; skip = skip }) else None) }
+            then Some (record { channel = channel; rendition = rendition; what = what.Playlist; awaited = awaited; skip = skip }) else None) }
     {
         if !is_name(channel.as_str()) || !is_name(rendition.as_str()) {
             return None;
         }
-        Some(Want::of(channel, rendition, awaited, skip))
+        Some(Want::of(channel, rendition, What::Playlist, awaited, skip))
+    }
+
+    /// Media of the rendition of this name of the channel of this name; none where one of them hasn't a name's form.
+    pub fn media(channel: Text, rendition: Text, what: What) -> Option<Want>
+        ensures { result ≡ (if is_name channel && is_name rendition then Some (media_want channel rendition what) else None) }
+    {
+        if !is_name(channel.as_str()) || !is_name(rendition.as_str()) {
+            return None;
+        }
+        Some(Want::of(channel, rendition, what, awaits(what), None))
     }
 
     /// What is wanted of the rendition of this name of the channel of this name.
     pub(crate) fn of(
         channel: Text,
         rendition: Text,
+        what: What,
         awaited: Awaited,
         skip: Option<SkipKind>,
     ) -> Want
         requires channel_named { is_name channel ≡ true }
         requires rendition_named { is_name rendition ≡ true }
-        ensures { result ≡ record { channel = channel; rendition = rendition; awaited = awaited; skip = skip } }
+        requires plain { IsPlain (record { channel = channel; rendition = rendition; what = what; awaited = awaited; skip = skip }) }
+        ensures { result ≡ record { channel = channel; rendition = rendition; what = what; awaited = awaited; skip = skip } }
     {
         Want {
             channel,
             rendition,
+            what,
             awaited,
             skip,
         }
@@ -89,6 +118,13 @@ impl Want {
         ensures named { is_name result.now ≡ true }
     {
         self.rendition.as_str()
+    }
+
+    /// The file that the request is for.
+    pub fn what(&self) -> What
+        ensures { result ≡ self.now.what }
+    {
+        self.what
     }
 
     /// What the request waits for.
@@ -112,6 +148,7 @@ impl Want {
         Ok(Want {
             channel: self.channel.copy()?,
             rendition: self.rendition.copy()?,
+            what: self.what,
             awaited: self.awaited,
             skip: self.skip,
         })

@@ -1,10 +1,12 @@
 pub mod Grouped
 pub mod Last
+pub mod NextPart
 pub mod OwnLemmas
 pub mod Parts
 pub mod SectionBytes
 pub mod Shown
 pub mod Steps
+pub mod Sizes
 pub mod StoreStep
 pub mod StoresLemmas
 pub mod StoresStep

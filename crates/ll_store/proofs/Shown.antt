@@ -67,7 +67,7 @@ pub shown-few : (c : Configuration) (items : List Item) (i : Item) → ended ite
 shown-few c items i going =
     subst (λ (k : Compact). length k.window ≤ length (compact c items).window + finishes (compact c items) i) (sym (compact-snoc c items i going)) (few-more (compact c items) i)
 
-length-rows : (n m t : ℕ) (gs : List (List Part)) → length (rows n m t gs) ≡ length gs
+pub length-rows : (n m t : ℕ) (gs : List (List Part)) → length (rows n m t gs) ≡ length gs
 length-rows n m t [] = refl
 length-rows n m t (g ∷ gs) = ap suc (length-rows (n + 1) (m + one_if (is_broken g)) (t + duration g) gs)
 

@@ -29,7 +29,7 @@ open-same items i parts_same ended_same bytes_same =
     ∙ ap₂ (λ e ps. open_of e (split ps) (part_bytes items)) ended_same parts_same
 
 -- after the end no segment is open
-end-open : (items : List Item) (r : ℕ) → open_bytes (items ++ item.End r ∷ []) ≡ []
+pub end-open : (items : List Item) (r : ℕ) → open_bytes (items ++ item.End r ∷ []) ≡ []
 end-open items r =
     let t = told items in
     let s = split t.parts in

@@ -16,7 +16,7 @@ use Rattle.ll_store.specs.Media.{last_of, store}
 use Rattle.ll_store.specs.Parts.{grouped, open_bytes, part_bytes, parts_in, segment_bytes}
 use Rattle.ll_store.specs.Step.{brought_by, closed, finished_by, grown}
 
-length-grouped : (gs : List (List Part)) (bytes : List (List ℕ)) → length (grouped gs bytes) ≡ length gs
+pub length-grouped : (gs : List (List Part)) (bytes : List (List ℕ)) → length (grouped gs bytes) ≡ length gs
 length-grouped [] bytes = refl
 length-grouped (g ∷ gs) bytes = ap suc (length-grouped gs _)
 
@@ -50,7 +50,8 @@ one-closed [] (b ∷ bs) h = absurd (omega (arith, h))
 one-closed (p ∷ ps) [] h = absurd (omega (arith, h))
 one-closed (p ∷ ps) (b ∷ bs) h = refl
 
-open_by : (e : Bool) (items : List Item) → ended items ≡ e → e ≡ false → length (open_segment items) ≡ length (open_bytes items)
+-- the open segment has bytes for each of its parts
+pub open_by : (e : Bool) (items : List Item) → ended items ≡ e → e ≡ false → length (open_segment items) ≡ length (open_bytes items)
 open_by true items e g = cc
 open_by false items e g =
     let t = told items in

@@ -1,5 +1,5 @@
 -- The bytes that a rendition has for players: of segments, parts and Media Initialization Sections.
-use Rattle.std.specs.Prelude.{ℕ, ◌-◌, List, [], ◌∷◌, ◌++◌, Option, None, drop, if◌then◌else◌, length, nat_le, option_and_then, option_map, slice_get}
+use Rattle.std.specs.Prelude.{ℕ, ◌-◌, List, [], ◌∷◌, ◌++◌, Option, Some, None, drop, if◌then◌else◌, length, nat_le, option_and_then, option_map, slice_get}
 use Rattle.std.specs.List.{concat}
 use Rattle.ll_item.specs.Settings.{Configuration}
 use Rattle.ll_item.specs.declared.item.Item.{Item}
@@ -29,20 +29,24 @@ store c items = record {
   sections = kept_sections (compact c items) (sections c items);
 }
 
--- the one of this number, where the first has that number
-abbrev pub numbered : {A : Type 0} → ℕ → ℕ → List A → Option A
-numbered first number xs = if nat_le first number then slice_get xs (number - first) else None
-
 -- the Media Sequence Number of the window's first segment
 abbrev pub first_shown : Compact → ℕ
 first_shown k = k.next_number - length k.window
+
+-- the place in the window of the segment of this Media Sequence Number, or where it would stand; none before the window
+abbrev pub place_in : Compact → ℕ → Option ℕ
+place_in k number = if nat_le (first_shown k) number then Some (number - first_shown k) else None
+
+-- the part of this index of the segment at this place
+abbrev pub part_at : List (List (List ℕ)) → ℕ → ℕ → Option (List ℕ)
+part_at segments place index = option_and_then (λ parts. slice_get parts index) (slice_get segments place)
 
 -- A segment of the window, once it is finished; a part of one of these or of the open segment; a section that is in force at one of these, or that
 -- would be set now. Media is given up when its segment leaves the window.
 abbrev pub media_in : Compact → StoreValue → What → Option (List ℕ)
 media_in k s what.Playlist = None
-media_in k s (what.Segment number) = option_map concat (numbered (first_shown k) number s.window)
-media_in k s (what.Part number index) = option_and_then (λ parts. slice_get parts index) (numbered (first_shown k) number (s.window ++ s.unfinished ∷ []))
+media_in k s (what.Segment number) = option_and_then (λ place. option_map concat (slice_get s.window place)) (place_in k number)
+media_in k s (what.Part number index) = option_and_then (λ place. part_at (s.window ++ s.unfinished ∷ []) place index) (place_in k number)
 media_in k s (what.Init number) = section_of number s.sections
 
 -- what there is of all items of a rendition

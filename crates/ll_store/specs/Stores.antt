@@ -1,15 +1,16 @@
 -- The bytes that all renditions of a channel have for players.
 use Rattle.std.specs.Prelude.{ℕ, ◌+◌, List, [], ◌∷◌, Bool, true, Option, Some, None, map, slice_get, slice_set}
-use Rattle.std.specs.Option.{option_map_or}
+use Rattle.std.specs.Option.{option_and_then, option_map_or}
 use Rattle.ll_item.specs.Settings.{Configuration}
 use Rattle.ll_item.specs.declared.item.Item.{Item}
 use Rattle.ll_rendition.specs.declared.rendition.Rendition.{Rendition}
 use Rattle.ll_window.specs.Compact.{map_now}
 use Rattle.ll_window.specs.Segments.{own}
-use Rattle.ll_store.specs.Media.{StoreValue, store}
+use Rattle.ll_store.specs.Media.{StoreValue, media_in, store}
 use Rattle.ll_store.specs.Step.{grown, trimmed}
 use Rattle.ll_store.specs.Stock.{Stock}
 use Rattle.ll_store.specs.declared.arrival.Arrival.{Arrival}
+use Rattle.ll_store.specs.declared.what.What.{What}
 
 -- of all items of a channel, one for each of these renditions, the first of which has this index
 abbrev pub stores_from : Configuration → List Item → ℕ → List (List ℕ) → List StoreValue
@@ -43,3 +44,12 @@ with_by a (Some k) (Some s) all = slice_set all a.rendition (trimmed k.window (g
 -- with what one more item brings, where this is kept of all renditions with it
 abbrev pub stores_with : Arrival → List Rendition → List StoreValue → List StoreValue
 stores_with a renditions all = with_by a (slice_get renditions a.rendition) (slice_get all a.rendition) all
+
+abbrev pub media_by : What → Option Rendition → Option StoreValue → Option (List ℕ)
+media_by what None s = None
+media_by what (Some k) None = None
+media_by what (Some k) (Some s) = media_in k.window s what
+
+-- the media that is there of the rendition with this index
+abbrev pub media_at : List Rendition → List StoreValue → ℕ → What → Option (List ℕ)
+media_at renditions all rendition what = media_by what (slice_get renditions rendition) (slice_get all rendition)

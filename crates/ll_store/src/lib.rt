@@ -2,7 +2,9 @@
 #![tactic(auto)]
 
 mod arrival;
+mod blocks;
 mod brought;
+mod find;
 mod laws;
 mod segment;
 mod store;
@@ -10,8 +12,9 @@ mod stores;
 mod what;
 
 pub use arrival::Arrival;
+pub use blocks::{Blocks, Found};
 pub use brought::Brought;
 pub use laws::store_law;
 pub use store::Store;
-pub use stores::{arrive, expect, new_stores};
+pub use stores::{arrive, expect, find_at, new_stores};
 pub use what::What;

@@ -1,5 +1,6 @@
 //! The bytes that a rendition has for players.
-ghost use Rattle.std.specs.Prelude.{◌≡◌, ◌+◌, ◌<◌, ◌≤◌, ◌++◌, ◌∷◌, [], OnOk, ◌==◌, filter, length, nat_le, not, true, vec_capacity, vec_len};
+ghost use Rattle.std.specs.Prelude.{◌≡◌, ◌+◌, ◌<◌, ◌≤◌, ◌^◌, ◌++◌, ◌∷◌, [], OnOk, ◌==◌, filter, length, nat_le, not, true, vec_capacity, vec_len};
+ghost use Rattle.std.specs.List.{concat};
 ghost use Rattle.std.specs.VecDeque.{deque_capacity, deque_len};
 ghost use Rattle.ll_item.specs.Settings.{Configuration};
 ghost use Rattle.ll_store.specs.Media.{last_of, store};
@@ -16,18 +17,24 @@ use std::collections::VecDeque;
 use std::marker::Model;
 use std::mem;
 
+/// Open segments stay below so many bytes before they take one more part.
+const SIZE_END: u64 = 1 << 63;
+
 /// The bytes that a rendition has for players: those of the segments that playlists show, of the open one, and the Media Initialization Sections that
 /// are in force at one of these, or would be set now. What has left the window is given up.
 #[derive(Drop)]
 pub struct Store {
     alloc: Global,
-    window: VecDeque<SegmentMedia>,
-    unfinished: Vec<Media>,
-    sections: Vec<Section>,
+    pub(crate) window: VecDeque<SegmentMedia>,
+    pub(crate) unfinished: Vec<Media>,
+    /// How many bytes the open segment has.
+    unfinished_size: u64,
+    pub(crate) sections: Vec<Section>,
 }
 
 impl Model for Store {
-    ghost use Rattle.std.specs.Prelude.{vec_capacity, vec_len};
+    ghost use Rattle.std.specs.Prelude.{◌≡◌, ◌^◌, length, vec_capacity, vec_len};
+    ghost use Rattle.std.specs.List.{concat};
     ghost use Rattle.std.specs.VecDeque.{deque_capacity, deque_len};
     ghost use Rattle.ll_store.specs.Stock.{Stock, is_ready};
 
@@ -35,8 +42,10 @@ impl Model for Store {
 
     ghost view = { λ s. record {
       kept = record { window = s.window.items; unfinished = s.unfinished.items; sections = s.sections.items };
-      ready = is_ready (deque_len s.window) (deque_capacity s.window) (vec_len s.unfinished) (vec_capacity s.unfinished) (vec_len s.sections) (vec_capacity s.sections);
+      ready = is_ready (deque_len s.window) (deque_capacity s.window) (vec_len s.unfinished) (vec_capacity s.unfinished) (vec_len s.sections) (vec_capacity s.sections) s.unfinished_size;
     } };
+
+    ghost invariant = { λ s. s.unfinished_size ≡ length (concat s.unfinished.items) };
 }
 
 impl Store {
@@ -48,15 +57,19 @@ impl Store {
             alloc,
             window: VecDeque::new(alloc),
             unfinished: Vec::new(alloc),
+            unfinished_size: 0,
             sections: Vec::new(alloc),
         }
     }
 
-    /// Finds memory for what one more item brings.
+    /// Finds memory for what one more item brings. For a segment of 2^63 bytes or more there is none.
     pub fn reserve(&mut self) -> Result<(), AllocError>
         ensures ready { OnOk result (self.new.ready ≡ true) }
         ensures unchanged { self.new.kept ≡ self.old.kept }
     {
+        if self.unfinished_size >= SIZE_END {
+            return Err(AllocError);
+        }
         self.window.reserve(1)?;
         self.unfinished.reserve(1)?;
         self.sections.reserve(1)
@@ -72,17 +85,18 @@ impl Store {
             alloc,
             window: segments,
             unfinished,
+            unfinished_size: size,
             sections,
         } = self;
         match brought {
             Brought::Part { media, finish } => {
-                unfinished.push_reserved(media);
+                add(unfinished, size, media);
                 if finish {
-                    close(*alloc, segments, unfinished);
+                    close(*alloc, segments, unfinished, size);
                 }
             }
             Brought::Section { media } => set(sections, map, media),
-            Brought::End => close(*alloc, segments, unfinished),
+            Brought::End => close(*alloc, segments, unfinished, size),
             Brought::Nothing => {}
         }
         keep_last(segments, window.segment_count());
@@ -90,17 +104,38 @@ impl Store {
     }
 }
 
+/// Adds a part to the open segment, which has so many bytes.
+#[tactic(auto, using(crate::proofs::Sizes::size_grown))]
+fn add(unfinished: &mut Vec<Media>, size: &mut u64, media: Media)
+    requires room { vec_len unfinished.old < vec_capacity unfinished.old }
+    requires few { size.old < 2 ^ 63 }
+    requires sized { size.old ≡ length (concat unfinished.old.items) }
+    ensures added { unfinished.new.items ≡ unfinished.old.items ++ media ∷ [] }
+    ensures sized { size.new ≡ length (concat unfinished.new.items) }
+{
+    *size += media.len();
+    unfinished.push_reserved(media);
+}
+
 /// Makes a segment of the parts of the open one, where it has some.
-fn close(alloc: Global, segments: &mut VecDeque<SegmentMedia>, unfinished: &mut Vec<Media>)
-    requires { deque_len segments.old < deque_capacity segments.old }
+fn close(
+    alloc: Global,
+    segments: &mut VecDeque<SegmentMedia>,
+    unfinished: &mut Vec<Media>,
+    size: &mut u64,
+)
+    requires room { deque_len segments.old < deque_capacity segments.old }
+    requires sized { size.old ≡ length (concat unfinished.old.items) }
     ensures segments { segments.new.items ≡ segments.old.items ++ closed unfinished.old.items }
     ensures emptied { unfinished.new.items ≡ [] }
+    ensures sized { size.new ≡ 0 }
 {
     if unfinished.is_empty() {
         return;
     }
     let parts = mem::replace(unfinished, Vec::new(alloc));
-    if segments.push_back(SegmentMedia { parts }).is_err() {
+    let size = mem::replace(size, 0);
+    if segments.push_back(SegmentMedia { parts, size }).is_err() {
         unreachable!();
     }
 }

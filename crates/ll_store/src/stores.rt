@@ -1,13 +1,15 @@
 //! The bytes that all renditions of a channel have for players.
-ghost use Rattle.std.specs.Prelude.{◌≡◌, [], IfOk, OnOk, true};
+ghost use Rattle.std.specs.Prelude.{◌≡◌, [], IfOk, MatchOption, None, OnOk, Some, true};
 ghost use Rattle.ll_item.specs.Items.{rendition_of};
 ghost use Rattle.ll_store.specs.Step.{brought_by};
 ghost use Rattle.ll_store.specs.Stores as spec;
-ghost use Rattle.ll_store.specs.Stores.{all_kept, is_ready_at, stores, stores_with};
+ghost use Rattle.ll_store.specs.Stores.{all_kept, is_ready_at, media_at, stores, stores_with};
 
 use crate::arrival::Arrival;
+use crate::blocks::Found;
 use crate::brought::Brought;
 use crate::store::Store;
+use crate::what::What;
 use ll_item::{Item, Settings};
 use ll_rendition::Rendition;
 use std::alloc::{AllocError, Global};
@@ -63,6 +65,21 @@ pub fn arrive(stores: &mut Vec<Store>, arrival: Arrival, renditions: &[Rendition
     if let Some(store) = stores.get_mut(rendition) {
         store.accept(brought, map, &kept.window);
     }
+}
+
+/// The bytes that are there of what a request for the rendition with this index is for.
+pub fn find_at<'a>(
+    renditions: &[Rendition],
+    stores: &'a [Store],
+    rendition: usize,
+    what: What,
+) -> Option<Found<'a>>
+    ensures { MatchOption result (media_at renditions.now (all_kept stores.now) rendition what ≡ None)
+        (λ found. media_at renditions.now (all_kept stores.now) rendition what ≡ Some found) }
+{
+    let kept = renditions.get(rendition)?;
+    let store = stores.get(rendition)?;
+    store.find(&kept.window, what)
 }
 
 /// Finds memory in the store at this place for what one more item brings.

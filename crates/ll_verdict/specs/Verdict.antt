@@ -1,26 +1,37 @@
--- What each request of a channel gets, over the list of all events (Blocking Playlist Reload, section 6.2.5.2).
-use Rattle.std.specs.Prelude.{ℕ, ◌+◌, ◌*◌, ◌==◌, ◌&&◌, ◌||◌, List, [], ◌∷◌, ◌++◌, Bool, true, false, Option, Some, None, is_none, nat_le, nat_lt, length, fold, filter, find, if◌then◌else◌, option_and_then, option_map}
+-- What each request of a channel gets, over the list of all events (Blocking Playlist Reload, section 6.2.5.2; Preload Hints, section 4.4.5.3).
+use Rattle.std.specs.Prelude.{ℕ, ◌+◌, ◌*◌, ◌==◌, ◌&&◌, ◌||◌, List, [], ◌∷◌, ◌++◌, Bool, true, false, not, Option, Some, None, is_none, nat_le, nat_lt, length, fold, filter, find, if◌then◌else◌, option_and_then, option_map}
 use Rattle.ll_item.specs.Items.{rendition_named}
 use Rattle.ll_item.specs.Settings.{Configuration}
 use Rattle.ll_item.specs.declared.item.Item.{Item}
 use Rattle.ll_page.specs.View.{seen}
-use Rattle.ll_window.specs.Segments.{ended, own}
+use Rattle.ll_store.specs.Media.{media}
+use Rattle.ll_store.specs.declared.what.What.{What}
+use Rattle.ll_store.specs.declared.what.What.TheVariants as what
+use Rattle.ll_window.specs.Segments.{ended, open_segment, own, segments}
 use Rattle.ll_verdict.specs.Events.{Event, Publish, Ask, Collect, Close, Clock, Step, until, steps, items, time, asks}
-use Rattle.ll_directive.specs.Targets.{WantValue}
+use Rattle.ll_directive.specs.Files.{is_playlist}
+use Rattle.ll_directive.specs.Targets.{WantValue, awaits}
 use Rattle.ll_directive.specs.declared.want.Awaited.{Awaited}
 use Rattle.ll_directive.specs.declared.want.Awaited.TheVariants.{Nothing, Segment, Part}
 use Rattle.ll_page.specs.Page.{Paged}
 use Rattle.ll_window.specs.Wants.{holds_segment, holds_part}
 use Rattle.ll_window.specs.Wants as wants
+use Rattle.ll_verdict.specs.declared.piece.Piece.{Piece}
 use Rattle.ll_verdict.specs.declared.wanted.Wanted.{Wanted}
 use Rattle.ll_verdict.specs.declared.reply.Reply.{Reply}
 use Rattle.ll_verdict.specs.declared.reply.Reply.TheVariants.{TooFar, NotFound, Busy}
 use Rattle.ll_verdict.specs.declared.reply.Reply.TheVariants as now
 use Rattle.ll_verdict.specs.declared.reply.Settled.{Settled}
 use Rattle.ll_verdict.specs.declared.reply.Settled.TheVariants.{Text, Timeout}
+use Rattle.ll_verdict.specs.declared.reply.Settled.TheVariants as settled
+
+-- what a request waits for, by the file that it is for
+abbrev pub awaited_by : Bool → WantValue → Awaited
+awaited_by true want = want.awaited
+awaited_by false want = awaits want.what
 
 abbrev pub wanted_at : WantValue → ℕ → Wanted
-wanted_at want rendition = record { rendition = rendition; awaited = want.awaited; form = want.skip }
+wanted_at want rendition = record { rendition = rendition; what = want.what; awaited = awaited_by (is_playlist want.what) want; form = want.skip }
 
 -- what a request asks of a rendition of the channel; none where the channel has no rendition of that name
 abbrev pub wanted_of : Configuration → WantValue → Option Wanted
@@ -42,7 +53,7 @@ far c own Nothing = false
 far c own (Segment msn) = wants.far c own msn None
 far c own (Part msn part) = wants.far c own msn (Some part)
 
--- Whether a request has its text after these items of the channel: what it awaits is there, or its rendition has ended.
+-- Whether a request that waits is settled by these items of the channel: what it awaits is there, or its rendition has ended.
 unfoldable pub is_there : Configuration → List Item → Wanted → Bool
 is_there c items a = holds c (own a.rendition items) a.awaited || ended (own a.rendition items)
 
@@ -50,13 +61,49 @@ is_there c items a = holds c (own a.rendition items) a.awaited || ended (own a.r
 abbrev pub waiting_limit : ℕ
 waiting_limit = 65536
 
--- the reply to a request that need not wait, where so many wait already
-abbrev pub reply_now : Configuration → ℕ → List Item → Wanted → Option Reply
-reply_now c waiting items a =
+-- whether as many wait as may wait
+abbrev pub is_busy : ℕ → Bool
+is_busy waiting = nat_le waiting_limit waiting
+
+-- the reply to a request for a playlist that need not wait, where so many wait already
+abbrev pub playlist_now : Configuration → ℕ → List Item → Wanted → Option Reply
+playlist_now c waiting items a =
     if is_there c items a then Some (now.Text (page_of c items a))
     else if far c (own a.rendition items) a.awaited then Some TooFar
-    else if nat_le waiting_limit waiting then Some Busy
+    else if is_busy waiting then Some Busy
     else None
+
+-- the media of a rendition that a request is for, where there is any
+abbrev pub media_of : Configuration → List Item → Wanted → Option (List ℕ)
+media_of c items a = media c (own a.rendition items) a.what
+
+-- this media, of a channel that has accepted so many items
+abbrev pub piece_of : ℕ → Wanted → List ℕ → Piece
+piece_of count a bytes = record { bytes = bytes; number = count; rendition = a.rendition; what = a.what }
+
+-- whether the part that is awaited is that of the Preload Hint: the next one of these items of a rendition, which has not ended
+abbrev pub is_hinted : Configuration → List Item → Awaited → Bool
+is_hinted c own Nothing = false
+is_hinted c own (Segment msn) = false
+is_hinted c own (Part msn part) = not (ended own) && (msn == c.first + length (segments own) && part == length (open_segment own))
+
+abbrev pub media_or : ℕ → Wanted → Option (List ℕ) → Option Reply → Option Reply
+media_or count a (Some bytes) other = Some (now.Media (piece_of count a bytes))
+media_or count a None other = other
+
+-- The reply to a request for media that need not wait, where so many wait already. What is there is given; of what isn't, only the part of the hint is
+-- waited for.
+abbrev pub media_now : Configuration → ℕ → List Item → Wanted → Option Reply
+media_now c waiting items a =
+    media_or (length items) a (media_of c items a) (
+    if not (is_hinted c (own a.rendition items) a.awaited) then Some NotFound
+    else if is_busy waiting then Some Busy
+    else None
+    )
+
+-- the reply to a request that need not wait, where so many wait already
+abbrev pub reply_now : Configuration → ℕ → List Item → Wanted → Option Reply
+reply_now c waiting items a = if is_playlist a.what then playlist_now c waiting items a else media_now c waiting items a
 
 abbrev pub reply_by : Configuration → ℕ → List Item → Option Wanted → Option Reply
 reply_by c waiting items None = Some NotFound
@@ -99,11 +146,22 @@ decided c events r = find (λ s. settles c r s || closes r s) (steps events)
 -- the same as any other reply
 abbrev pub reply_of : Settled → Reply
 reply_of (Text page) = now.Text page
+reply_of (settled.Media piece) = now.Media piece
+reply_of settled.NotFound = now.NotFound
 reply_of Timeout = now.Timeout
 
--- what it gets once it is settled, after these items: its text, or that its time is over
+abbrev pub media_or_none : ℕ → Wanted → Option (List ℕ) → Settled
+media_or_none count a (Some bytes) = settled.Media (piece_of count a bytes)
+media_or_none count a None = settled.NotFound
+
+-- what a request is given after so many items: this playlist, or this media, where there is any
+abbrev pub given : ℕ → Wanted → Paged → Option (List ℕ) → Settled
+given count a page bytes = if is_playlist a.what then Text page else media_or_none count a bytes
+
+-- What it gets once it is settled, after these items: its text, or the bytes of its part, which is never there where its rendition has ended; or that
+-- its time is over.
 abbrev pub reply_with : Configuration → List Item → Wanted → Settled
-reply_with c items a = if is_there c items a then Text (page_of c items a) else Timeout
+reply_with c items a = if is_there c items a then given (length items) a (page_of c items a) (media_of c items a) else Timeout
 
 -- what it gets from the event that decides it: nothing where it was given up, else the reply of that very state
 abbrev pub reply_at_step : Configuration → Request → Step → Option Settled
@@ -118,7 +176,8 @@ abbrev pub waiting : Configuration → List Event → List Request → ℕ
 waiting c events rs = length (filter (λ r. is_none (decided c events r)) rs)
 
 -- The reply to a request at once, or none where it has to wait; these requests had to wait before. The first case that applies: its
--- rendition is unknown; it awaits nothing that isn't there, or its rendition has ended; what it awaits is too far ahead; too many wait.
+-- rendition is unknown; it awaits nothing that isn't there, or its rendition has ended; what it awaits is too far ahead, or is media that isn't the
+-- next part; too many wait.
 abbrev pub at_once : Configuration → List Request → List Event → WantValue → Option Reply
 at_once c earlier events want = reply_by c (waiting c events earlier) (items c events) (wanted_of c want)
 

@@ -6,6 +6,7 @@ mod awaited;
 mod entry;
 mod fault;
 mod laws;
+mod piece;
 mod reply;
 mod wanted;
 
@@ -14,5 +15,6 @@ pub use entry::{Entry, Slot};
 pub use fault::AskFault;
 pub use laws::{first_state_law, newer_text_law, one_verdict_law, open_tickets_law, state_law};
 pub use ll_rendition::PublishFault;
+pub use piece::Piece;
 pub use reply::{Outcome, Reply, Settled};
 pub use wanted::Wanted;

@@ -1,6 +1,7 @@
 ghost use Rattle.std.specs.Prelude.{◌≡◌};
 ghost use Rattle.ll_verdict.specs.Outcome.{outcome_of};
 
+use crate::piece::Piece;
 use ll_item::SkipKind;
 use ll_page::Page;
 
@@ -9,6 +10,10 @@ use ll_page::Page;
 pub enum Settled {
     /// What it awaited is there, or its rendition has ended: the playlist of that very state.
     Text(Page),
+    /// The part that it awaited is there.
+    Media(Piece),
+    /// The rendition has ended, and the part that it awaited never comes.
+    NotFound,
     /// Three target durations have passed.
     Timeout,
 }
@@ -18,7 +23,9 @@ pub enum Settled {
 pub enum Reply {
     /// A playlist or delta update.
     Text(Page),
-    /// The channel has no rendition of that name.
+    /// A segment, a part or a Media Initialization Section.
+    Media(Piece),
+    /// The channel has no rendition of that name, or the rendition has no such media, and it isn't the part that comes next.
     NotFound,
     /// What it awaits is too far ahead (section 6.2.5.2).
     TooFar,
@@ -37,17 +44,21 @@ impl From<Settled> for Reply {
     fn from(settled: Settled) -> Reply {
         match settled {
             Settled::Text(page) => Reply::Text(page),
+            Settled::Media(piece) => Reply::Media(piece),
+            Settled::NotFound => Reply::NotFound,
             Settled::Timeout => Reply::Timeout,
         }
     }
 }
 
-/// What a reply comes to, without the playlist itself.
+/// What a reply comes to, without the playlist or the bytes themselves.
 #[derive(Clone, Copy, PartialEq, Eq)]
 pub enum Outcome {
     /// A playlist after so many items of the channel: a delta update of this kind, or a full one for none.
     Text(u64, Option<SkipKind>),
-    /// The channel has no rendition of that name.
+    /// Media after so many items of the channel, and how many bytes it has.
+    Media(u64, u64),
+    /// There is no such rendition or no such media.
     NotFound,
     /// What it awaits is too far ahead.
     TooFar,
@@ -64,6 +75,7 @@ impl Reply {
     {
         match self {
             Reply::Text(page) => Outcome::Text(page.number(), page.update()),
+            Reply::Media(piece) => Outcome::Media(piece.number, piece.bytes.len()),
             Reply::NotFound => Outcome::NotFound,
             Reply::TooFar => Outcome::TooFar,
             Reply::Busy => Outcome::Busy,

@@ -1,4 +1,4 @@
-use ll_directive::Awaited;
+use ll_directive::{Awaited, What};
 use ll_item::SkipKind;
 
 /// What a request asks of one rendition of a channel.
@@ -6,8 +6,10 @@ use ll_item::SkipKind;
 pub struct Wanted {
     /// The index of the rendition.
     pub rendition: usize,
+    /// The file that it is for.
+    pub what: What,
     /// What it waits for.
     pub awaited: Awaited,
-    /// Which delta update it is for; none for the full playlist.
+    /// Which delta update it is for; none for the full playlist, and for media.
     pub form: Option<SkipKind>,
 }
