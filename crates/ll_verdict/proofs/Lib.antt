@@ -1,4 +1,5 @@
 pub mod AcceptedLemmas
+pub mod HintLemmas
 pub mod LawProofs
 pub mod ListLemmas
 pub mod NewerLemmas

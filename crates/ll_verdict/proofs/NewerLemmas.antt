@@ -1,6 +1,6 @@
--- A text that a held request gets is newer than its asking: what it awaits wasn't there when it was asked, and is there now, so items
+-- What a held request gets in time is newer than its asking: what it awaits wasn't there when it was asked, and is there now, so items
 -- came in between.
-use Rattle.std.proofs.Common.{◌≡◌, ℕ, ◌+◌, ◌≤◌, ◌<◌, ◌&&◌, ◌||◌, List, [], ◌∷◌, ◌++◌, Bool, true, false, Option, Some, None, length, length-append, refl, ap, sym, subst, ◌∙◌, append_assoc, append-nil, arith, nat_le, nat_lt, if◌then◌else◌, option_and_then, fold, is_none}
+use Rattle.std.proofs.Common.{◌≡◌, ℕ, ◌+◌, ◌≤◌, ◌<◌, ◌&&◌, ◌||◌, List, [], ◌∷◌, ◌++◌, Bool, true, false, Option, Some, None, length, length-append, refl, ap, sym, subst, ◌∙◌, append_assoc, append-nil, arith, nat_le, nat_lt, if◌then◌else◌, option_and_then, fold, is_none, slice_get}
 use Rattle.std.proofs.lemmas.Bool.Decides.{nat_tests}
 use Rattle.std.proofs.lemmas.List.Sums.{fold-append}
 use Rattle.ll_item.specs.Settings.{Configuration}
@@ -9,16 +9,23 @@ use Rattle.ll_page.specs.Page.{Paged}
 use Rattle.ll_window.specs.Segments.{own}
 use Rattle.ll_verdict.specs.Accepted.{refusal}
 use Rattle.ll_verdict.specs.Events.{Event, Publish, Ask, Collect, Close, Clock, Step, asks, items, taken, until}
-use Rattle.ll_verdict.specs.Laws.{IsNewer, NewerTextLaw}
-use Rattle.ll_verdict.specs.Verdict.{Request, at_once, closes, comes_after, decided, far, held, held_by, hold_by, is_close, is_there, page_of, reply, reply_at_step, reply_by, settles, waiting, wanted_of}
+use Rattle.ll_directive.specs.Files.{is_playlist}
+use Rattle.ll_verdict.specs.Laws.{NewerMediaLaw, NewerTextLaw}
+use Rattle.ll_verdict.specs.Verdict.{Request, at_once, closes, comes_after, decided, given, held, held_by, hold_by, is_close, is_there, media_of, media_or_none, page_of, piece_of, reply, reply_at_step, reply_by, settles, waiting, wanted_of}
+use Rattle.ll_verdict.specs.declared.piece.Piece.{Piece}
 use Rattle.ll_verdict.specs.declared.reply.Reply.{Reply}
-use Rattle.ll_verdict.specs.declared.reply.Reply.TheVariants.{Busy, TooFar}
-use Rattle.ll_verdict.specs.declared.reply.Reply.TheVariants as now
+use Rattle.ll_verdict.specs.declared.reply.Settled.{Settled}
 use Rattle.ll_verdict.specs.declared.reply.Settled.TheVariants.{Text, Timeout}
+use Rattle.ll_verdict.specs.declared.reply.Settled.TheVariants as settled
 use Rattle.ll_verdict.specs.declared.wanted.Wanted.{Wanted}
+use Rattle.ll_verdict.proofs.HintLemmas.{awaited-missing}
 use Rattle.ll_verdict.proofs.LawProofs.{first_state}
 use Rattle.ll_verdict.proofs.ListLemmas.{Each, each-append, each-at, each-map}
 use Rattle.ll_verdict.proofs.StepLemmas.{along, held-snoc}
+
+-- what a request gets at these items that has waited until then
+abbrev given_after : Configuration → List Item → Wanted → Settled
+given_after c items a = given (length items) a (page_of c items a) (media_of c items a)
 
 -- ---- a request that has to wait
 
@@ -32,21 +39,9 @@ still_asked c es e r h = (h.0 ++ e ∷ [], ap (λ xs. xs ++ e ∷ []) h.1 ∙ ap
 kept_asked : (c : Configuration) (es : List Event) (e : Event) (rs : List Request) → Each (IsAsked c es) rs → Each (IsAsked c (es ++ e ∷ [])) rs
 kept_asked c es e rs h = each-map (IsAsked c es) (IsAsked c (es ++ e ∷ [])) (still_asked c es e) rs h
 
--- where what is awaited is there, the text is given at once
-unanswered : (x y z : Bool) (p : Paged) → (if x then Some (now.Text p) else if y then Some TooFar else if z then Some Busy else None) ≡ None → x ≡ false
-unanswered true y z p h = cc
-unanswered false y z p h = refl
-
 added_asked : (c : Configuration) (es : List Event) (e : Event) (n ticket : ℕ) (o : Option Wanted) (reply : Option Reply) → reply_by c n (items c es) o ≡ reply
     → Each (IsAsked c (es ++ e ∷ [])) (held_by reply ticket es o)
-added_asked c es e n ticket (Some a) None h = (
-  (
-    e ∷ [],
-    refl,
-    unanswered (is_there c (items c es) a) (far c (own a.rendition (items c es)) a.awaited) (nat_le 65536 n) (page_of c (items c es) a) h,
-  ),
-  tt,
-)
+added_asked c es e n ticket (Some a) None h = ((e ∷ [], refl, awaited-missing c n (items c es) a h), tt)
 added_asked c es e n ticket None None h = tt
 added_asked c es e n ticket o (Some reply) h = tt
 
@@ -121,36 +116,87 @@ comes-after c r s h =
     let lt : length r.before < length s.before = grind (arith, nat_tests) in
     omega (arith, length-append s.before (s.event ∷ []))
 
--- a text is given where it is there, and is the page of that moment
-settled_by : (x y : Bool) (p page : Paged) → (if x then None else Some (if y then Text p else Timeout)) ≡ Some (Text page) → (page ≡ p) × (y ≡ true)
-settled_by true y p page h = cc
-settled_by false true p page h = (cc, refl)
-settled_by false false p page h = cc
+-- what is given is what is there
+given_by : (x y : Bool) (g s : Settled) → (if x then None else Some (if y then g else Timeout)) ≡ Some s → (s ≡ Timeout → ⊥) → (s ≡ g) × (y ≡ true)
+given_by true y g s h other = cc
+given_by false true g s h other = (cc, refl)
+given_by false false g s h other = absurd (other cc)
 
--- the page of a moment that begins with what was before the request
-newer_by : (c : Configuration) (events : List Event) (r : Request) (page : Paged) (front since rest : List Event) → events ≡ front ++ rest → front ≡ r.before ++ since
-    → is_there c (items c r.before) r.wanted ≡ false → page ≡ page_of c (items c front) r.wanted → is_there c (items c front) r.wanted ≡ true → IsNewer c events r page
-newer_by c events r page front since rest place begins missing shown there =
+-- what a request gets that had to wait and whose time isn't over, at a moment that begins with what was before it
+record IsGiven (c : Configuration) (events : List Event) (r : Request) (s : Settled) : Type 0 where
+  since : List Event
+  rest : List Event
+  place : events ≡ (r.before ++ since) ++ rest
+  is : s ≡ given_after c (items c (r.before ++ since)) r.wanted
+  there : is_there c (items c (r.before ++ since)) r.wanted ≡ true
+  newer : length (items c r.before) < length (items c (r.before ++ since))
+
+given-from : (c : Configuration) (events : List Event) (r : Request) (s : Settled) (front since rest : List Event) → events ≡ front ++ rest → front ≡ r.before ++ since
+    → is_there c (items c r.before) r.wanted ≡ false → s ≡ given_after c (items c front) r.wanted → is_there c (items c front) r.wanted ≡ true → IsGiven c events r s
+given-from c events r s front since rest place begins missing is there =
     let found : is_there c (items c (r.before ++ since)) r.wanted ≡ true = ap (λ es. is_there c (items c es) r.wanted) (sym begins) ∙ there in
-    let same : page ≡ page_of c (items c (r.before ++ since)) r.wanted = shown ∙ ap (λ es. page_of c (items c es) r.wanted) begins in
     record {
       since = since;
       rest = rest;
       place = place ∙ ap (λ es. es ++ rest) begins;
-      shown = same;
+      is = is ∙ ap (λ es. given_after c (items c es) r.wanted) begins;
       there = found;
-      newer = subst (λ n. length (items c r.before) < n) (ap (λ (p : Paged). p.seen.count) (sym same)) (came_between c r.before since r.wanted missing found);
+      newer = came_between c r.before since r.wanted missing found;
     }
 
-by_decision : (c : Configuration) (events : List Event) (r : Request) (page : Paged) (o : Option Step) → decided c events r ≡ o → IsAsked c events r
-    → option_and_then (reply_at_step c r) o ≡ Some (Text page) → IsNewer c events r page
-by_decision c events r page None e asked h = cc
-by_decision c events r page (Some s) e asked h =
-    let f = first_state c events r s e in
-    let p = front-has r.before (until s) asked.0 f.rest (sym asked.1 ∙ f.place) (comes-after c r s f.decides) in
-    let text = settled_by (closes r s) (is_there c (items c (until s)) r.wanted) (page_of c (items c (until s)) r.wanted) page h in
-    newer_by c events r page (until s) p.0 f.rest f.place p.1 asked.2 text.0 text.1
+by_decision : (c : Configuration) (events : List Event) (r : Request) (s : Settled) (o : Option Step) → decided c events r ≡ o → IsAsked c events r
+    → option_and_then (reply_at_step c r) o ≡ Some s → (s ≡ Timeout → ⊥) → IsGiven c events r s
+by_decision c events r s None e asked h other = cc
+by_decision c events r s (Some step) e asked h other =
+    let f = first_state c events r step e in
+    let p = front-has r.before (until step) asked.0 f.rest (sym asked.1 ∙ f.place) (comes-after c r step f.decides) in
+    let is = given_by (closes r step) (is_there c (items c (until step)) r.wanted) (given_after c (items c (until step)) r.wanted) s h other in
+    given-from c events r s (until step) p.0 f.rest f.place p.1 asked.2 is.0 is.1
+
+got : (c : Configuration) (events : List Event) (place : ℕ) (r : Request) (s : Settled) → slice_get (held c events) place ≡ Some r
+    → reply c events r ≡ Some s → (s ≡ Timeout → ⊥) → IsGiven c events r s
+got c events place r s h e other = by_decision c events r s (decided c events r) refl (each-at (IsAsked c events) (held c events) place r (held_asked c events) h) e other
+
+-- a text is that of a playlist
+text_by : (b : Bool) (n : ℕ) (a : Wanted) (p page : Paged) (o : Option (List ℕ)) → Text page ≡ (if b then Text p else media_or_none n a o) → page ≡ p
+text_by true n a p page o h = cc
+text_by false n a p page (Some bytes) h = cc
+text_by false n a p page None h = cc
 
 pub newer_text : NewerTextLaw
 newer_text c events place r page h e =
-    by_decision c events r page (decided c events r) refl (each-at (IsAsked c events) (held c events) place r (held_asked c events) h) e
+    let g = got c events place r (Text page) h e (λ x. cc) in
+    let its = items c (r.before ++ g.since) in
+    let shown = text_by (is_playlist r.wanted.what) (length its) r.wanted (page_of c its r.wanted) page (media_of c its r.wanted) g.is in
+    record {
+      since = g.since;
+      rest = g.rest;
+      place = g.place;
+      shown = shown;
+      there = g.there;
+      newer = subst (λ n. length (items c r.before) < n) (ap (λ (p : Paged). p.seen.count) (sym shown)) g.newer;
+    }
+
+-- media is that of a file of media
+media_by : (b : Bool) (n : ℕ) (a : Wanted) (p : Paged) (piece : Piece) (o : Option (List ℕ)) → settled.Media piece ≡ (if b then Text p else media_or_none n a o)
+    → (o ≡ Some piece.bytes) × (piece ≡ piece_of n a piece.bytes)
+media_by true n a p piece o h = cc
+media_by false n a p piece (Some bytes) h =
+    let is : piece ≡ piece_of n a bytes = cc in
+    let same : bytes ≡ piece.bytes = ap (λ (x : Piece). x.bytes) (sym is) in
+    (ap Some same, is ∙ ap (piece_of n a) same)
+media_by false n a p piece None h = cc
+
+pub newer_media : NewerMediaLaw
+newer_media c events place r piece h e =
+    let g = got c events place r (settled.Media piece) h e (λ x. cc) in
+    let its = items c (r.before ++ g.since) in
+    let is = media_by (is_playlist r.wanted.what) (length its) r.wanted (page_of c its r.wanted) piece (media_of c its r.wanted) g.is in
+    record {
+      since = g.since;
+      rest = g.rest;
+      place = g.place;
+      shown = is.1;
+      there = is.0;
+      newer = subst (λ n. length (items c r.before) < n) (ap (λ (p : Piece). p.number) (sym is.1)) g.newer;
+    }

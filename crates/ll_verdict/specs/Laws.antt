@@ -4,8 +4,9 @@ use Rattle.ll_item.specs.Settings.{Configuration}
 use Rattle.ll_page.specs.Page.{Paged}
 use Rattle.ll_verdict.specs.Events.{Event, Step, until, items}
 use Rattle.ll_verdict.specs.State.{state_of, is_waiting}
-use Rattle.ll_verdict.specs.Verdict.{Request, closes, decided, held, is_there, page_of, reply, settles}
-use Rattle.ll_verdict.specs.declared.reply.Settled.TheVariants.{Text}
+use Rattle.ll_verdict.specs.Verdict.{Request, closes, decided, held, is_there, media_of, page_of, piece_of, reply, settles}
+use Rattle.ll_verdict.specs.declared.reply.Settled.TheVariants.{Media, Text}
+use Rattle.ll_verdict.specs.declared.piece.Piece.{Piece}
 
 -- a request is decided once: no later event changes what decided it
 abbrev pub OneVerdictLaw : Type 0
@@ -38,6 +39,21 @@ pub record IsNewer (c : Configuration) (events : List Event) (r : Request) (page
 abbrev pub NewerTextLaw : Type 0
 NewerTextLaw = (c : Configuration) (events : List Event) (place : ℕ) (r : Request) (page : Paged)
     → slice_get (held c events) place ≡ Some r → reply c events r ≡ Some (Text page) → IsNewer c events r page
+
+-- It is the media of a moment since the request: by then it is there, and the channel has accepted more items than when it was asked for.
+pub record IsNewerMedia (c : Configuration) (events : List Event) (r : Request) (piece : Piece) : Type 0 where
+  -- the events from the request up to that moment, and those after it
+  pub since : List Event
+  pub rest : List Event
+  pub place : events ≡ (r.before ++ since) ++ rest
+  pub shown : piece ≡ piece_of (length (items c (r.before ++ since))) r.wanted piece.bytes
+  pub there : media_of c (items c (r.before ++ since)) r.wanted ≡ Some piece.bytes
+  pub newer : length (items c r.before) < piece.number
+
+-- media that a request gets after it had to wait is newer than its asking
+abbrev pub NewerMediaLaw : Type 0
+NewerMediaLaw = (c : Configuration) (events : List Event) (place : ℕ) (r : Request) (piece : Piece)
+    → slice_get (held c events) place ≡ Some r → reply c events r ≡ Some (Media piece) → IsNewerMedia c events r piece
 
 -- the open requests are those that wait and those whose replies wait
 abbrev pub OpenTicketsLaw : Type 0

@@ -1,6 +1,6 @@
 //! What every list of events says of its requests. Each law is proved once, as the contract of an empty function; none of these does
 //! anything.
-ghost use Rattle.ll_verdict.specs.Laws.{FirstStateLaw, NewerTextLaw, OneVerdictLaw, OpenTicketsLaw};
+ghost use Rattle.ll_verdict.specs.Laws.{FirstStateLaw, NewerMediaLaw, NewerTextLaw, OneVerdictLaw, OpenTicketsLaw};
 ghost use Rattle.ll_verdict.specs.State.{StateLaw};
 
 /// The plain step is the state of one more event, for every list of events and every event.
@@ -23,6 +23,12 @@ pub fn first_state_law()
 /// awaited, or its rendition has ended.
 pub fn newer_text_law()
     ensures { NewerTextLaw }
+{}
+
+/// Media that a held request gets is newer than its asking: the channel has accepted more items by then, and they bring the part that the request
+/// awaited.
+pub fn newer_media_law()
+    ensures { NewerMediaLaw }
 {}
 
 /// The open requests are those that wait and those whose replies wait.

@@ -13,7 +13,9 @@ mod wanted;
 pub use awaited::{is_far, is_there};
 pub use entry::{Entry, Slot};
 pub use fault::AskFault;
-pub use laws::{first_state_law, newer_text_law, one_verdict_law, open_tickets_law, state_law};
+pub use laws::{
+    first_state_law, newer_media_law, newer_text_law, one_verdict_law, open_tickets_law, state_law,
+};
 pub use ll_rendition::PublishFault;
 pub use piece::Piece;
 pub use reply::{Outcome, Reply, Settled};
