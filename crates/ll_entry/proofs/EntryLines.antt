@@ -1,5 +1,5 @@
 -- The line of an entry is read as that entry, in the format that is written; and the fields of a line are read again in each format.
-use Rattle.std.proofs.Common.{◌≡◌, ℕ, ◌≤◌, ◌++◌, List, [], true, false, Option, Some, None, Ok, refl, ap, sym, subst, ◌∙◌, codes, decimal, length, bytes_eq, arith, if◌then◌else◌}
+use Rattle.std.proofs.Common.{◌≡◌, ℕ, ◌≤◌, ◌++◌, List, [], true, false, Option, Some, None, Ok, refl, ap, ap₂, sym, subst, ◌∙◌, codes, decimal, length, bytes_eq, arith, if◌then◌else◌}
 use Rattle.std.proofs.lemmas.Bool.{and_from}
 use Rattle.std.proofs.lemmas.List.{append-nil, length-replicate}
 use Rattle.ll_attr.specs.declared.attributes.Attribute.{Attribute}

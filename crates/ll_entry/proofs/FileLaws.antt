@@ -99,9 +99,6 @@ numbered key text n e =
 abbrev IsNamed : List (List ℕ) → What → Type 0
 IsNamed pieces x = (join_with_byte 46 pieces ≡ file_name x) × FileWithin x
 
-
-
-
 segment_takes : (name ending : List ℕ) (x : What) → ending ≡ codes "m4s" → option_map (λ n. what.Segment n) (number_after (codes "s") name) ≡ Some x
     → IsNamed (name ∷ ending ∷ []) x
 segment_takes name ending x is e =
@@ -133,9 +130,10 @@ part_takes name index ending x is e =
     let b = mapped_some (λ i. what.Part a.0 i) (number_in index) x a.2 in
     let t = numbered (codes "s") name a.0 a.1 in
     let u = counted-laws.takes index b.0 b.1 in
-    subst (IsNamed (name ∷ index ∷ ending ∷ [])) b.2
-    (ap₂ (λ n e. join_with_byte 46 (n ∷ index ∷ e ∷ [])) t.0 is ∙ ap (λ i. join_with_byte 46 ((codes "s" ++ decimal a.0) ∷ i ∷ codes "m4s" ∷ [])) u.0 ∙ part_form a.0 b.0,
-    (t.1, u.1))
+    subst (IsNamed (name ∷ index ∷ ending ∷ [])) b.2 (
+      ap₂ (λ n e. join_with_byte 46 (n ∷ index ∷ e ∷ [])) t.0 is ∙ ap (λ i. join_with_byte 46 ((codes "s" ++ decimal a.0) ∷ i ∷ codes "m4s" ∷ [])) u.0 ∙ part_form a.0 b.0,
+      (t.1, u.1),
+    )
 
 two_takes : (name index ending : List ℕ) (x : What) (b : Bool) → bytes_eq ending (codes "m4s") ≡ b
     → (if b then option_and_then (λ n. option_map (λ i. what.Part n i) (number_in index)) (number_after (codes "s") name) else None) ≡ Some x

@@ -133,7 +133,7 @@ playlist-laws Two = whole-laws (spaced-laws (up_to-laws 32 count-laws count-lack
 
 -- ---- media
 
-no_word-laws : {A : Type 0} → WordLaws {A} no_word
+no_word-laws : {A : Type 0} → WordLaws {A = A} no_word
 no_word-laws = record { takes = λ text x e. absurd cc; again = λ x h. absurd h; inside = λ x h. absurd h }
 
 counts-laws : (v : Version) → WordLaws (counts v)

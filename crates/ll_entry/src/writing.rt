@@ -1,8 +1,10 @@
 //! Entries, written as lines in format 2. No end of a line is added. The lines that read the clock, hand a reply out or give a request up
 //! take no memory.
-ghost use Rattle.std.specs.Prelude.{◌≡◌, ◌≤◌, ◌+◌, ◌++◌, IfOk, OnOk, codes, decimal, length, string_bytes};
+ghost use Rattle.std.specs.Prelude.{◌≡◌, ◌≤◌, ◌+◌, ◌++◌, IfOk, MatchOption, OnOk, codes, false, decimal, length, string_bytes};
 ghost use Rattle.arrayvec.specs.ArrayString.{array_string_len};
+ghost use Rattle.ll_directive.specs.Files.{file_name, is_playlist};
 ghost use Rattle.ll_item.specs.Settings.{Configuration};
+ghost use Rattle.ll_store.specs.declared.what.What.TheVariants.{Playlist};
 ghost use Rattle.ll_entry.specs.Lines as spec;
 ghost use Rattle.ll_entry.specs.Lines.{IsSpelled, counted_line, entry_line};
 ghost use Rattle.ll_entry.specs.Replies.{count, kind, or_dash_text, or_held_text, outcome_text};
@@ -55,17 +57,28 @@ pub fn ask_line(
     ensures text { (c : Configuration) → IfOk result (λ t. string_bytes t ≡ entry_line c (recorded.Ask ask want.now outcome)) }
     ensures spelled { (c : Configuration) → OnOk result (IsSpelled c (recorded.Ask ask (record want.now { channel = c.channel }) outcome)) }
 {
-    let name = want.rendition();
-    match want.what() {
-        What::Playlist => {
-            let place = place_text(alloc, want.awaited(), want.skip(), outcome)?;
-            ask_text(alloc, ask, name, place.as_str())
-        }
-        What::Segment(number) => media_text(alloc, ask, name, Uri::Segment { number }, outcome),
-        What::Part(number, index) => {
-            media_text(alloc, ask, name, Uri::Part { number, index }, outcome)
-        }
-        What::Init(number) => media_text(alloc, ask, name, Uri::Map { number }, outcome),
+    let (name, awaited, skip) = (want.rendition(), want.awaited(), want.skip());
+    let Some(file) = uri_of(want.what()) else {
+        let place = place_text(alloc, awaited, skip, outcome)?;
+        return ask_text(alloc, ask, name, place.as_str());
+    };
+    // a request for media never asks for a delta update, which its line couldn't tell
+    if skip.is_some() {
+        return Err(AllocError);
+    }
+    media_text(alloc, ask, name, file, outcome)
+}
+
+/// How a file of media is named; none for a playlist.
+fn uri_of(what: What) -> Option<Uri<'static>>
+    ensures name { MatchOption result (what ≡ Playlist) (λ file. (is_playlist what ≡ false) × (uri_text file ≡ file_name what)) }
+    ensures within { spec.WhatWithin what }
+{
+    match what {
+        What::Playlist => None,
+        What::Segment(number) => Some(Uri::Segment { number }),
+        What::Part(number, index) => Some(Uri::Part { number, index }),
+        What::Init(number) => Some(Uri::Map { number }),
     }
 }
 
@@ -78,7 +91,7 @@ fn media_text(
     outcome: Option<Outcome>,
 ) -> Result<String, AllocError>
     ensures { IfOk result (λ t. string_bytes t ≡ codes "M " ++ (decimal ask ++ (codes " " ++ (rendition.now ++ (codes " "
-        ++ (uri_text file ++ (codes " " ++ or_held_text Two outcome))))))) }
+        ++ (uri_text file.entry ++ (codes " " ++ or_held_text Two outcome))))))) }
 {
     let reply = reply_text(outcome);
     let reply = reply.as_str();
