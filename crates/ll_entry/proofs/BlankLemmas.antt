@@ -147,7 +147,8 @@ hinted-own c xs (awaited.Segment msn) = refl
 hinted-own c xs (awaited.Part msn part) =
     ap (λ (t : Told). not t.ended && (msn == c.first + length (finished_of t) && part == length (open_of t))) (told-blank xs)
 
-hinted-blank : (c : Configuration) (xs : List Item) (a : Wanted) → is_hinted c (own a.rendition (map blank xs)) a.awaited ≡ is_hinted c (own a.rendition xs) a.awaited
+hinted-blank : (c : Configuration) (xs : List Item) (a : Wanted)
+    → is_hinted c (own a.rendition (map blank xs)) a.awaited ≡ is_hinted c (own a.rendition xs) a.awaited
 hinted-blank c xs a = ap (λ ys. is_hinted c ys a.awaited) (own-blank a.rendition xs) ∙ hinted-own c (own a.rendition xs) a.awaited
 
 media_by : (hinted busy : Bool) (n : ℕ) (a : Wanted) (bytes : Option (List ℕ))
@@ -163,7 +164,8 @@ piece-blank c n xs a =
     rw (length-map xs blank, own-media c xs a, hinted-blank c xs a) refl
     ∙ media_by (is_hinted c (own a.rendition xs) a.awaited) (is_busy n) (length xs) a (media_of c xs a)
 
-either_by : (list : Bool) (o p q r : Option Reply) → o ≡ option_map blank_reply q → p ≡ option_map blank_reply r → cond list o p ≡ option_map blank_reply (cond list q r)
+either_by : (list : Bool) (o p q r : Option Reply) → o ≡ option_map blank_reply q → p ≡ option_map blank_reply r
+    → cond list o p ≡ option_map blank_reply (cond list q r)
 either_by true o p q r h k = h
 either_by false o p q r h k = k
 
@@ -228,7 +230,8 @@ waiting-blank : (ss : List Slot) → waiting_in (map blank_slot ss) ≡ waiting_
 waiting-blank ss =
     ap length (filter-same blank_slot is_waiting is_waiting (λ s. none-blank s.settled) ss) ∙ length-map (filter is_waiting ss) blank_slot
 
-due_by : (due : Bool) (r : Settled) (o : Option Settled) → cond due (Some (blank_settled r)) (option_map blank_settled o) ≡ option_map blank_settled (cond due (Some r) o)
+due_by : (due : Bool) (r : Settled) (o : Option Settled)
+    → cond due (Some (blank_settled r)) (option_map blank_settled o) ≡ option_map blank_settled (cond due (Some r) o)
 due_by true r o = refl
 due_by false r o = refl
 
@@ -236,12 +239,14 @@ one-blank : (c : Configuration) (xs : List Item) (ms : ℕ) (s : Slot) → settl
 one-blank c xs ms s =
     let late = nat_le s.entry.deadline ms in
     let due = is_none s.settled && (is_there c xs s.entry.wanted || late) in
-    ap₂ (λ none there. let t : Slot = record s { settled = cond (none && (there || late)) (Some (reply_with c (map blank xs) s.entry.wanted)) (option_map blank_settled s.settled) } in t)
+    let before = option_map blank_settled s.settled in
+    ap₂ (λ none there. let t : Slot = record s { settled = cond (none && (there || late)) (Some (reply_with c (map blank xs) s.entry.wanted)) before } in t)
     (none-blank s.settled) (there-blank c xs s.entry.wanted)
-    ∙ ap (λ r. let t : Slot = record s { settled = cond due (Some r) (option_map blank_settled s.settled) } in t) (with-blank c xs s.entry.wanted)
+    ∙ ap (λ r. let t : Slot = record s { settled = cond due (Some r) before } in t) (with-blank c xs s.entry.wanted)
     ∙ ap (λ o. let t : Slot = record s { settled = o } in t) (due_by due (reply_with c xs s.entry.wanted) s.settled)
 
-settle-blank : (c : Configuration) (xs : List Item) (ms : ℕ) (ss : List Slot) → map (settle c (map blank xs) ms) (map blank_slot ss) ≡ map blank_slot (map (settle c xs ms) ss)
+settle-blank : (c : Configuration) (xs : List Item) (ms : ℕ) (ss : List Slot)
+    → map (settle c (map blank xs) ms) (map blank_slot ss) ≡ map blank_slot (map (settle c xs ms) ss)
 settle-blank c xs ms [] = refl
 settle-blank c xs ms (s ∷ ss) = ap₂ (λ t ts. t ∷ ts) (one-blank c xs ms s) (settle-blank c xs ms ss)
 
@@ -253,7 +258,8 @@ answer-blank : (c : Configuration) (s : State) (want : WantValue) → answer_of 
 answer-blank c s want =
     ap (λ n. reply_by c n (map blank s.items) (wanted_of c want)) (waiting-blank s.slots) ∙ by-blank c (waiting_in s.slots) s.items (wanted_of c want)
 
-slot-blank : (c : Configuration) (o : Option Reply) (s : State) (a : Option Wanted) → slot_by c (option_map blank_reply o) (blank_state s) a ≡ map blank_slot (slot_by c o s a)
+slot-blank : (c : Configuration) (o : Option Reply) (s : State) (a : Option Wanted)
+    → slot_by c (option_map blank_reply o) (blank_state s) a ≡ map blank_slot (slot_by c o s a)
 slot-blank c None s None = refl
 slot-blank c None s (Some a) =
     ap (λ n. (record {
@@ -312,11 +318,16 @@ answered-blank c es want =
 asks-blank : (c : Configuration) (es : List Event) → asks (blank_events es) ≡ asks es
 asks-blank c es = ap (λ (s : State). s.asks) (state-blank c es)
 
-told-once : (v : Version) (o : Option Reply) → option_map (λ r. told_in v (outcome_of r)) (option_map blank_reply o) ≡ option_map (λ r. told_in v (outcome_of r)) o
+-- what a reply comes to that had to wait
+abbrev settled_outcome : Settled → Outcome
+settled_outcome s = outcome_of (reply_of s)
+
+told-once : (v : Version) (o : Option Reply)
+    → option_map (λ r. told_in v (outcome_of r)) (option_map blank_reply o) ≡ option_map (λ r. told_in v (outcome_of r)) o
 told-once v None = refl
 told-once v (Some r) = ap (λ o. Some (told_in v o)) (outcome-blank r)
 
-told-later : (o : Option Settled) → option_map (λ (s : Settled). outcome_of (reply_of s)) (option_map blank_settled o) ≡ option_map (λ (s : Settled). outcome_of (reply_of s)) o
+told-later : (o : Option Settled) → option_map settled_outcome (option_map blank_settled o) ≡ option_map settled_outcome o
 told-later None = refl
 told-later (Some s) = ap Some (settled-blank s)
 
@@ -334,16 +345,17 @@ found_by false s o p h = h
 reply-blank : (ask : ℕ) (ss : List Slot) → reply_at ask (map blank_slot ss) ≡ option_map blank_settled (reply_at ask ss)
 reply-blank ask [] = refl
 reply-blank ask (s ∷ ss) =
-    ap (λ b. option_and_then settled_in (cond (s.entry.ticket == ask && b) (Some (blank_slot s)) (find (is_ready_at ask) (map blank_slot ss)))) (some-blank s.settled)
-    ∙ found_by (is_ready_at ask s) s (find (is_ready_at ask) (map blank_slot ss)) (find (is_ready_at ask) ss) (reply-blank ask ss)
+    let later = find (is_ready_at ask) (map blank_slot ss) in
+    ap (λ b. option_and_then settled_in (cond (s.entry.ticket == ask && b) (Some (blank_slot s)) later)) (some-blank s.settled)
+    ∙ found_by (is_ready_at ask s) s later (find (is_ready_at ask) ss) (reply-blank ask ss)
 
 open-same : (c : Configuration) (es : List Event) (ask : ℕ) → is_open_after c (blank_events es) ask ≡ is_open_after c es ask
 open-same c es ask = ap (λ (s : State). list_any (has_ticket ask) s.slots) (state-blank c es) ∙ any-blank ask (state_of c es).slots
 
 settled-same : (c : Configuration) (es : List Event) (ask : ℕ) → settled_after c (blank_events es) ask ≡ settled_after c es ask
 settled-same c es ask =
-    ap (λ (s : State). option_map (λ (x : Settled). outcome_of (reply_of x)) (reply_at ask s.slots)) (state-blank c es)
-    ∙ ap (option_map (λ (x : Settled). outcome_of (reply_of x))) (reply-blank ask (state_of c es).slots)
+    ap (λ (s : State). option_map settled_outcome (reply_at ask s.slots)) (state-blank c es)
+    ∙ ap (option_map settled_outcome) (reply-blank ask (state_of c es).slots)
     ∙ told-later (reply_at ask (state_of c es).slots)
 
 pub fault-blank : BlankLaw

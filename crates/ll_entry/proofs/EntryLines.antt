@@ -102,8 +102,8 @@ named_again c rendition want named is = ap (λ b. if b then Some want else None)
 abbrev with_all : WantValue → List ℕ → What → WantValue
 with_all want channel what = record want { channel = channel; what = what }
 
-want_again : (c : Configuration) (want : WantValue) → is_name c.channel ≡ true → want.channel ≡ c.channel → is_name want.rendition ≡ true → want.what ≡ what.Playlist
-    → want_by c want.rendition want.skip want.awaited ≡ Some want
+want_again : (c : Configuration) (want : WantValue) → is_name c.channel ≡ true → want.channel ≡ c.channel → is_name want.rendition ≡ true
+    → want.what ≡ what.Playlist → want_by c want.rendition want.skip want.awaited ≡ Some want
 want_again c want named same is list =
     named_again c want.rendition (with_all want c.channel what.Playlist) named is
     ∙ ap₂ (λ channel what. Some (with_all want channel what)) (sym same) (sym list)

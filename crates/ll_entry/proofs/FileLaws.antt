@@ -131,7 +131,8 @@ part_takes name index ending x is e =
     let t = numbered (codes "s") name a.0 a.1 in
     let u = counted-laws.takes index b.0 b.1 in
     subst (IsNamed (name ∷ index ∷ ending ∷ [])) b.2 (
-      ap₂ (λ n e. join_with_byte 46 (n ∷ index ∷ e ∷ [])) t.0 is ∙ ap (λ i. join_with_byte 46 ((codes "s" ++ decimal a.0) ∷ i ∷ codes "m4s" ∷ [])) u.0 ∙ part_form a.0 b.0,
+      ap₂ (λ n e. join_with_byte 46 (n ∷ index ∷ e ∷ [])) t.0 is
+          ∙ ap (λ i. join_with_byte 46 ((codes "s" ++ decimal a.0) ∷ i ∷ codes "m4s" ∷ [])) u.0 ∙ part_form a.0 b.0,
       (t.1, u.1),
     )
 
@@ -156,7 +157,8 @@ fixed text spaceless one = record { spaceless = spaceless; one_line = one }
 segment_word : (n : ℕ) → n ≤ most → IsWord (segment_uri n)
 unfolding segment_uri
 segment_word n small =
-    keyed (codes "s") (decimal n ++ codes ".m4s") (fixed (codes "s") refl refl) (keyed (decimal n) (codes ".m4s") (number-word n (omega arith)) (fixed (codes ".m4s") refl refl))
+    keyed (codes "s") (decimal n ++ codes ".m4s") (fixed (codes "s") refl refl)
+    (keyed (decimal n) (codes ".m4s") (number-word n (omega arith)) (fixed (codes ".m4s") refl refl))
 
 part_word : (n i : ℕ) → n ≤ most → i ≤ most → IsWord (part_uri n i)
 unfolding part_uri
@@ -169,7 +171,8 @@ part_word n i small few =
 init_word : (n : ℕ) → n ≤ most → IsWord (map_uri n)
 unfolding map_uri
 init_word n small =
-    keyed (codes "init") (decimal n ++ codes ".mp4") (fixed (codes "init") refl refl) (keyed (decimal n) (codes ".mp4") (number-word n (omega arith)) (fixed (codes ".mp4") refl refl))
+    keyed (codes "init") (decimal n ++ codes ".mp4") (fixed (codes "init") refl refl)
+    (keyed (decimal n) (codes ".mp4") (number-word n (omega arith)) (fixed (codes ".mp4") refl refl))
 
 pub file-word : (x : What) → FileWithin x → IsWord (file_name x)
 file-word what.Playlist h = absurd h

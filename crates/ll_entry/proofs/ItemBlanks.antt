@@ -49,7 +49,8 @@ kept_by f true x xs = refl
 kept_by f false x xs = refl
 
 -- of what a function makes, a test takes what it makes of what the same test takes before
-pub filter-same : {X Y : Type 0} (f : X → Y) (p : X → Bool) (q : Y → Bool) → ((x : X) → q (f x) ≡ p x) → (xs : List X) → filter q (map f xs) ≡ map f (filter p xs)
+pub filter-same : {X Y : Type 0} (f : X → Y) (p : X → Bool) (q : Y → Bool) → ((x : X) → q (f x) ≡ p x)
+    → (xs : List X) → filter q (map f xs) ≡ map f (filter p xs)
 filter-same f p q same [] = refl
 filter-same f p q same (x ∷ xs) =
     ap (λ b. cond b (f x ∷ filter q (map f xs)) (filter q (map f xs))) (same x)

@@ -164,7 +164,8 @@ media_told v text rest o is e =
     let t = (counts-laws v).takes rest b.0 b.1 in
     subst (IsTold v text) (some_is (Media b.0.0 b.0.1) o b.2) (key_takes (codes "media ") text rest is ∙ ap (λ t. codes "media " ++ t) t.0, t.1)
 
-counted_by : (v : Version) (text : List ℕ) (first second : Option (List ℕ)) (o : Outcome) → after (codes "text ") text ≡ first → after (codes "media ") text ≡ second
+counted_by : (v : Version) (text : List ℕ) (first second : Option (List ℕ)) (o : Outcome) → after (codes "text ") text ≡ first
+    → after (codes "media ") text ≡ second
     → with_key first (λ rest. (playlist v).read rest >>= λ p. Some (Text p.0 p.1))
     (with_key second (λ rest. (counts v).read rest >>= λ p. Some (Media p.0 p.1)) None) ≡ Some o
     → IsTold v text o

@@ -59,7 +59,8 @@ open-blank xs =
 abbrev blank_section : Section → Section
 blank_section s = record s { bytes = zeros_for s.bytes }
 
-with-blank : (n : ℕ) (bytes : List ℕ) (ss : List Section) → with_section n (zeros_for bytes) (map blank_section ss) ≡ map blank_section (with_section n bytes ss)
+with-blank : (n : ℕ) (bytes : List ℕ) (ss : List Section)
+    → with_section n (zeros_for bytes) (map blank_section ss) ≡ map blank_section (with_section n bytes ss)
 with-blank n bytes ss =
     let other : Section → Bool = λ s. not (s.number == n) in
     let last : Section = record { number = n; bytes = bytes } in
@@ -83,8 +84,11 @@ from-blank c before ss (i ∷ xs) =
     ∙ ap (λ kept. sections_from c (map blank (before ++ i ∷ [])) kept (map blank xs)) (and-blank (compact c before) ss i)
     ∙ from-blank c (before ++ i ∷ []) (and_section (compact c before) ss i) xs
 
-found_by : (b : Bool) (s : Section) (o p : Option Section) → option_map (λ (s : Section). s.bytes) o ≡ option_map zeros_for (option_map (λ (s : Section). s.bytes) p)
-    → option_map (λ (s : Section). s.bytes) (cond b (Some (blank_section s)) o) ≡ option_map zeros_for (option_map (λ (s : Section). s.bytes) (cond b (Some s) p))
+abbrev bytes_in : Section → List ℕ
+bytes_in s = s.bytes
+
+found_by : (b : Bool) (s : Section) (o p : Option Section) → option_map bytes_in o ≡ option_map zeros_for (option_map bytes_in p)
+    → option_map bytes_in (cond b (Some (blank_section s)) o) ≡ option_map zeros_for (option_map bytes_in (cond b (Some s) p))
 found_by true s o p h = refl
 found_by false s o p h = h
 
@@ -103,7 +107,8 @@ last-map : {X Y : Type 0} (f : X → Y) (n : ℕ) (xs : List X) → last_of n (m
 last-map f n xs = ap (λ all. drop (all - n) (map f xs)) (length-map xs f) ∙ drop-map f (length xs - n) xs
 
 window-blank : (c : Configuration) (xs : List Item)
-    → last_of (length (compact c (map blank xs)).window) (segment_bytes (map blank xs)) ≡ map (map zeros_for) (last_of (length (compact c xs).window) (segment_bytes xs))
+    → last_of (length (compact c (map blank xs)).window) (segment_bytes (map blank xs))
+    ≡ map (map zeros_for) (last_of (length (compact c xs).window) (segment_bytes xs))
 window-blank c xs =
     ap₂ (λ (k : Compact) all. last_of (length k.window) all) (compact-blank c xs) (segment-blank xs)
     ∙ last-map (map zeros_for) (length (compact c xs).window) (segment_bytes xs)
@@ -117,7 +122,8 @@ sections-blank c xs =
 
 store-blank : (c : Configuration) (xs : List Item) → store c (map blank xs) ≡ blank_store (store c xs)
 store-blank c xs =
-    ap₂ (λ window unfinished. record { window = window; unfinished = unfinished; sections = kept_sections (compact c (map blank xs)) (sections c (map blank xs)) })
+    let kept = kept_sections (compact c (map blank xs)) (sections c (map blank xs)) in
+    ap₂ (λ window unfinished. record { window = window; unfinished = unfinished; sections = kept })
     (window-blank c xs) (open-blank xs)
     ∙ ap (λ ss. record { window = map (map zeros_for) (store c xs).window; unfinished = map zeros_for (open_bytes xs); sections = ss }) (sections-blank c xs)
 
@@ -141,12 +147,14 @@ segment_by window None = refl
 segment_by window (Some place) = ap (option_map concat) (slice_get-map (map zeros_for) window place) ∙ joined-blank (slice_get window place)
 
 part_in : (index : ℕ) (o : Option (List (List ℕ)))
-    → option_and_then (λ parts. slice_get parts index) (option_map (map zeros_for) o) ≡ option_map zeros_for (option_and_then (λ parts. slice_get parts index) o)
+    → option_and_then (λ parts. slice_get parts index) (option_map (map zeros_for) o)
+    ≡ option_map zeros_for (option_and_then (λ parts. slice_get parts index) o)
 part_in index None = refl
 part_in index (Some parts) = slice_get-map zeros_for parts index
 
 part_by : (all : List (List (List ℕ))) (index : ℕ) (place : Option ℕ)
-    → option_and_then (λ place. part_at (map (map zeros_for) all) place index) place ≡ option_map zeros_for (option_and_then (λ place. part_at all place index) place)
+    → option_and_then (λ place. part_at (map (map zeros_for) all) place index) place
+    ≡ option_map zeros_for (option_and_then (λ place. part_at all place index) place)
 part_by all index None = refl
 part_by all index (Some place) =
     ap (option_and_then (λ parts. slice_get parts index)) (slice_get-map (map zeros_for) all place) ∙ part_in index (slice_get all place)

@@ -47,7 +47,8 @@ fn counted_text(alloc: Global, line: &str, length: u64) -> Result<String, AllocE
     format!(in alloc; "P {line} {length}")
 }
 
-/// The line of a request of this number, for a playlist or for media, and of what it got at once; none where it was held. It fails only where no memory is found.
+/// The line of a request of this number, for a playlist or for media, and of what it got at once; none where it was held. It fails only
+/// where no memory is found.
 pub fn ask_line(
     alloc: Global,
     ask: u64,
