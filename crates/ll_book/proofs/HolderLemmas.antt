@@ -17,14 +17,13 @@ use Rattle.ll_order.specs.declared.place.Place.{Place}
 use Rattle.ll_order.proofs.Finds.{count_le, count_less, find_filter, its_number, kept_if, rising_filter, same_rising}
 use Rattle.ll_order.proofs.Keyed.{is_number, itself, lower, same}
 use Rattle.ll_order.proofs.Orders.{place_exact, place_total}
-use Rattle.ll_page.specs.Page.{Paged}
+use Rattle.ll_verdict.specs.declared.reply.Settled.{Settled}
 use Rattle.ll_verdict.specs.State.{is_waiting}
 use Rattle.ll_verdict.specs.Waiting.{entry_in, has_ticket, ticket_in}
 use Rattle.ll_verdict.specs.declared.entry.Entry.{Entry}
 use Rattle.ll_verdict.specs.declared.entry.Slot.{Slot}
-use Rattle.ll_book.specs.Orders.{IsNextTaken, NoneTaken, holder_at, is_held, is_passed, is_to_come, page_at, paged_if, start, want_at}
-use Rattle.ll_book.specs.Pages.{PagesOf, page_in}
-use Rattle.ll_book.specs.Release.{frees, holder, holders_of, takes}
+use Rattle.ll_book.specs.Orders.{IsNextTaken, NoneTaken, holder_at, is_held, is_passed, is_to_come, reply_under, reply_if, start, want_at}
+use Rattle.ll_book.specs.Release.{Supply, frees, given_in, holder, holders_of, takes}
 use Rattle.ll_book.specs.declared.release.Release.{Release}
 use Rattle.ll_book.proofs.SlotLemmas.{both}
 use Rattle.ll_book.proofs.TakeLemmas.{after_start, covers_is, ticket_above}
@@ -81,12 +80,12 @@ module _ (which : Release) (slots : List Slot) (after place : Place) (next : IsN
       by_take true t = ap not (by_orders (place_cmp after (want_at s)) (place_cmp place (want_at s)) refl refl t)
       by_take false t = refl
 
-  pub held_turn : (pages : PagesOf) (old new : List (ℕ × Paged))
-      → ((t : ℕ) → page_at new t ≡ cond (is_at (nat_cmp place.number) t) (holder_at pages slots place.number) (page_at old t))
-      → ((t : ℕ) → page_at old t ≡ paged_if (is_passed (is_held which after) (find (has_ticket t) slots)) (holder_at pages slots t))
-      → (t : ℕ) → page_at new t ≡ paged_if (is_passed (is_held which place) (find (has_ticket t) slots)) (holder_at pages slots t)
-  held_turn pages old new added met t =
-      added t ∙ ap (λ b. cond b (holder_at pages slots place.number) (page_at old t)) (is_number place.number t) ∙ by_ticket (t == place.number) refl (met t)
+  pub held_turn : (supply : Supply) (old new : List (ℕ × Settled))
+      → ((t : ℕ) → reply_under new t ≡ cond (is_at (nat_cmp place.number) t) (holder_at supply slots place.number) (reply_under old t))
+      → ((t : ℕ) → reply_under old t ≡ reply_if (is_passed (is_held which after) (find (has_ticket t) slots)) (holder_at supply slots t))
+      → (t : ℕ) → reply_under new t ≡ reply_if (is_passed (is_held which place) (find (has_ticket t) slots)) (holder_at supply slots t)
+  held_turn supply old new added met t =
+      added t ∙ ap (λ b. cond b (holder_at supply slots place.number) (reply_under old t)) (is_number place.number t) ∙ by_ticket (t == place.number) refl (met t)
     where
       unlike : (o : Option Slot) → o ≡ find (has_ticket t) slots → (t == place.number) ≡ false → is_passed (is_held which after) o ≡ is_passed (is_held which place) o
       unlike None f h = refl
@@ -94,21 +93,21 @@ module _ (which : Release) (slots : List Slot) (after place : Place) (next : IsN
           let its = its_number ticket_in t s slots (sym f) in
           other_held s (ap (λ n. find (has_ticket n) slots) its ∙ sym f) (ap (λ n. n == place.number) its ∙ h)
 
-      by_ticket : (b : Bool) → (t == place.number) ≡ b → page_at old t ≡ paged_if (is_passed (is_held which after) (find (has_ticket t) slots)) (holder_at pages slots t)
-          → cond b (holder_at pages slots place.number) (page_at old t) ≡ paged_if (is_passed (is_held which place) (find (has_ticket t) slots)) (holder_at pages slots t)
+      by_ticket : (b : Bool) → (t == place.number) ≡ b → reply_under old t ≡ reply_if (is_passed (is_held which after) (find (has_ticket t) slots)) (holder_at supply slots t)
+          → cond b (holder_at supply slots place.number) (reply_under old t) ≡ reply_if (is_passed (is_held which place) (find (has_ticket t) slots)) (holder_at supply slots t)
       by_ticket true h m =
           let is : t ≡ place.number = same t place.number h in
-          sym (ap (λ n. paged_if (is_passed (is_held which place) (find (has_ticket n) slots)) (holder_at pages slots n)) is
-          ∙ ap (λ o. paged_if (is_passed (is_held which place) o) (holder_at pages slots place.number)) next.there ∙ ap (λ b. paged_if b (holder_at pages slots place.number)) next_held)
-      by_ticket false h m = m ∙ ap (λ b. paged_if b (holder_at pages slots t)) (unlike (find (has_ticket t) slots) refl h)
+          sym (ap (λ n. reply_if (is_passed (is_held which place) (find (has_ticket n) slots)) (holder_at supply slots n)) is
+          ∙ ap (λ o. reply_if (is_passed (is_held which place) o) (holder_at supply slots place.number)) next.there ∙ ap (λ b. reply_if b (holder_at supply slots place.number)) next_held)
+      by_ticket false h m = m ∙ ap (λ b. reply_if b (holder_at supply slots t)) (unlike (find (has_ticket t) slots) refl h)
 
   pub from_turn : is_gt (place_cmp (start which) after) ≡ false → is_gt (place_cmp (start which) place) ≡ false
   from_turn from = upto place_total (start which) after place from (ap is_gt next.later)
 
 -- before the first
-pub none_held : (which : Release) (pages : PagesOf) (slots : List Slot) → AreRising ticket_in 0 slots → (t : ℕ)
-    → ◌≡◌ {A = Option Paged} None (paged_if (is_passed (is_held which (start which)) (find (has_ticket t) slots)) (holder_at pages slots t))
-none_held which pages slots r t = ap (λ b. paged_if b (holder_at pages slots t)) (by_slot (find (has_ticket t) slots) refl)
+pub none_held : (which : Release) (supply : Supply) (slots : List Slot) → AreRising ticket_in 0 slots → (t : ℕ)
+    → ◌≡◌ {A = Option Settled} None (reply_if (is_passed (is_held which (start which)) (find (has_ticket t) slots)) (holder_at supply slots t))
+none_held which supply slots r t = ap (λ b. reply_if b (holder_at supply slots t)) (by_slot (find (has_ticket t) slots) refl)
   where
     by_slot : (o : Option Slot) → o ≡ find (has_ticket t) slots → false ≡ is_passed (is_held which (start which)) o
     by_slot None f = refl
@@ -138,72 +137,72 @@ all_held which after slots none t = by_slot (find (has_ticket t) slots) refl
 
 -- ---- holders in order of their tickets
 
-abbrev key : ℕ × Paged → ℕ
+abbrev key : ℕ × Settled → ℕ
 key h = h.0
 
-page_found : (n : ℕ) (hs : List (ℕ × Paged)) → find (has_number key n) hs ≡ option_map (λ p. (n, p)) (page_at hs n)
-page_found n [] = refl
-page_found n (h ∷ hs) = by_key (h.0 == n) refl (page_found n hs) ∙ ap (λ b. option_map (λ p. (n, p)) (cond b (Some h.1) (page_at hs n))) (sym (is_number n h.0))
+reply_found : (n : ℕ) (hs : List (ℕ × Settled)) → find (has_number key n) hs ≡ option_map (λ p. (n, p)) (reply_under hs n)
+reply_found n [] = refl
+reply_found n (h ∷ hs) = by_key (h.0 == n) refl (reply_found n hs) ∙ ap (λ b. option_map (λ p. (n, p)) (cond b (Some h.1) (reply_under hs n))) (sym (is_number n h.0))
   where
-    by_key : (b : Bool) → (h.0 == n) ≡ b → find (has_number key n) hs ≡ option_map (λ p. (n, p)) (page_at hs n)
-        → cond b (Some h) (find (has_number key n) hs) ≡ option_map (λ p. (n, p)) (cond b (Some h.1) (page_at hs n))
+    by_key : (b : Bool) → (h.0 == n) ≡ b → find (has_number key n) hs ≡ option_map (λ p. (n, p)) (reply_under hs n)
+        → cond b (Some h) (find (has_number key n) hs) ≡ option_map (λ p. (n, p)) (cond b (Some h.1) (reply_under hs n))
     by_key true e k = ap (λ m. Some (m, h.1)) (same h.0 n e)
     by_key false e k = k
 
-rising_holders : (pages : PagesOf) (low : ℕ) (ss : List Slot) → AreRising ticket_in low ss → AreRising key low (map (holder pages) ss)
-rising_holders pages low [] r = tt
-rising_holders pages low (s ∷ ss) r = (r.0, rising_holders pages s.entry.ticket ss r.1)
+rising_holders : (supply : Supply) (low : ℕ) (ss : List Slot) → AreRising ticket_in low ss → AreRising key low (map (holder supply) ss)
+rising_holders supply low [] r = tt
+rising_holders supply low (s ∷ ss) r = (r.0, rising_holders supply s.entry.ticket ss r.1)
 
-holder_found : (pages : PagesOf) (t : ℕ) (ss : List Slot) → page_at (map (holder pages) ss) t ≡ option_map (λ (s : Slot). page_in pages s.entry.wanted.form) (find (has_ticket t) ss)
-holder_found pages t [] = refl
-holder_found pages t (s ∷ ss) = ap (λ b. cond b (Some (page_in pages s.entry.wanted.form)) (page_at (map (holder pages) ss) t)) (is_number t s.entry.ticket) ∙ by_key (s.entry.ticket == t) (holder_found pages t ss)
+holder_found : (supply : Supply) (t : ℕ) (ss : List Slot) → reply_under (map (holder supply) ss) t ≡ option_map (λ (s : Slot). given_in supply s.entry.wanted) (find (has_ticket t) ss)
+holder_found supply t [] = refl
+holder_found supply t (s ∷ ss) = ap (λ b. cond b (Some (given_in supply s.entry.wanted)) (reply_under (map (holder supply) ss) t)) (is_number t s.entry.ticket) ∙ by_key (s.entry.ticket == t) (holder_found supply t ss)
   where
-    by_key : (b : Bool) → page_at (map (holder pages) ss) t ≡ option_map (λ (z : Slot). page_in pages z.entry.wanted.form) (find (has_ticket t) ss)
-        → cond b (Some (page_in pages s.entry.wanted.form)) (page_at (map (holder pages) ss) t) ≡ option_map (λ (z : Slot). page_in pages z.entry.wanted.form) (cond b (Some s) (find (has_ticket t) ss))
+    by_key : (b : Bool) → reply_under (map (holder supply) ss) t ≡ option_map (λ (z : Slot). given_in supply z.entry.wanted) (find (has_ticket t) ss)
+        → cond b (Some (given_in supply s.entry.wanted)) (reply_under (map (holder supply) ss) t) ≡ option_map (λ (z : Slot). given_in supply z.entry.wanted) (cond b (Some s) (find (has_ticket t) ss))
     by_key true k = refl
     by_key false k = k
 
 -- the page of a ticket among those of a release
-release_holds : (pages : PagesOf) (which : Release) (t : ℕ) (ss : List Slot) → AreRising ticket_in 0 ss → page_at (holders_of pages which ss) t ≡ paged_if (is_passed (takes which) (find (has_ticket t) ss)) (holder_at pages ss t)
-release_holds pages which t ss r =
-    holder_found pages t (filter (takes which) ss) ∙ ap (option_map (λ (s : Slot). page_in pages s.entry.wanted.form)) (find_filter ticket_in (takes which) t 0 ss r) ∙ by_slot (find (has_ticket t) ss)
+release_holds : (supply : Supply) (which : Release) (t : ℕ) (ss : List Slot) → AreRising ticket_in 0 ss → reply_under (holders_of supply which ss) t ≡ reply_if (is_passed (takes which) (find (has_ticket t) ss)) (holder_at supply ss t)
+release_holds supply which t ss r =
+    holder_found supply t (filter (takes which) ss) ∙ ap (option_map (λ (s : Slot). given_in supply s.entry.wanted)) (find_filter ticket_in (takes which) t 0 ss r) ∙ by_slot (find (has_ticket t) ss)
   where
-    by_slot : (o : Option Slot) → option_map (λ (s : Slot). page_in pages s.entry.wanted.form) (kept_if ticket_in (takes which) o)
-        ≡ paged_if (is_passed (takes which) o) (option_map (λ (e : Entry). page_in pages e.wanted.form) (option_map entry_in o))
+    by_slot : (o : Option Slot) → option_map (λ (s : Slot). given_in supply s.entry.wanted) (kept_if ticket_in (takes which) o)
+        ≡ reply_if (is_passed (takes which) o) (option_map (λ (e : Entry). given_in supply e.wanted) (option_map entry_in o))
     by_slot None = refl
     by_slot (Some s) = by_take (takes which s)
       where
-        by_take : (b : Bool) → option_map (λ (z : Slot). page_in pages z.entry.wanted.form) (cond b (Some s) None) ≡ paged_if b (Some (page_in pages s.entry.wanted.form))
+        by_take : (b : Bool) → option_map (λ (z : Slot). given_in supply z.entry.wanted) (cond b (Some s) None) ≡ reply_if b (Some (given_in supply s.entry.wanted))
         by_take true = refl
         by_take false = refl
 
 above_key : (a b : ℕ) → nat_cmp a b ≡ Less → a < b
 above_key a b h = grind (arith, nat_tests, h)
 
-sorted_rising : (low : ℕ) (hs : List (ℕ × Paged)) → AllByRecursion (λ k. nat_cmp low k ≡ Less) (keys_of hs) → IsStrictlySortedBy nat_cmp (keys_of hs) → AreRising key low hs
+sorted_rising : (low : ℕ) (hs : List (ℕ × Settled)) → AllByRecursion (λ k. nat_cmp low k ≡ Less) (keys_of hs) → IsStrictlySortedBy nat_cmp (keys_of hs) → AreRising key low hs
 sorted_rising low [] a s = tt
 sorted_rising low (h ∷ hs) a s = (above_key low h.0 a.0, sorted_rising h.0 hs (sorted_head nat_cmp h.0 (keys_of hs) s) (sorted_tail nat_cmp h.0 (keys_of hs) s))
 
 -- keys that ascend rise from 0 where nothing stands under it
-rising_entries : (hs : List (ℕ × Paged)) → IsStrictlySortedBy nat_cmp (keys_of hs) → page_at hs 0 ≡ None → AreRising key 0 hs
+rising_entries : (hs : List (ℕ × Settled)) → IsStrictlySortedBy nat_cmp (keys_of hs) → reply_under hs 0 ≡ None → AreRising key 0 hs
 rising_entries [] s none = tt
 rising_entries (h ∷ hs) s none = (by_key (h.0 == 0) refl, sorted_rising h.0 hs (sorted_head nat_cmp h.0 (keys_of hs) s) (sorted_tail nat_cmp h.0 (keys_of hs) s))
   where
     by_key : (b : Bool) → (h.0 == 0) ≡ b → 0 < h.0
-    by_key true k = absurd (none-some h.1 (sym none ∙ ap (λ b. cond b (Some h.1) (page_at hs 0)) (is_number 0 h.0 ∙ k)))
+    by_key true k = absurd (none-some h.1 (sym none ∙ ap (λ b. cond b (Some h.1) (reply_under hs 0)) (is_number 0 h.0 ∙ k)))
     by_key false k = grind (arith, nat_tests, k)
 
-pub holders_are : (pages : PagesOf) (which : Release) (after : Place) (slots : List Slot) (hs : List (ℕ × Paged)) → AreRising ticket_in 0 slots → IsStrictlySortedBy nat_cmp (keys_of hs) → NoneTaken which after slots
-    → ((t : ℕ) → page_at hs t ≡ paged_if (is_passed (is_held which after) (find (has_ticket t) slots)) (holder_at pages slots t)) → hs ≡ holders_of pages which slots
-holders_are pages which after slots hs r sorted none met =
-    let alike : (t : ℕ) → page_at hs t ≡ page_at (holders_of pages which slots) t =
-    λ t. met t ∙ ap (λ b. paged_if b (holder_at pages slots t)) (all_held which after slots none t) ∙ sym (release_holds pages which t slots r) in
-    let rising = rising_holders pages 0 (filter (takes which) slots) (rising_filter ticket_in (takes which) 0 slots r) in
-    same_rising key 0 0 hs (holders_of pages which slots) (rising_entries hs sorted (alike 0 ∙ at_zero (holders_of pages which slots) rising)) rising
-    (λ n. page_found n hs ∙ ap (option_map (λ p. (n, p))) (alike n) ∙ sym (page_found n (holders_of pages which slots)))
+pub holders_are : (supply : Supply) (which : Release) (after : Place) (slots : List Slot) (hs : List (ℕ × Settled)) → AreRising ticket_in 0 slots → IsStrictlySortedBy nat_cmp (keys_of hs) → NoneTaken which after slots
+    → ((t : ℕ) → reply_under hs t ≡ reply_if (is_passed (is_held which after) (find (has_ticket t) slots)) (holder_at supply slots t)) → hs ≡ holders_of supply which slots
+holders_are supply which after slots hs r sorted none met =
+    let alike : (t : ℕ) → reply_under hs t ≡ reply_under (holders_of supply which slots) t =
+    λ t. met t ∙ ap (λ b. reply_if b (holder_at supply slots t)) (all_held which after slots none t) ∙ sym (release_holds supply which t slots r) in
+    let rising = rising_holders supply 0 (filter (takes which) slots) (rising_filter ticket_in (takes which) 0 slots r) in
+    same_rising key 0 0 hs (holders_of supply which slots) (rising_entries hs sorted (alike 0 ∙ at_zero (holders_of supply which slots) rising)) rising
+    (λ n. reply_found n hs ∙ ap (option_map (λ p. (n, p))) (alike n) ∙ sym (reply_found n (holders_of supply which slots)))
   where
-    at_zero : (gs : List (ℕ × Paged)) → AreRising key 0 gs → page_at gs 0 ≡ None
+    at_zero : (gs : List (ℕ × Settled)) → AreRising key 0 gs → reply_under gs 0 ≡ None
     at_zero [] s = refl
     at_zero (g ∷ gs) s =
         let apart : (g.0 == 0) ≡ false = grind (arith, nat_tests, s.0) in
-        ap (λ b. cond b (Some g.1) (page_at gs 0)) (is_number 0 g.0 ∙ apart) ∙ at_zero gs (lower key 0 g.0 gs s.0 s.1)
+        ap (λ b. cond b (Some g.1) (reply_under gs 0)) (is_number 0 g.0 ∙ apart) ∙ at_zero gs (lower key 0 g.0 gs s.0 s.1)

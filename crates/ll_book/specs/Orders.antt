@@ -8,14 +8,12 @@ use Rattle.ll_directive.specs.declared.want.Awaited.TheVariants as awaited
 use Rattle.ll_order.specs.Numbers.{AreRising}
 use Rattle.ll_order.specs.Places.{IsBefore, IsOrder, place_cmp}
 use Rattle.ll_order.specs.declared.place.Place.{Place}
-use Rattle.ll_page.specs.Page.{Paged}
 use Rattle.ll_verdict.specs.State.{is_waiting}
 use Rattle.ll_verdict.specs.Waiting.{found, has_ticket, is_ready, ticket_in}
 use Rattle.ll_verdict.specs.declared.entry.Entry.{Entry}
 use Rattle.ll_verdict.specs.declared.entry.Slot.{Slot}
 use Rattle.ll_verdict.specs.declared.reply.Settled.{Settled}
-use Rattle.ll_book.specs.Pages.{PagesOf, page_in}
-use Rattle.ll_book.specs.Release.{takes}
+use Rattle.ll_book.specs.Release.{Supply, given_in, takes}
 use Rattle.ll_book.specs.declared.release.Release.{Release}
 use Rattle.ll_book.specs.declared.release.Release.TheVariants.{Part, Segment, All}
 
@@ -111,17 +109,17 @@ is_to_come which after s = takes which s && is_lt (place_cmp after (want_at s))
 abbrev pub is_held : Release → Place → Slot → Bool
 is_held which after s = takes which s && not (is_lt (place_cmp after (want_at s)))
 
--- the page of a ticket
-abbrev pub page_at : List (ℕ × Paged) → ℕ → Option Paged
-page_at pages t = lookup (is_at (nat_cmp t)) pages
+-- the reply of a ticket
+abbrev pub reply_under : List (ℕ × Settled) → ℕ → Option Settled
+reply_under replies t = lookup (is_at (nat_cmp t)) replies
 
--- the page that the request of a ticket gets
-abbrev pub holder_at : PagesOf → List Slot → ℕ → Option Paged
-holder_at pages slots t = option_map (λ (e : Entry). page_in pages e.wanted.form) (found t slots)
+-- what the request of a ticket gets
+abbrev pub holder_at : Supply → List Slot → ℕ → Option Settled
+holder_at supply slots t = option_map (λ (e : Entry). given_in supply e.wanted) (found t slots)
 
-abbrev pub paged_if : Bool → Option Paged → Option Paged
-paged_if true page = page
-paged_if false page = None
+abbrev pub reply_if : Bool → Option Settled → Option Settled
+reply_if true reply = reply
+reply_if false reply = None
 
 -- tickets in memory for so many
 pub record Kept : Type 0 where

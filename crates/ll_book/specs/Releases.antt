@@ -5,8 +5,7 @@ use Rattle.ll_item.specs.declared.item.Item.{Item}
 use Rattle.ll_item.specs.declared.item.Item.TheVariants as item
 use Rattle.ll_window.specs.Compact.{Compact}
 use Rattle.ll_verdict.specs.declared.entry.Slot.{Slot}
-use Rattle.ll_book.specs.Pages.{PagesOf}
-use Rattle.ll_book.specs.Release.{AreThose, HoldersValue, holders_of, released, takes}
+use Rattle.ll_book.specs.Release.{AreThose, HoldersValue, Supply, holders_of, released, takes}
 use Rattle.ll_book.specs.declared.release.Release.{Release}
 use Rattle.ll_book.specs.declared.release.Release.TheVariants.{Part, Segment, All}
 
@@ -32,16 +31,25 @@ second_release k (item.End rendition) = None
 second_release k (item.Range rendition id attributes) = None
 second_release k (item.Unrange rendition id) = None
 
+-- the bytes of a part
+abbrev pub part_of : Item → Option (List ℕ)
+part_of (item.Part rendition duration independent finish media) = Some media
+part_of (item.Break rendition) = None
+part_of (item.Init rendition media) = None
+part_of (item.End rendition) = None
+part_of (item.Range rendition id attributes) = None
+part_of (item.Unrange rendition id) = None
+
 -- whether a release, where there is one, takes any of these
 abbrev pub takes_any : Option Release → List Slot → Bool
 takes_any None slots = false
 takes_any (Some which) slots = list_any (takes which) slots
 
 -- the holders of a release, where there is one
-abbrev pub HasHolders : PagesOf → Option Release → List Slot → Option HoldersValue → Type 0
-HasHolders pages None slots found = found ≡ None
-HasHolders pages (Some which) slots None = ⊥
-HasHolders pages (Some which) slots (Some held) = held.holders ≡ holders_of pages which slots
+abbrev pub HasHolders : Supply → Option Release → List Slot → Option HoldersValue → Type 0
+HasHolders supply None slots found = found ≡ None
+HasHolders supply (Some which) slots None = ⊥
+HasHolders supply (Some which) slots (Some held) = held.holders ≡ holders_of supply which slots
 
 -- the holders are those of just the requests that a release takes
 abbrev pub HasThose : Option Release → Option HoldersValue → List Slot → Type 0

@@ -7,18 +7,18 @@ ghost use Rattle.ll_order.specs.Places.{place_cmp};
 ghost use Rattle.ll_verdict.specs.State.{is_waiting, waiting_in};
 ghost use Rattle.ll_verdict.specs.Verdict.{waiting_limit};
 ghost use Rattle.ll_book.specs.Release.{AreThose, expired, frees, holders_of, is_over, released, takes};
-ghost use Rattle.ll_book.specs.Orders.{IsNextTaken, IsWaiting, NoneTaken, holder_at, is_passed, page_at, settle_with};
+ghost use Rattle.ll_book.specs.Orders.{IsNextTaken, IsWaiting, NoneTaken, holder_at, is_passed, reply_under, settle_with};
 ghost use Rattle.ll_book.specs.Orders as spec;
 ghost use Rattle.ll_verdict.specs.Waiting.{AreBelow, IsRising, entry_in, found, has_ticket, is_ready, is_ready_at, first_ready, reply_at, ticket_in, without, without_ready};
 
-use crate::holders::Holders;
+use crate::holders::{Holders, given};
 use crate::pages::Pages;
 use crate::places::{FIRST, covers, start, time_of, want_of};
 use crate::ready::Ready;
 use crate::release::Release;
 use crate::slots::Slots;
+use ll_item::Media;
 use ll_order::{Order, Place};
-use ll_page::Page;
 use ll_verdict::{Entry, Settled, Slot};
 use std::alloc::{AllocError, Global};
 use std::collections::BTreeMap;
@@ -243,14 +243,16 @@ impl Book {
         Some(place)
     }
 
-    /// A holder of its page for each request that a release will take, in order of their tickets. It fails only where no memory is found.
+    /// What each request gets that a release will take, in order of their tickets: of these pages of its rendition, and of the bytes of the part that
+    /// comes, where one comes. It fails only where no memory is found.
     pub fn holders(
         &self,
         alloc: Global,
         which: Release,
         pages: &mut Pages,
+        part: &Option<Media>,
     ) -> Result<Holders, AllocError>
-        ensures holders { IfOk result (λ h. h.holders ≡ holders_of pages.old which self.now) }
+        ensures holders { IfOk result (λ h. h.holders ≡ holders_of (record { pages = pages.old; part = part.now }) which self.now) }
         ensures looked { IfOk result (λ h. h.looked ≤ length (filter (takes which) self.now) + 1) }
         ensures pages { pages.new ≡ pages.old }
     {
@@ -259,34 +261,35 @@ impl Book {
         let mut after = start(which);
         self.slots.len();
         while let Some(place) = self.next_taken(which, after, &mut looked) {
-            self.add_holder(alloc, place.number, pages, &mut holders)?;
+            self.add_holder(alloc, place.number, pages, part, &mut holders)?;
             after = place;
         }
         holders.len();
         Ok(Holders {
-            pages: holders,
+            replies: holders,
             looked,
         })
     }
 
-    /// Adds a holder of its page for the request of this ticket.
+    /// Adds what the request of this ticket gets.
     fn add_holder(
         &self,
         alloc: Global,
         ticket: u64,
         pages: &mut Pages,
-        holders: &mut BTreeMap<u64, Page>,
+        part: &Option<Media>,
+        holders: &mut BTreeMap<u64, Settled>,
     ) -> Result<(), AllocError>
         requires { is_some (found ticket self.now) ≡ true }
-        ensures added { OnOk result ((t : ℕ) → page_at holders.new.entries t
-            ≡ cond (is_at (nat_cmp ticket) t) (holder_at pages.old self.now ticket) (page_at holders.old.entries t)) }
+        ensures added { OnOk result ((t : ℕ) → reply_under holders.new.entries t
+            ≡ cond (is_at (nat_cmp ticket) t) (holder_at (record { pages = pages.old; part = part.now }) self.now ticket) (reply_under holders.old.entries t)) }
         ensures pages { pages.new ≡ pages.old }
     {
         let Some(entry) = self.find(ticket) else {
             unreachable!();
         };
-        let page = pages.page(alloc, entry.wanted.form)?;
-        holders.insert(ticket, page)?;
+        let settled = given(alloc, pages, part, &entry.wanted)?;
+        holders.insert(ticket, settled)?;
         Ok(())
     }
 
@@ -327,7 +330,7 @@ impl Book {
         self.release(Release::All(rendition), holders)
     }
 
-    /// Gives each request that a release takes its page of these.
+    /// Gives each request that a release takes its reply of these.
     fn release(&mut self, which: Release, holders: Holders) -> Released
         requires those { AreThose which holders.holders self.old }
         ensures slots { self.new ≡ released which holders.holders self.old }
@@ -335,16 +338,16 @@ impl Book {
         ensures looked { result.looked ≤ result.released + 1 }
     {
         let Holders {
-            mut pages,
+            mut replies,
             looked: _,
         } = holders;
         self.slots.len();
         let (mut count, mut looked) = (0, 0);
         while let Some(entry) = self.first_taken(which, &mut looked) {
-            let Some(page) = pages.remove(&entry.ticket) else {
+            let Some(reply) = replies.remove(&entry.ticket) else {
                 unreachable!();
             };
-            self.settle(entry, Settled::Text(page));
+            self.settle(entry, reply);
             count += 1;
         }
         Released {

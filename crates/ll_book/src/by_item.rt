@@ -6,7 +6,7 @@ use crate::book::Book;
 use crate::holders::Holders;
 use crate::pages::Pages;
 use crate::release::Release;
-use ll_item::Item;
+use ll_item::{Item, Media};
 use ll_window::Window;
 use std::alloc::{AllocError, Global};
 
@@ -39,18 +39,29 @@ pub fn second_release(window: &Window, item: &Item) -> Option<Release>
     }
 }
 
+/// Another holder of the bytes of a part; none of another item. It fails only where no memory is found.
+pub fn part_of(item: &Item) -> Result<Option<Media>, AllocError>
+    ensures { IfOk result (λ part. part ≡ spec.part_of item.now) }
+{
+    match item {
+        Item::Part { media, .. } => Ok(Some(media.copy()?)),
+        _ => Ok(None),
+    }
+}
+
 /// The holders of a release, where there is one. It fails only where no memory is found.
 pub fn holders_for(
     book: &Book,
     alloc: Global,
     which: Option<Release>,
     pages: &mut Pages,
+    part: &Option<Media>,
 ) -> Result<Option<Holders>, AllocError>
-    ensures holders { IfOk result (λ found. spec.HasHolders pages.old which book.now found) }
+    ensures holders { IfOk result (λ found. spec.HasHolders (record { pages = pages.old; part = part.now }) which book.now found) }
     ensures pages { pages.new ≡ pages.old }
 {
     match which {
-        Some(which) => Ok(Some(book.holders(alloc, which, pages)?)),
+        Some(which) => Ok(Some(book.holders(alloc, which, pages, part)?)),
         None => Ok(None),
     }
 }

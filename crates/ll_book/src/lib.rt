@@ -13,7 +13,7 @@ mod release;
 mod slots;
 
 pub use book::{Book, ParkFault, Released};
-pub use by_item::{first_release, holders_for, release_with, second_release, takes_any};
+pub use by_item::{first_release, holders_for, part_of, release_with, second_release, takes_any};
 pub use holders::Holders;
 pub use laws::release_law;
 pub use pages::Pages;

@@ -1,4 +1,5 @@
 pub mod Decoded
 pub mod Pieces
+pub mod Plain
 pub mod Short
 pub mod Tells

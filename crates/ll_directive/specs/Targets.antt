@@ -1,5 +1,5 @@
 -- What the target of a player's request wants (section 6.2.5 of draft-pantos-hls-rfc8216bis).
-use Rattle.std.specs.Prelude.{◌≡◌, ℕ, List, [], ◌∷◌, Bool, false, ◌&&◌, ◌||◌, ◌==◌, not, Option, Some, None, Result, Ok, Err, if◌then◌else◌, ok_or, option_and_then, option_map, map, filter, length, nat_le, bytes_eq, codes}
+use Rattle.std.specs.Prelude.{◌≡◌, ℕ, List, [], ◌∷◌, Bool, true, false, ◌&&◌, ◌||◌, ◌==◌, not, Option, Some, None, Result, Ok, Err, if◌then◌else◌, ok_or, option_and_then, option_map, map, filter, length, nat_le, bytes_eq, codes}
 use Rattle.std.specs.Char.{is_ascii_graphic}
 use Rattle.std.specs.List.{list_all, before_first, after_first}
 use Rattle.std.specs.Option.{option_or}
@@ -38,6 +38,14 @@ awaits (what.Init number) = Nothing
 -- a request for media has no directives
 abbrev pub IsPlain : WantValue → Type 0
 IsPlain w = is_playlist w.what ≡ false → (w.awaited ≡ awaits w.what) × (w.skip ≡ None)
+
+abbrev pub awaited_by : Bool → WantValue → Awaited
+awaited_by true w = w.awaited
+awaited_by false w = awaits w.what
+
+-- what a request waits for, whatever it is for
+abbrev pub awaited_in : WantValue → Awaited
+awaited_in w = awaited_by (is_playlist w.what) w
 
 -- a request for media of a rendition
 abbrev pub media_want : List ℕ → List ℕ → What → WantValue

@@ -36,10 +36,7 @@ pub fn read_target(alloc: Global, target: &[u8]) -> Result<Want, TargetFault>
 }
 
 /// What a request asks of a file by its query: that of media isn't read.
-fn directives_for(
-    what: What,
-    query: &str,
-) -> Result<(Awaited, Option<SkipKind>), TargetFault>
+fn directives_for(what: What, query: &str) -> Result<(Awaited, Option<SkipKind>), TargetFault>
     ensures value { result ≡ spec.directives_for what (parse query.now) }
     ensures not_memory { IfErr result (λ fault. fault ≢ TargetFault.Memory) }
 {

@@ -1,7 +1,7 @@
 //! What a request wants.
 ghost use Rattle.std.specs.Prelude.{◌≡◌, ◌&&◌, IfOk, None, Some, if◌then◌else◌, true};
 ghost use Rattle.ll_directive.specs.Targets as spec;
-ghost use Rattle.ll_directive.specs.Targets.{IsPlain, media_want};
+ghost use Rattle.ll_directive.specs.Targets.{IsPlain, awaited_in, media_want};
 ghost use Rattle.ll_item.specs.Names.{is_name};
 ghost use Rattle.ll_store.specs.declared.what.What.TheVariants as what;
 
@@ -128,8 +128,10 @@ impl Want {
     }
 
     /// What the request waits for.
+    #[tactic(auto, using(crate::proofs::Plain::plain_awaited))]
     pub fn awaited(&self) -> Awaited
-        ensures { result ≡ self.now.awaited }
+        ensures value { result ≡ self.now.awaited }
+        ensures by_file { result ≡ awaited_in self.now }
     {
         self.awaited
     }

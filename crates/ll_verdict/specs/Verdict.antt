@@ -10,7 +10,7 @@ use Rattle.ll_store.specs.declared.what.What.TheVariants as what
 use Rattle.ll_window.specs.Segments.{ended, open_segment, own, segments}
 use Rattle.ll_verdict.specs.Events.{Event, Publish, Ask, Collect, Close, Clock, Step, until, steps, items, time, asks}
 use Rattle.ll_directive.specs.Files.{is_playlist}
-use Rattle.ll_directive.specs.Targets.{WantValue, awaits}
+use Rattle.ll_directive.specs.Targets.{WantValue, awaited_in}
 use Rattle.ll_directive.specs.declared.want.Awaited.{Awaited}
 use Rattle.ll_directive.specs.declared.want.Awaited.TheVariants.{Nothing, Segment, Part}
 use Rattle.ll_page.specs.Page.{Paged}
@@ -25,13 +25,8 @@ use Rattle.ll_verdict.specs.declared.reply.Settled.{Settled}
 use Rattle.ll_verdict.specs.declared.reply.Settled.TheVariants.{Text, Timeout}
 use Rattle.ll_verdict.specs.declared.reply.Settled.TheVariants as settled
 
--- what a request waits for, by the file that it is for
-abbrev pub awaited_by : Bool → WantValue → Awaited
-awaited_by true want = want.awaited
-awaited_by false want = awaits want.what
-
 abbrev pub wanted_at : WantValue → ℕ → Wanted
-wanted_at want rendition = record { rendition = rendition; what = want.what; awaited = awaited_by (is_playlist want.what) want; form = want.skip }
+wanted_at want rendition = record { rendition = rendition; what = want.what; awaited = awaited_in want; form = want.skip }
 
 -- what a request asks of a rendition of the channel; none where the channel has no rendition of that name
 abbrev pub wanted_of : Configuration → WantValue → Option Wanted

@@ -39,3 +39,17 @@ pub fn is_far(window: &Window, awaited: Awaited) -> bool
         Awaited::Part(msn, part) => window.far(msn, Some(part)),
     }
 }
+
+/// Whether what is awaited of a rendition is the part that its Preload Hint names: the next one, where the rendition has not ended.
+pub fn is_hinted(window: &Window, awaited: Awaited) -> bool
+    ensures { (items : List Item) → window.now ≡ compact window.now.settings items
+        → result ≡ verdict.is_hinted window.now.settings items awaited }
+{
+    match awaited {
+        Awaited::Nothing | Awaited::Segment(_) => false,
+        Awaited::Part(msn, part) => {
+            !window.ended()
+                && (msn == window.next_number() && part == window.open_parts().len() as u64)
+        }
+    }
+}

@@ -10,7 +10,7 @@ mod piece;
 mod reply;
 mod wanted;
 
-pub use awaited::{is_far, is_there};
+pub use awaited::{is_far, is_hinted, is_there};
 pub use entry::{Entry, Slot};
 pub use fault::AskFault;
 pub use laws::{

@@ -1,15 +1,15 @@
--- Those that are left over get the pages that are left over.
+-- Those that are left over get the replies that are left over.
 use Rattle.std.proofs.Common.{◌≡◌, ◌+◌, ◌<◌, ◌^◌, ℕ, filter, find, length, option_map}
 use Rattle.ll_order.specs.Numbers.{AreRising}
 use Rattle.ll_verdict.specs.Waiting.{has_ticket, ticket_in}
 use Rattle.ll_book.specs.Release.{released, takes}
-use Rattle.ll_book.proofs.PageLemmas.{HasPages, paged}
+use Rattle.ll_book.proofs.ReplyLemmas.{HasReplies, replied}
 use Rattle.ll_book.proofs.book.Book.release.Given as goal
 
 abbrev pub invariant-loop-entry : goal.invariant-loop-entry
 invariant-loop-entry l = record {
-  rest : (t : ℕ) → option_map (paged l.which l.pages.entries) (find (has_ticket t) l.self) ≡ find (has_ticket t) (released l.which l.fn.holders.holders l.fn.self);
-  pages : HasPages l.which l.pages.entries l.self;
+  rest : (t : ℕ) → option_map (replied l.which l.replies.entries) (find (has_ticket t) l.self) ≡ find (has_ticket t) (released l.which l.fn.holders.holders l.fn.self);
+  pages : HasReplies l.which l.replies.entries l.self;
   left : l.count + length (filter (takes l.which) l.self) ≡ length (filter (takes l.which) l.fn.self);
   as_many : l.looked ≡ l.count;
   rising : AreRising ticket_in 0 l.self;

@@ -1,0 +1,11 @@
+-- What a request waits for is told by the file that it is for.
+use Rattle.std.proofs.Common.{◌≡◌, Bool, true, false, refl}
+use Rattle.ll_directive.specs.Files.{is_playlist}
+use Rattle.ll_directive.specs.Targets.{IsPlain, WantValue, awaited_by, awaited_in}
+
+by_file : (w : WantValue) (b : Bool) → is_playlist w.what ≡ b → IsPlain w → w.awaited ≡ awaited_by b w
+by_file w true e plain = refl
+by_file w false e plain = (plain e).0
+
+pub plain_awaited : (w : WantValue) → IsPlain w → w.awaited ≡ awaited_in w
+plain_awaited w plain = by_file w (is_playlist w.what) refl plain
