@@ -1,7 +1,8 @@
 //! Media in responses.
-ghost use Rattle.std.specs.Prelude.{◌≡◌, ◌++◌, OnOk};
+ghost use Rattle.std.specs.Prelude.{◌≡◌, ◌++◌, IfOk, OnOk};
 ghost use Rattle.ll_wire.specs.Response as spec;
 
+use ll_item::Media;
 use ll_store::Blocks;
 use std::alloc::AllocError;
 
@@ -10,10 +11,22 @@ use std::alloc::AllocError;
 pub fn push_blocks(text: &mut Vec<u8>, blocks: &Blocks) -> Result<(), AllocError>
     ensures { OnOk result (text.new.items ≡ text.old.items ++ blocks.now) }
 {
-    for part in blocks.parts() {
-        text.extend_from_slice(part.bytes().ok_or(AllocError)?)?;
+    let parts = blocks.parts();
+    for part in parts {
+        text.extend_from_slice(known_bytes(part)?)?;
     }
     Ok(())
+}
+
+/// The bytes of a part. It fails where only their number is known.
+fn known_bytes(part: &Media) -> Result<&[u8], AllocError>
+    ensures { IfOk result (λ bytes. bytes.now ≡ part.now) }
+{
+    match part.bytes() {
+        Some(bytes) => Ok(bytes),
+        None if part.len() == 0 => Ok(&[]),
+        None => Err(AllocError),
+    }
 }
 
 /// Whether a response that begins with these bytes is one with media.
