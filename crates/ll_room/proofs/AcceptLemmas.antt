@@ -16,13 +16,18 @@ use Rattle.ll_verdict.specs.Accepted.{refusal}
 use Rattle.ll_rendition.specs.Refusal.{first_refusal, of_push, refusal_at, refusal_of, rendition_refusal}
 use Rattle.ll_verdict.specs.Events.{Event, Publish, items, time, taken}
 use Rattle.ll_verdict.specs.State.{State, state_of, settle, stays, next}
-use Rattle.ll_verdict.specs.Verdict.{page_of}
+use Rattle.ll_verdict.specs.Verdict.{media_of, media_or_none, page_of}
+use Rattle.ll_verdict.specs.declared.reply.Settled.TheVariants.{Text}
+use Rattle.ll_verdict.proofs.ListLemmas.{Each, each-map}
+use Rattle.ll_directive.specs.Files.{is_playlist}
+use Rattle.ll_page.specs.Page.{Paged}
 use Rattle.ll_verdict.specs.declared.entry.Slot.{Slot}
 use Rattle.ll_rendition.specs.declared.fault.PublishFault.{PublishFault}
 use Rattle.ll_rendition.specs.declared.fault.PublishFault.TheVariants.{NoRendition}
 use Rattle.ll_verdict.specs.declared.wanted.Wanted.{Wanted}
 use Rattle.ll_book.specs.Pages.{PagesOf, page_in}
-use Rattle.ll_book.specs.Releases.{first_release, second_release}
+use Rattle.ll_book.specs.Release.{Supply}
+use Rattle.ll_book.specs.Releases.{first_release, part_of, second_release}
 use Rattle.ll_rendition.proofs.ItemLemmas.{its_refusal}
 use Rattle.ll_room.specs.Freed.{StoresGoOn, freed_slots, releases_at, with_item, with_stores}
 use Rattle.ll_store.specs.Media.{StoreValue}
@@ -30,7 +35,8 @@ use Rattle.ll_store.specs.Stores.{stores}
 use Rattle.ll_verdict.specs.Full.{full_by, is_full, refusal_after}
 use Rattle.ll_room.specs.Full.{refusal_by}
 use Rattle.ll_room.specs.RoomValue.{RoomValue, Stands, room_value}
-use Rattle.ll_room.proofs.FreedLemmas.{each_freed}
+use Rattle.ll_room.proofs.FreedLemmas.{Given, each_freed}
+use Rattle.ll_room.proofs.HintedLemmas.{Hinted, hinted, media-brought}
 use Rattle.ll_room.proofs.IdleLemmas.{idle}
 use Rattle.ll_room.proofs.StandLemmas.{all_stay, stands-by}
 
@@ -98,10 +104,30 @@ releases_are c xs i k e =
 abbrev pages_with : Configuration → List Rendition → ℕ → ℕ → PagesOf
 pages_with c kept_now count rendition = record { moment = record { settings = c; renditions = kept_now; count = count }; rendition = rendition }
 
+abbrev supply_with : Configuration → List Rendition → ℕ → Item → Supply
+supply_with c kept_now count i = record { pages = pages_with c kept_now count (rendition_of i); part = part_of i }
+
 its_page : (c : Configuration) (xs : List Item) (i : Item) (w : Wanted) → w.rendition ≡ rendition_of i
     → page_of c (xs ++ i ∷ []) w ≡ page_in (pages_with c (renditions c (xs ++ i ∷ [])) (length xs + 1) (rendition_of i)) w.form
 its_page c xs i w e =
     ap₂ (λ n r. page_in (pages_with c (renditions c (xs ++ i ∷ [])) n r) w.form) (length-append xs (i ∷ [])) e
+
+gives_by : (b : Bool) (n m : ℕ) (w : Wanted) (p q : Paged) (o u : Option (List ℕ)) → n ≡ m → p ≡ q → (b ≡ false → o ≡ u)
+    → cond b (Text p) (media_or_none n w o) ≡ cond b (Text q) (media_or_none m w u)
+gives_by true n m w p q o u same page bytes = ap (λ x. Text x) page
+gives_by false n m w p q o u same page bytes = ap₂ (λ n o. media_or_none n w o) same (bytes refl)
+
+-- what the item brings is what its supply gives
+its_gift : (c : Configuration) (xs : List Item) (i : Item) (s : Slot) → 1 ≤ c.window → Hinted c xs s
+    → Given c xs i (supply_with c (renditions c (xs ++ i ∷ [])) (length xs + 1) i) s
+its_gift c xs i s low hinted waiting here brought =
+    let w = s.entry.wanted in
+    gives_by (is_playlist w.what) (length (xs ++ i ∷ [])) (length xs + 1) w _ _ (media_of c (xs ++ i ∷ []) w) (part_of i) (length-append xs (i ∷ [])) (its_page c xs i w here)
+    (λ media. media-brought c xs i w low here (hinted waiting media) brought)
+
+each_gift : (c : Configuration) (xs : List Item) (i : Item) (ss : List Slot) → 1 ≤ c.window → Each (Hinted c xs) ss
+    → Each (Given c xs i (supply_with c (renditions c (xs ++ i ∷ [])) (length xs + 1) i)) ss
+each_gift c xs i ss low h = each-map (Hinted c xs) (Given c xs i (supply_with c (renditions c (xs ++ i ∷ [])) (length xs + 1) i)) (λ s. its_gift c xs i s low) ss h
 
 abbrev home_on : ℕ → Configuration → State → List Rendition → List StoreValue → ℕ → List Slot → RoomValue
 home_on channel c s kept_now stores_now count slots = record {
@@ -117,41 +143,41 @@ home_on channel c s kept_now stores_now count slots = record {
 }
 
 -- the open requests after it
-slots_are : (c : Configuration) (es : List Event) (i : Item) → 1 ≤ c.target → refusal c (items c es) i ≡ None
-    → freed_slots (pages_with c (renditions c (items c es ++ i ∷ [])) (length (items c es) + 1) (rendition_of i))
+slots_are : (c : Configuration) (es : List Event) (i : Item) → 1 ≤ c.target → 1 ≤ c.window → refusal c (items c es) i ≡ None
+    → freed_slots (supply_with c (renditions c (items c es ++ i ∷ [])) (length (items c es) + 1) i)
     (releases_at (slice_get (renditions c (items c es)) (rendition_of i)) i) (state_of c es).slots
     ≡ map (settle c (items c es ++ i ∷ []) (time es)) (filter (stays (Publish i)) (state_of c es).slots) ++ []
-slots_are c es i low none =
+slots_are c es i low some none =
     let xs = items c es in
     let r = rendition_of i in
     let in_channel = accepted_in r (length c.renditions) (rendition_refusal c (own r xs) i) (nat_lt r (length c.renditions)) refl none in
     let got = some_kept (renditions c xs) r (slice_get (renditions c xs) r) refl (ap (nat_lt r) (length-renditions c xs) ∙ in_channel.0) in
-    let pages = pages_with c (renditions c (xs ++ i ∷ [])) (length xs + 1) r in
-    ap (λ both. freed_slots pages both (state_of c es).slots) (releases_are c xs i got.0 got.1)
-    ∙ sym (each_freed c xs (time es) i pages (state_of c es).slots (not_ended c (own r xs) i in_channel.1) (its_page c xs i) (idle c es low))
+    let supply = supply_with c (renditions c (xs ++ i ∷ [])) (length xs + 1) i in
+    ap (λ both. freed_slots supply both (state_of c es).slots) (releases_are c xs i got.0 got.1)
+    ∙ sym (each_freed c xs (time es) i supply (state_of c es).slots (not_ended c (own r xs) i in_channel.1) (each_gift c xs i (state_of c es).slots some (hinted c es)) (idle c es low))
     ∙ ap (map (settle c (xs ++ i ∷ []) (time es))) (sym (all_stay (Publish i) (state_of c es).slots (λ s. refl)))
     ∙ sym (append-nil (map (settle c (xs ++ i ∷ []) (time es)) (filter (stays (Publish i)) (state_of c es).slots)))
 
-item-next : (channel : ℕ) (c : Configuration) (es : List Event) (i : Item) (kept_now : List Rendition) (stores_now : List StoreValue) → 1 ≤ c.target
+item-next : (channel : ℕ) (c : Configuration) (es : List Event) (i : Item) (kept_now : List Rendition) (stores_now : List StoreValue) → 1 ≤ c.target → 1 ≤ c.window
     → refusal c (items c es) i ≡ None → kept_now ≡ renditions c (items c es ++ i ∷ []) → stores_now ≡ stores c (items c es ++ i ∷ [])
     → with_stores (with_item (room_value channel c (state_of c es)) kept_now i) stores_now ≡ room_value channel c (next c (state_of c es) (Publish i))
-item-next channel c es i kept_now stores_now low none on stored =
+item-next channel c es i kept_now stores_now low some none on stored =
     let xs = items c es in
     let s = state_of c es in
     let releases_now = releases_at (slice_get (renditions c xs) (rendition_of i)) i in
-    ap₂ (λ ks ss. home_on channel c s ks ss (length xs + 1) (freed_slots (pages_with c ks (length xs + 1) (rendition_of i)) releases_now s.slots)) on stored
-    ∙ ap₂ (home_on channel c s (renditions c (xs ++ i ∷ [])) (stores c (xs ++ i ∷ []))) (sym (length-append xs (i ∷ []))) (slots_are c es i low none)
+    ap₂ (λ ks ss. home_on channel c s ks ss (length xs + 1) (freed_slots (supply_with c ks (length xs + 1) i) releases_now s.slots)) on stored
+    ∙ ap₂ (home_on channel c s (renditions c (xs ++ i ∷ [])) (stores c (xs ++ i ∷ []))) (sym (length-append xs (i ∷ []))) (slots_are c es i low some none)
     ∙ ap (λ ys. home_on channel c s (renditions c ys) (stores c ys) (length ys) (map (settle c ys (time es)) (filter (stays (Publish i)) s.slots) ++ [])) (sym (taken_is c xs i none))
 
-pub publish-stands : (h new : RoomValue) (es : List Event) (i : Item) (kept_now : List Rendition) (stores_now : List StoreValue) → Stands h es → 1 ≤ h.settings.target
+pub publish-stands : (h new : RoomValue) (es : List Event) (i : Item) (kept_now : List Rendition) (stores_now : List StoreValue) → Stands h es → 1 ≤ h.settings.target → 1 ≤ h.settings.window
     → refusal_by h i ≡ None → GoOn h.renditions kept_now i → StoresGoOn h.renditions h.stores stores_now i
     → new ≡ with_stores (with_item h kept_now i) stores_now → Stands new (es ++ Publish i ∷ [])
-publish-stands h new es i kept_now stores_now stands low free on stored is =
+publish-stands h new es i kept_now stores_now stands low some free on stored is =
     let c = h.settings in
     let none : refusal c (items c es) i ≡ None = first_none (refusal c (items c es) i) (full_by (is_full (length es))) (sym (refusal-told h es i stands) ∙ free) in
     let whole : new ≡ room_value h.channel c (next c (state_of c es) (Publish i)) =
     is ∙ ap (λ x. with_stores (with_item x kept_now i) stores_now) stands
-    ∙ item-next h.channel c es i kept_now stores_now low none (on c (items c es) (ap (λ (x : RoomValue). x.renditions) stands))
+    ∙ item-next h.channel c es i kept_now stores_now low some none (on c (items c es) (ap (λ (x : RoomValue). x.renditions) stands))
     (stored c (items c es) (ap (λ (x : RoomValue). x.renditions) stands) (ap (λ (x : RoomValue). x.stores) stands)) in
     stands-by new c es (Publish i) (ap (λ (x : RoomValue). x.settings) whole)
     (whole ∙ ap (λ n. room_value n c (next c (state_of c es) (Publish i))) (sym (ap (λ (x : RoomValue). x.channel) whole)))

@@ -1,5 +1,5 @@
 -- One more request of a room: what it is answered, and what the room stands for then.
-use Rattle.std.proofs.Common.{◌≡◌, ℕ, ◌+◌, ◌≤◌, ◌<◌, List, [], ◌∷◌, ◌++◌, Bool, true, false, ◌||◌, cond, nat_le, Option, Some, None, length, refl, ap, ap₂, ◌∙◌, sym, filter, map, append-nil, arith, subst, slice_index_or}
+use Rattle.std.proofs.Common.{◌≡◌, ℕ, ◌+◌, ◌≤◌, ◌<◌, List, [], ◌∷◌, ◌++◌, Bool, true, false, ◌||◌, cond, nat_le, nat_lt, not, Option, option_map, is_some, Some, None, length, refl, ap, ap₂, ◌∙◌, sym, filter, map, append-nil, arith, subst, slice_index_or}
 use Rattle.std.specs.Prelude.{slice_get}
 use Rattle.std.proofs.lemmas.Option.{slice_get_read}
 use Rattle.std.proofs.lemmas.Bool.Decides.{nat_tests}
@@ -8,20 +8,24 @@ use Rattle.ll_item.specs.declared.item.Item.{Item}
 use Rattle.ll_directive.specs.Targets.{WantValue}
 use Rattle.ll_page.specs.Page.{Paged}
 use Rattle.ll_rendition.specs.declared.rendition.Rendition.{Rendition}
-use Rattle.ll_page.proofs.RenditionLemmas.{rendition-got}
+use Rattle.ll_page.proofs.RenditionLemmas.{length-renditions, rendition-got}
+use Rattle.ll_directive.specs.Files.{is_playlist}
+use Rattle.ll_store.proofs.StoresStep.{store-got}
+use Rattle.ll_store.specs.Stores.{media_by}
+use Rattle.ll_room.proofs.StoreLemmas.{kept-there}
 use Rattle.ll_window.specs.Compact.{Compact, compact}
 use Rattle.ll_window.specs.Segments.{own, ended}
 use Rattle.std.proofs.lemmas.List.{map-append}
 use Rattle.ll_verdict.specs.Waiting.{AreBelow, ticket_in}
 use Rattle.ll_verdict.specs.Events.{Event, Ask, items, time}
 use Rattle.ll_verdict.specs.State.{State, state_of, settle, stays, slot_by, answer_of, next, waiting_in}
-use Rattle.ll_verdict.specs.Verdict.{at_once, held, is_there, page_of, wanted_of, waiting_limit}
+use Rattle.ll_verdict.specs.Verdict.{at_once, held, is_hinted, is_there, media_of, page_of, piece_of, wanted_of, waiting_limit}
 use Rattle.ll_verdict.specs.Verdict as verdict
 use Rattle.ll_verdict.specs.declared.entry.Slot.{Slot}
 use Rattle.ll_verdict.specs.declared.reply.Reply.{Reply}
 use Rattle.ll_verdict.specs.declared.reply.Reply.TheVariants as now
 use Rattle.ll_verdict.specs.declared.wanted.Wanted.{Wanted}
-use Rattle.ll_room.specs.Decided.{page_now}
+use Rattle.ll_room.specs.Decided.{media_here, page_now, reply_here}
 use Rattle.ll_room.specs.RoomValue.{RoomValue, Stands, room_value, less, tickets}
 use Rattle.ll_room.specs.Kept.{with_answer, with_held}
 use Rattle.ll_room.proofs.IdleLemmas.{idle, same_slots}
@@ -82,19 +86,86 @@ unknown c s w e = ap (verdict.reply_by c (waiting_in s.slots) s.items) e
 abbrev pub by_cases : Bool → Bool → Bool → Paged → Option Reply
 by_cases there far busy page = cond there (Some (now.Text page)) (cond far (Some now.TooFar) (cond busy (Some now.Busy) None))
 
-pub known : (c : Configuration) (s : State) (w : WantValue) (a : Wanted) (there far busy : Bool) → wanted_of c w ≡ Some a → is_there c s.items a ≡ there
-    → verdict.far c (own a.rendition s.items) a.awaited ≡ far → nat_le waiting_limit (waiting_in s.slots) ≡ busy
+-- a request for a playlist
+pub known : (c : Configuration) (s : State) (w : WantValue) (a : Wanted) (there far busy : Bool) → wanted_of c w ≡ Some a → is_playlist a.what ≡ true
+    → is_there c s.items a ≡ there → verdict.far c (own a.rendition s.items) a.awaited ≡ far → nat_le waiting_limit (waiting_in s.slots) ≡ busy
     → answer_of c s w ≡ by_cases there far busy (page_of c s.items a)
-known c s w a there far busy e t f b =
-    ap (verdict.reply_by c (waiting_in s.slots) s.items) e ∙ ap (λ x. by_cases x (verdict.far c (own a.rendition s.items) a.awaited) (nat_le waiting_limit (waiting_in s.slots)) (page_of c s.items a)) t ∙ ap₂ (λ x y. by_cases there x y (page_of c s.items a)) f b
+known c s w a there far busy e p t f b =
+    ap (verdict.reply_by c (waiting_in s.slots) s.items) e
+    ∙ ap (λ x. cond x (verdict.playlist_now c (waiting_in s.slots) s.items a) (verdict.media_now c (waiting_in s.slots) s.items a)) p
+    ∙ ap (λ x. by_cases x (verdict.far c (own a.rendition s.items) a.awaited) (nat_le waiting_limit (waiting_in s.slots)) (page_of c s.items a)) t ∙ ap₂ (λ x y. by_cases there x y (page_of c s.items a)) f b
 
-pub there : (c : Configuration) (s : State) (w : WantValue) (a : Wanted) → wanted_of c w ≡ Some a → is_there c s.items a ≡ true
+pub there : (c : Configuration) (s : State) (w : WantValue) (a : Wanted) → wanted_of c w ≡ Some a → is_playlist a.what ≡ true → is_there c s.items a ≡ true
     → answer_of c s w ≡ Some (now.Text (page_of c s.items a))
-there c s w a e t = known c s w a true (verdict.far c (own a.rendition s.items) a.awaited) (nat_le waiting_limit (waiting_in s.slots)) e t refl refl
+there c s w a e p t = known c s w a true (verdict.far c (own a.rendition s.items) a.awaited) (nat_le waiting_limit (waiting_in s.slots)) e p t refl refl
 
-pub too_far : (c : Configuration) (s : State) (w : WantValue) (a : Wanted) → wanted_of c w ≡ Some a → is_there c s.items a ≡ false
+pub too_far : (c : Configuration) (s : State) (w : WantValue) (a : Wanted) → wanted_of c w ≡ Some a → is_playlist a.what ≡ true → is_there c s.items a ≡ false
     → verdict.far c (own a.rendition s.items) a.awaited ≡ true → answer_of c s w ≡ Some now.TooFar
-too_far c s w a e t f = known c s w a false true (nat_le waiting_limit (waiting_in s.slots)) e t f refl
+too_far c s w a e p t f = known c s w a false true (nat_le waiting_limit (waiting_in s.slots)) e p t f refl
+
+-- a request for media
+abbrev pub without_media : Bool → Bool → Option Reply
+without_media hinted busy = cond (not hinted) (Some now.NotFound) (cond busy (Some now.Busy) None)
+
+media_known : (c : Configuration) (s : State) (w : WantValue) (a : Wanted) (o : Option (List ℕ)) (hinted busy : Bool) → wanted_of c w ≡ Some a
+    → is_playlist a.what ≡ false → media_of c s.items a ≡ o → is_hinted c (own a.rendition s.items) a.awaited ≡ hinted → nat_le waiting_limit (waiting_in s.slots) ≡ busy
+    → answer_of c s w ≡ verdict.media_or (length s.items) a o (without_media hinted busy)
+media_known c s w a o hinted busy e p m f b =
+    ap (verdict.reply_by c (waiting_in s.slots) s.items) e
+    ∙ ap (λ x. cond x (verdict.playlist_now c (waiting_in s.slots) s.items a) (verdict.media_now c (waiting_in s.slots) s.items a)) p
+    ∙ ap (λ x. verdict.media_or (length s.items) a x (without_media (is_hinted c (own a.rendition s.items) a.awaited) (nat_le waiting_limit (waiting_in s.slots)))) m
+    ∙ ap₂ (λ x y. verdict.media_or (length s.items) a o (without_media x y)) f b
+
+or_there : (n : ℕ) (a : Wanted) (o : Option (List ℕ)) (other : Option Reply) → is_some o ≡ true
+    → verdict.media_or n a o other ≡ option_map (λ bytes. now.Media (piece_of n a bytes)) o
+or_there n a None other h = cc
+or_there n a (Some bytes) other h = refl
+
+or_other : (n : ℕ) (a : Wanted) (o : Option (List ℕ)) (other : Option Reply) → is_some o ≡ false → verdict.media_or n a o other ≡ other
+or_other n a None other h = refl
+or_other n a (Some bytes) other h = cc
+
+within_channel : (h : RoomValue) (es : List Event) (r : ℕ) → Stands h es → r < length h.renditions → nat_lt r (length h.settings.renditions) ≡ true
+within_channel h es r stands within =
+    let many : length h.renditions ≡ length h.settings.renditions = ap (λ (x : RoomValue). length x.renditions) stands ∙ length-renditions h.settings (items h.settings es) in
+    grind (arith, nat_tests, within, many)
+
+-- the media is that of the state
+pub media-is : (h : RoomValue) (es : List Event) (a : Wanted) → Stands h es → a.rendition < length h.renditions → media_here h a ≡ media_of h.settings (items h.settings es) a
+media-is h es a stands within =
+    let c = h.settings in
+    let its = items c es in
+    let named = within_channel h es a.rendition stands within in
+    let below : a.rendition < length c.renditions = grind (arith, nat_tests, named) in
+    ap (λ (x : RoomValue). media_here x a) stands
+    ∙ ap₂ (media_by a.what) (kept-there c its a.rendition named) (store-got c its a.rendition below)
+
+pub media-there : (h : RoomValue) (es : List Event) (w : WantValue) (a : Wanted) → Stands h es → wanted_of h.settings w ≡ Some a → is_playlist a.what ≡ false
+    → a.rendition < length h.renditions → is_some (media_here h a) ≡ true → answer_of h.settings (of h es) w ≡ reply_here h a
+media-there h es w a stands e p within found =
+    let c = h.settings in
+    let s = of h es in
+    let is = media-is h es a stands within in
+    media_known c s w a (media_here h a) _ _ e p (sym is) refl refl
+    ∙ or_there (length s.items) a (media_here h a) _ found
+    ∙ ap (λ n. option_map (λ bytes. now.Media (piece_of n a bytes)) (media_here h a)) (sym (ap (λ (x : RoomValue). x.count) stands))
+    ∙ sym (ap (λ x. cond x (Some (now.Text (page_now h a))) (option_map (λ bytes. now.Media (piece_of h.count a bytes)) (media_here h a))) p)
+
+pub here-some : (h : RoomValue) (a : Wanted) → is_playlist a.what ≡ false → is_some (media_here h a) ≡ true → is_some (reply_here h a) ≡ true
+here-some h a p found =
+    ap (λ x. is_some (cond x (Some (now.Text (page_now h a))) (option_map (λ bytes. now.Media (piece_of h.count a bytes)) (media_here h a)))) p ∙ some-mapped (media_here h a) found
+  where
+    some-mapped : (o : Option (List ℕ)) → is_some o ≡ true → is_some (option_map (λ bytes. now.Media (piece_of h.count a bytes)) o) ≡ true
+    some-mapped None e = cc
+    some-mapped (Some bytes) e = refl
+
+pub media-missing : (h : RoomValue) (es : List Event) (w : WantValue) (a : Wanted) (hinted busy : Bool) → Stands h es → wanted_of h.settings w ≡ Some a
+    → is_playlist a.what ≡ false → a.rendition < length h.renditions → is_some (media_here h a) ≡ false
+    → is_hinted h.settings (own a.rendition (items h.settings es)) a.awaited ≡ hinted → nat_le waiting_limit (waiting_in (of h es).slots) ≡ busy
+    → answer_of h.settings (of h es) w ≡ without_media hinted busy
+media-missing h es w a hinted busy stands e p within none f b =
+    media_known h.settings (of h es) w a (media_here h a) hinted busy e p (sym (media-is h es a stands within)) f b
+    ∙ or_other (length (of h es).items) a (media_here h a) (without_media hinted busy) none
 
 -- the page is that of the state
 pub page-is : (h : RoomValue) (es : List Event) (a : Wanted) → Stands h es → page_now h a ≡ page_of h.settings (items h.settings es) a
@@ -126,6 +197,11 @@ pub told-far : (h : RoomValue) (es : List Event) (a : Wanted) (k : Rendition) (b
     → ((its : List Item) → k.window ≡ compact k.window.settings its → b ≡ verdict.far k.window.settings its a.awaited)
     → b ≡ verdict.far h.settings (own a.rendition (items h.settings es)) a.awaited
 told-far h es a k b stands got told = told-at h es a.rendition k b (λ c its. verdict.far c its a.awaited) stands got told
+
+pub told-hinted : (h : RoomValue) (es : List Event) (a : Wanted) (k : Rendition) (b : Bool) → Stands h es → slice_get h.renditions a.rendition ≡ Some k
+    → ((its : List Item) → k.window ≡ compact k.window.settings its → b ≡ is_hinted k.window.settings its a.awaited)
+    → b ≡ is_hinted h.settings (own a.rendition (items h.settings es)) a.awaited
+told-hinted h es a k b stands got told = told-at h es a.rendition k b (λ c its. is_hinted c its a.awaited) stands got told
 
 pub got-at : (h i : RoomValue) (r : ℕ) (k : Rendition) → i ≡ h → r < length h.renditions → k ≡ slice_index_or i.renditions r k → slice_get h.renditions r ≡ Some k
 got-at h i r k e within at =

@@ -1,5 +1,5 @@
 -- A request is decided, and then made.
-use Rattle.std.proofs.Common.{◌≡◌, ◌≤◌, List, [], ◌∷◌, ◌++◌, Some, refl, ◌∙◌, sym}
+use Rattle.std.proofs.Common.{◌≡◌, ◌≤◌, List, [], ◌∷◌, ◌++◌, Option, None, Some, is_some, true, refl, ◌∙◌, sym}
 use Rattle.ll_directive.specs.Targets.{WantValue}
 use Rattle.ll_verdict.proofs.StateLemmas.{at_once-is}
 use Rattle.ll_verdict.specs.Events.{Event, Ask}
@@ -7,7 +7,7 @@ use Rattle.ll_verdict.specs.State.{answer_of, state_of}
 use Rattle.ll_verdict.specs.declared.reply.Reply.{Reply}
 use Rattle.ll_verdict.specs.declared.reply.Reply.TheVariants as now
 use Rattle.ll_verdict.specs.declared.wanted.Wanted.{Wanted}
-use Rattle.ll_room.specs.Decided.{IsDecided, page_now, reply_in}
+use Rattle.ll_room.specs.Decided.{IsDecided, reply_here, reply_in}
 use Rattle.ll_room.specs.RoomValue.{RoomValue, Stands}
 use Rattle.ll_room.specs.Kept.{with_answer, with_held}
 use Rattle.ll_room.specs.declared.decision.Decision.{Decision}
@@ -27,14 +27,18 @@ pub decided-holds : (h new : RoomValue) (w : WantValue) (a : Wanted) → IsDecid
     → (es : List Event) → Stands h es → Stands new (es ++ Ask w ∷ [])
 decided-holds h new w a k low is es stands = held-stands h new es w a stands low k.asks.0 (answer-is h w (Waits a) es k stands) is
 
+some_is : {A : Type 0} (o : Option A) → is_some o ≡ true → (x : A) × (o ≡ Some x)
+some_is None h = cc
+some_is (Some x) h = (x, refl)
+
 -- a request that isn't held has a reply at once
-replied : (h : RoomValue) (d : Decision) → ((a : Wanted) → d ≡ Waits a → ⊥) → (reply : Reply) × (reply_in h d ≡ Some reply)
-replied h NotFound ends = (now.NotFound, refl)
-replied h (There a) ends = (now.Text (page_now h a), refl)
-replied h TooFar ends = (now.TooFar, refl)
-replied h Busy ends = (now.Busy, refl)
-replied h (Waits a) ends = absurd (ends a refl)
+replied : (h : RoomValue) (w : WantValue) (d : Decision) → IsDecided h w d → ((a : Wanted) → d ≡ Waits a → ⊥) → (reply : Reply) × (reply_in h d ≡ Some reply)
+replied h w NotFound k ends = (now.NotFound, refl)
+replied h w (There a) k ends = some_is (reply_here h a) k.asks.2
+replied h w TooFar k ends = (now.TooFar, refl)
+replied h w Busy k ends = (now.Busy, refl)
+replied h w (Waits a) k ends = absurd (ends a refl)
 
 pub decided-counts : (h new : RoomValue) (w : WantValue) (d : Decision) → ((a : Wanted) → d ≡ Waits a → ⊥) → IsDecided h w d → 1 ≤ h.settings.target → new ≡ with_answer h
     → (es : List Event) → Stands h es → Stands new (es ++ Ask w ∷ [])
-decided-counts h new w d ends k low is = let r = replied h d ends in decided-stands h new w d r.0 k r.1 low is
+decided-counts h new w d ends k low is = let r = replied h w d k ends in decided-stands h new w d r.0 k r.1 low is

@@ -8,7 +8,6 @@ use Rattle.ll_item.specs.declared.item.Item.{Item}
 use Rattle.ll_item.specs.declared.item.Item.TheVariants as item
 use Rattle.ll_directive.specs.declared.want.Awaited.{Awaited}
 use Rattle.ll_directive.specs.declared.want.Awaited.TheVariants.{Nothing, Segment, Part}
-use Rattle.ll_page.specs.Page.{Paged}
 use Rattle.ll_page.proofs.RenditionLemmas.{own-same, own-other}
 use Rattle.ll_item.specs.declared.part.Part as part
 use Rattle.ll_window.specs.Compact.{Compact, compact}
@@ -17,15 +16,14 @@ use Rattle.ll_window.specs.Step.{ended_by, with_item}
 use Rattle.ll_window.proofs.StepLemmas.{compact-snoc}
 use Rattle.ll_window.proofs.WantLemmas.{held_by, part_told, segment_told}
 use Rattle.ll_verdict.specs.State.{settle}
-use Rattle.ll_verdict.specs.Verdict.{holds, is_there, page_of, reply_with}
+use Rattle.ll_verdict.specs.Verdict.{given, holds, is_there, media_of, page_of, reply_with}
 use Rattle.ll_verdict.specs.declared.entry.Entry.{Entry}
 use Rattle.ll_verdict.specs.declared.entry.Slot.{Slot}
 use Rattle.ll_verdict.specs.declared.reply.Settled.{Settled}
-use Rattle.ll_verdict.specs.declared.reply.Settled.TheVariants.{Text, Timeout}
+use Rattle.ll_verdict.specs.declared.reply.Settled.TheVariants.{Timeout}
 use Rattle.ll_verdict.specs.declared.wanted.Wanted.{Wanted}
 use Rattle.ll_verdict.proofs.ListLemmas.{Each}
-use Rattle.ll_book.specs.Pages.{PagesOf, page_in}
-use Rattle.ll_book.specs.Release.{frees, given_if, part_comes, segment_comes}
+use Rattle.ll_book.specs.Release.{Supply, frees, given_if, given_in, part_comes, segment_comes}
 use Rattle.ll_book.specs.declared.release.Release.{Release}
 use Rattle.ll_book.specs.Releases.{first_release, second_release}
 use Rattle.ll_room.specs.Freed.{freed}
@@ -110,7 +108,7 @@ not_first : (a b : Bool) → (a || b) ≡ false → a ≡ false
 not_first true b h = h
 not_first false b h = refl
 
-there_by : (c : Configuration) (items : List Item) (i : Item) (w : Wanted) (same : Bool) → (w.rendition == rendition_of i) ≡ same
+pub there_by : (c : Configuration) (items : List Item) (i : Item) (w : Wanted) (same : Bool) → (w.rendition == rendition_of i) ≡ same
     → ended (own (rendition_of i) items) ≡ false → is_there c items w ≡ false
     → is_there c (items ++ i ∷ []) w ≡ (same && brings (compact c (own (rendition_of i) items)) i w.awaited)
 unfolding is_there
@@ -163,28 +161,28 @@ both k (item.Unrange r id) w = sym (and_false (w.rendition == r))
 abbrev slot : Entry → Option Settled → Slot
 slot e o = record { entry = e; settled = o }
 
-freed-waiting : (pages : PagesOf) (which : Option Release) (e : Entry) (f : Bool) → frees_opt which e.wanted ≡ f
-    → freed pages which (slot e None) ≡ given_if pages f (slot e None)
-freed-waiting pages None e f h = ap (λ b. given_if pages b (slot e None)) h
-freed-waiting pages (Some which) e f h = ap (λ b. given_if pages b (slot e None)) h
+freed-waiting : (supply : Supply) (which : Option Release) (e : Entry) (f : Bool) → frees_opt which e.wanted ≡ f
+    → freed supply which (slot e None) ≡ given_if supply f (slot e None)
+freed-waiting supply None e f h = ap (λ b. given_if supply b (slot e None)) h
+freed-waiting supply (Some which) e f h = ap (λ b. given_if supply b (slot e None)) h
 
-freed-ready : (pages : PagesOf) (which : Option Release) (e : Entry) (v : Settled) → freed pages which (slot e (Some v)) ≡ slot e (Some v)
-freed-ready pages None e v = refl
-freed-ready pages (Some which) e v = refl
+freed-ready : (supply : Supply) (which : Option Release) (e : Entry) (v : Settled) → freed supply which (slot e (Some v)) ≡ slot e (Some v)
+freed-ready supply None e v = refl
+freed-ready supply (Some which) e v = refl
 
-waiting-freed : (pages : PagesOf) (first second : Option Release) (e : Entry) (there late f g : Bool) (page : Paged)
+waiting-freed : (supply : Supply) (first second : Option Release) (e : Entry) (there late f g : Bool) (v : Settled)
     → frees_opt first e.wanted ≡ f → frees_opt second e.wanted ≡ g → there ≡ (f || g) → late ≡ false
-    → (there ≡ true → page ≡ page_in pages e.wanted.form)
-    → slot e (cond (there || late) (Some (cond there (Text page) Timeout)) None) ≡ freed pages second (freed pages first (slot e None))
-waiting-freed pages first second e there late true g page d h is early p =
-    ap₂ (λ t q. slot e (cond (t || late) (Some (cond t (Text q) Timeout)) None)) is (p is)
-    ∙ sym (ap (freed pages second) (freed-waiting pages first e true d) ∙ freed-ready pages second e (Text (page_in pages e.wanted.form)))
-waiting-freed pages first second e there late false true page d h is early p =
-    ap₂ (λ t q. slot e (cond (t || late) (Some (cond t (Text q) Timeout)) None)) is (p is)
-    ∙ sym (ap (freed pages second) (freed-waiting pages first e false d) ∙ freed-waiting pages second e true h)
-waiting-freed pages first second e there late false false page d h is early p =
-    ap₂ (λ t l. slot e (cond (t || l) (Some (cond t (Text page) Timeout)) None)) is early
-    ∙ sym (ap (freed pages second) (freed-waiting pages first e false d) ∙ freed-waiting pages second e false h)
+    → (there ≡ true → v ≡ given_in supply e.wanted)
+    → slot e (cond (there || late) (Some (cond there v Timeout)) None) ≡ freed supply second (freed supply first (slot e None))
+waiting-freed supply first second e there late true g v d h is early p =
+    ap₂ (λ t q. slot e (cond (t || late) (Some (cond t q Timeout)) None)) is (p is)
+    ∙ sym (ap (freed supply second) (freed-waiting supply first e true d) ∙ freed-ready supply second e (given_in supply e.wanted))
+waiting-freed supply first second e there late false true v d h is early p =
+    ap₂ (λ t q. slot e (cond (t || late) (Some (cond t q Timeout)) None)) is (p is)
+    ∙ sym (ap (freed supply second) (freed-waiting supply first e false d) ∙ freed-waiting supply second e true h)
+waiting-freed supply first second e there late false false v d h is early p =
+    ap₂ (λ t l. slot e (cond (t || l) (Some (cond t v Timeout)) None)) is early
+    ∙ sym (ap (freed supply second) (freed-waiting supply first e false d) ∙ freed-waiting supply second e false h)
 
 -- a request that waits and is not due
 undue : (a b : Bool) (v : Settled) → cond (a || b) (Some v) None ≡ None → (a ≡ false) × (b ≡ false)
@@ -192,37 +190,47 @@ undue true b v h = absurd (true≢false (sym (ap is_none h)))
 undue false true v h = absurd (true≢false (sym (ap is_none h)))
 undue false false v h = (refl, refl)
 
-freed_by : (c : Configuration) (items : List Item) (now : ℕ) (i : Item) (pages : PagesOf) (e : Entry) (o : Option Settled)
+-- what an item brings to a request of its rendition is what it is given
+abbrev pub Gives : Configuration → List Item → Item → Supply → Wanted → Type 0
+Gives c items i supply w = w.rendition ≡ rendition_of i → brings (compact c (own (rendition_of i) items)) i w.awaited ≡ true
+    → given (length (items ++ i ∷ [])) w (page_of c (items ++ i ∷ []) w) (media_of c (items ++ i ∷ []) w) ≡ given_in supply w
+
+freed_by : (c : Configuration) (items : List Item) (now : ℕ) (i : Item) (supply : Supply) (e : Entry) (o : Option Settled)
     → ended (own (rendition_of i) items) ≡ false
-    → ((w : Wanted) → w.rendition ≡ rendition_of i → page_of c (items ++ i ∷ []) w ≡ page_in pages w.form)
+    → (o ≡ None → Gives c items i supply e.wanted)
     → Idle c items now (slot e o)
     → settle c (items ++ i ∷ []) now (slot e o)
-    ≡ freed pages (second_release (compact c (own (rendition_of i) items)) i) (freed pages (first_release (compact c (own (rendition_of i) items)) i) (slot e o))
-freed_by c items now i pages e (Some v) going p h =
+    ≡ freed supply (second_release (compact c (own (rendition_of i) items)) i) (freed supply (first_release (compact c (own (rendition_of i) items)) i) (slot e o))
+freed_by c items now i supply e (Some v) going p h =
     let k = compact c (own (rendition_of i) items) in
-    sym (ap (freed pages (second_release k i)) (freed-ready pages (first_release k i) e v) ∙ freed-ready pages (second_release k i) e v)
-freed_by c items now i pages e None going p h =
+    sym (ap (freed supply (second_release k i)) (freed-ready supply (first_release k i) e v) ∙ freed-ready supply (second_release k i) e v)
+freed_by c items now i supply e None going p h =
     let k = compact c (own (rendition_of i) items) in
     let w = e.wanted in
     let not_due = undue (is_there c items w) (nat_le e.deadline now) (reply_with c items w) (ap (λ (s : Slot). s.settled) h) in
     let brought = there_by c items i w (w.rendition == rendition_of i) refl going not_due.0 in
-    waiting-freed pages (first_release k i) (second_release k i) e (is_there c (items ++ i ∷ []) w) (nat_le e.deadline now)
-    (frees_opt (first_release k i) w) (frees_opt (second_release k i) w) (page_of c (items ++ i ∷ []) w) refl refl (brought ∙ sym (both k i w)) not_due.1
-    (λ t. p w (its_rendition (w.rendition) (rendition_of i) (brings k i w.awaited) (sym brought ∙ t)))
+    waiting-freed supply (first_release k i) (second_release k i) e (is_there c (items ++ i ∷ []) w) (nat_le e.deadline now)
+    (frees_opt (first_release k i) w) (frees_opt (second_release k i) w) (given (length (items ++ i ∷ [])) w (page_of c (items ++ i ∷ []) w) (media_of c (items ++ i ∷ []) w))
+    refl refl (brought ∙ sym (both k i w)) not_due.1
+    (λ t. let parts = its_rendition (w.rendition) (rendition_of i) (brings k i w.awaited) (sym brought ∙ t) in p refl parts.0 parts.1)
   where
-    its_rendition : (r q : ℕ) (b : Bool) → ((r == q) && b) ≡ true → r ≡ q
+    its_rendition : (r q : ℕ) (b : Bool) → ((r == q) && b) ≡ true → (r ≡ q) × (b ≡ true)
     its_rendition r q b h = by_test (r == q) b refl h
       where
-        by_test : (x b : Bool) → (r == q) ≡ x → (x && b) ≡ true → r ≡ q
-        by_test true b e h = grind (arith, nat_tests, e)
+        by_test : (x b : Bool) → (r == q) ≡ x → (x && b) ≡ true → (r ≡ q) × (b ≡ true)
+        by_test true b e h = (grind (arith, nat_tests, e), h)
         by_test false b e h = absurd (true≢false (sym h))
 
-pub each_freed : (c : Configuration) (items : List Item) (now : ℕ) (i : Item) (pages : PagesOf) (ss : List Slot)
+-- an open request that waits is given what the item brings it
+abbrev pub Given : Configuration → List Item → Item → Supply → Slot → Type 0
+Given c items i supply s = s.settled ≡ None → Gives c items i supply s.entry.wanted
+
+pub each_freed : (c : Configuration) (items : List Item) (now : ℕ) (i : Item) (supply : Supply) (ss : List Slot)
     → ended (own (rendition_of i) items) ≡ false
-    → ((w : Wanted) → w.rendition ≡ rendition_of i → page_of c (items ++ i ∷ []) w ≡ page_in pages w.form)
+    → Each (Given c items i supply) ss
     → Each (Idle c items now) ss
     → map (settle c (items ++ i ∷ []) now) ss
-    ≡ map (freed pages (second_release (compact c (own (rendition_of i) items)) i)) (map (freed pages (first_release (compact c (own (rendition_of i) items)) i)) ss)
-each_freed c items now i pages [] going p h = refl
-each_freed c items now i pages (s ∷ ss) going p h =
-    ap₂ (λ x xs. x ∷ xs) (freed_by c items now i pages s.entry s.settled going p h.0) (each_freed c items now i pages ss going p h.1)
+    ≡ map (freed supply (second_release (compact c (own (rendition_of i) items)) i)) (map (freed supply (first_release (compact c (own (rendition_of i) items)) i)) ss)
+each_freed c items now i supply [] going p h = refl
+each_freed c items now i supply (s ∷ ss) going p h =
+    ap₂ (λ x xs. x ∷ xs) (freed_by c items now i supply s.entry s.settled going p.0 h.0) (each_freed c items now i supply ss going p.1 h.1)

@@ -10,6 +10,7 @@ use Rattle.ll_verdict.specs.declared.entry.Slot.{Slot}
 use Rattle.ll_verdict.specs.declared.reply.Reply.{Reply}
 use Rattle.ll_verdict.specs.declared.reply.Settled.{Settled}
 use Rattle.ll_verdict.specs.declared.wanted.Wanted.{Wanted}
+use Rattle.ll_verdict.proofs.HintLemmas.{awaited-missing}
 use Rattle.ll_verdict.proofs.ListLemmas.{Each, each-append}
 use Rattle.ll_verdict.proofs.StepLemmas.{along}
 use Rattle.ll_verdict.proofs.StateLemmas.{state-snoc}
@@ -33,11 +34,6 @@ each_settled : (c : Configuration) (items : List Item) (time : ℕ) (ss : List S
 each_settled c items time [] = tt
 each_settled c items time (s ∷ ss) = (settled_idle c items time s, each_settled c items time ss)
 
--- what had to wait was not there
-unanswered : (b : Bool) (x : Reply) (rest : Option Reply) → cond b (Some x) rest ≡ None → b ≡ false
-unanswered true x rest h = absurd (true≢false (sym (ap is_none h)))
-unanswered false x rest h = refl
-
 not_due : (t n : ℕ) → 1 ≤ n → nat_le (t + 3000 * n) t ≡ false
 not_due t n h = grind (arith, nat_tests)
 
@@ -47,7 +43,7 @@ born_idle c st n (Some reply) a low h = tt
 born_idle c st n None None low h = tt
 born_idle c st n None (Some a) low h = (
   ap₂ (λ there due. record { entry = record { ticket = st.asks + 1; wanted = a; seen = length st.items; deadline = st.time + 3000 * c.target }; settled = cond (there || due) (Some (reply_with c st.items a)) None })
-      (unanswered (is_there c st.items a) _ _ h) (not_due st.time c.target low),
+      (awaited-missing c n st.items a h) (not_due st.time c.target low),
   tt,
 )
 

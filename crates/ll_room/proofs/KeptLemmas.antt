@@ -11,7 +11,8 @@ use Rattle.ll_room.specs.Stored.{AreFew}
 use Rattle.ll_room.specs.Written.{WrittenOf}
 use Rattle.ll_room.proofs.WrittenLemmas.{none-written}
 use Rattle.std.proofs.lemmas.Bool.Decides.{nat_tests}
-use Rattle.ll_item.specs.Settings.{Configuration}
+use Rattle.ll_item.proofs.WithinLimits.{within}
+use Rattle.ll_item.specs.Settings.{Configuration, limit_broken}
 use Rattle.ll_page.specs.View.{renditions}
 use Rattle.ll_page.proofs.RenditionLemmas.{length-renditions}
 use Rattle.ll_rendition.specs.declared.rendition.Rendition.{Rendition}
@@ -35,6 +36,7 @@ kept-answer h w few k = record {
   current = k.current;
   stored = k.stored;
   target = k.target;
+  window = k.window;
   each = k.each;
   accepted = omega (arith, k.accepted);
   asked = omega (arith, k.asked);
@@ -53,6 +55,7 @@ kept-held h w e ss few t is k =
       current = k.current;
       stored = k.stored;
       target = k.target;
+      window = k.window;
       each = k.each;
       accepted = omega (arith, k.accepted);
       asked = omega (arith, k.asked);
@@ -64,12 +67,13 @@ kept-held h w e ss few t is k =
       counted = omega (arith, few, k.few, k.asked, many);
     }
 
-new_kept : (channel : ℕ) (c : Configuration) (kept : List Rendition) (stored : List StoreValue) (w : WrittenOf) (ss : List Slot) → 1 ≤ c.target → kept ≡ renditions c [] → w.pages ≡ [] → AreFew w.pieces kept → ss ≡ []
+new_kept : (channel : ℕ) (c : Configuration) (kept : List Rendition) (stored : List StoreValue) (w : WrittenOf) (ss : List Slot) → 1 ≤ c.target → 1 ≤ c.window → kept ≡ renditions c [] → w.pages ≡ [] → AreFew w.pieces kept → ss ≡ []
     → IsKept (record { channel = channel; settings = c; renditions = kept; stores = stored; count = 0; time = 0; asks = 0; slots = ss; events = 0 }) w
-new_kept channel c kept stored w ss low is unwritten few none = record {
+new_kept channel c kept stored w ss low some is unwritten few none = record {
   current = none-written _ w.pages unwritten;
   stored = few;
   target = low;
+  window = some;
   each = ap length is ∙ length-renditions c [];
   accepted = omega arith;
   asked = omega arith;
@@ -79,14 +83,17 @@ new_kept channel c kept stored w ss low is unwritten few none = record {
   counted = omega (arith, ap length none);
 }
 
+some_window : (c : Configuration) → limit_broken c ≡ None → 1 ≤ c.window
+some_window c h = let limits = within c h in omega (arith, limits.target_low, limits.window_low)
+
 -- nothing has happened
 pub kept-new : (channel : ℕ) (c : Configuration) (m : Moment) (kept : List Rendition) (stored : List StoreValue) (w : WrittenOf) (ss : List Slot)
-    → m ≡ record { settings = c; renditions = kept; count = 0 } → 1 ≤ c.target → kept ≡ renditions c [] → w.pages ≡ [] → AreFew w.pieces kept → ss ≡ []
+    → m ≡ record { settings = c; renditions = kept; count = 0 } → 1 ≤ c.target → limit_broken c ≡ None → kept ≡ renditions c [] → w.pages ≡ [] → AreFew w.pieces kept → ss ≡ []
     → IsKept (record { channel = channel; settings = m.settings; renditions = m.renditions; stores = stored; count = m.count; time = 0; asks = 0; slots = ss; events = 0 }) w
-kept-new channel c m kept stored w ss made low is unwritten few none =
+kept-new channel c m kept stored w ss made low within_limits is unwritten few none =
     subst
     (λ (n : Moment). IsKept (record { channel = channel; settings = n.settings; renditions = n.renditions; stores = stored; count = n.count; time = 0; asks = 0; slots = ss; events = 0 }) w)
-    (sym made) (new_kept channel c kept stored w ss low is unwritten few none)
+    (sym made) (new_kept channel c kept stored w ss low (some_window c within_limits) is unwritten few none)
 
 -- the newest ticket is above all others
 left_by : (t : ℕ) (s : Slot) (ss : List Slot) → s.entry.ticket < t → filter (λ n. not (n == t)) (map ticket_in ss ++ t ∷ []) ≡ map ticket_in ss
@@ -147,6 +154,7 @@ clock-kept h w time slots k room early e =
       current = k.current;
       stored = k.stored;
       target = k.target;
+      window = k.window;
       each = k.each;
       accepted = omega (arith, k.accepted);
       asked = omega (arith, k.asked);
@@ -178,6 +186,7 @@ leave-kept h w t slots k e there =
       current = k.current;
       stored = k.stored;
       target = k.target;
+      window = k.window;
       each = k.each;
       accepted = omega (arith, k.accepted);
       asked = omega (arith, k.asked);

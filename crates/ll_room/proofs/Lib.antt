@@ -2,6 +2,7 @@ pub mod AcceptLemmas
 pub mod AskLemmas
 pub mod DecideLemmas
 pub mod FreedLemmas
+pub mod HintedLemmas
 pub mod IdleLemmas
 pub mod KeptLemmas
 pub mod PublishLemmas

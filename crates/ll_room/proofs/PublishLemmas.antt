@@ -12,15 +12,14 @@ use Rattle.ll_rendition.specs.declared.rendition.Rendition.{Rendition}
 use Rattle.ll_window.specs.Compact.{Compact}
 use Rattle.ll_verdict.specs.State.{is_waiting}
 use Rattle.ll_verdict.specs.declared.entry.Slot.{Slot}
-use Rattle.ll_book.specs.Pages.{PagesOf}
-use Rattle.ll_book.specs.Release.{AreThose, HoldersValue, given_if, holder, holders_of, part_comes, released, segment_comes, takes}
+use Rattle.ll_book.specs.Release.{AreThose, HoldersValue, Supply, given_if, holder, holders_of, part_comes, released, segment_comes, takes}
 use Rattle.ll_verdict.specs.Waiting.{AreBelow, ticket_in}
 use Rattle.ll_book.specs.declared.release.Release.{Release}
 use Rattle.ll_book.specs.declared.release.Release.TheVariants as release
 use Rattle.ll_book.proofs.Holding.{release-law}
-use Rattle.ll_book.specs.Releases.{HasHolders, HasThose, released_with, takes_any}
-use Rattle.ll_room.specs.Coming.{IsComing, changed, pages_in}
-use Rattle.ll_room.specs.Freed.{AreApart, freed, freed_slots, new_pages, releases, releases_at, with_item}
+use Rattle.ll_book.specs.Releases.{HasHolders, HasThose, part_of, released_with, takes_any}
+use Rattle.ll_room.specs.Coming.{IsComing, changed, pages_in, supply_in}
+use Rattle.ll_room.specs.Freed.{AreApart, freed, freed_slots, new_pages, new_supply, releases, releases_at, with_item}
 use Rattle.ll_verdict.specs.Full.{event_end}
 use Rattle.ll_room.specs.RoomValue.{RoomValue}
 use Rattle.ll_room.specs.Kept.{IsKept}
@@ -31,27 +30,27 @@ use Rattle.ll_room.specs.declared.publish.Coming.{Coming}
 
 -- the releases take none of these
 
-none_by : (pages : PagesOf) (which : Release) (s : Slot) (ss : List Slot) (b : Bool) → (b || list_any (takes which) ss) ≡ false
-    → (list_any (takes which) ss ≡ false → map (λ s. given_if pages (takes which s) s) ss ≡ ss)
-    → given_if pages b s ∷ map (λ s. given_if pages (takes which s) s) ss ≡ s ∷ ss
-none_by pages which s ss true h ih = absurd (true≢false h)
-none_by pages which s ss false h ih = ap (λ xs. s ∷ xs) (ih h)
+none_by : (supply : Supply) (which : Release) (s : Slot) (ss : List Slot) (b : Bool) → (b || list_any (takes which) ss) ≡ false
+    → (list_any (takes which) ss ≡ false → map (λ s. given_if supply (takes which s) s) ss ≡ ss)
+    → given_if supply b s ∷ map (λ s. given_if supply (takes which s) s) ss ≡ s ∷ ss
+none_by supply which s ss true h ih = absurd (true≢false h)
+none_by supply which s ss false h ih = ap (λ xs. s ∷ xs) (ih h)
 
-none_given : (pages : PagesOf) (which : Release) (ss : List Slot) → list_any (takes which) ss ≡ false → map (λ s. given_if pages (takes which s) s) ss ≡ ss
-none_given pages which [] h = refl
-none_given pages which (s ∷ ss) h = none_by pages which s ss (takes which s) h (none_given pages which ss)
+none_given : (supply : Supply) (which : Release) (ss : List Slot) → list_any (takes which) ss ≡ false → map (λ s. given_if supply (takes which s) s) ss ≡ ss
+none_given supply which [] h = refl
+none_given supply which (s ∷ ss) h = none_by supply which s ss (takes which s) h (none_given supply which ss)
 
 map_same : (ss : List Slot) → map (λ s. s) ss ≡ ss
 map_same [] = refl
 map_same (s ∷ ss) = ap (λ xs. s ∷ xs) (map_same ss)
 
-none_freed : (pages : PagesOf) (which : Option Release) (ss : List Slot) → takes_any which ss ≡ false → map (freed pages which) ss ≡ ss
-none_freed pages None ss h = map_same ss
-none_freed pages (Some which) ss h = none_given pages which ss h
+none_freed : (supply : Supply) (which : Option Release) (ss : List Slot) → takes_any which ss ≡ false → map (freed supply which) ss ≡ ss
+none_freed supply None ss h = map_same ss
+none_freed supply (Some which) ss h = none_given supply which ss h
 
-pub silent-slots : (pages : PagesOf) (both : Option Release × Option Release) (ss : List Slot) → takes_any both.0 ss ≡ false → takes_any both.1 ss ≡ false
-    → freed_slots pages both ss ≡ ss
-silent-slots pages both ss h k = ap (map (freed pages both.1)) (none_freed pages both.0 ss h) ∙ none_freed pages both.1 ss k
+pub silent-slots : (supply : Supply) (both : Option Release × Option Release) (ss : List Slot) → takes_any both.0 ss ≡ false → takes_any both.1 ss ≡ false
+    → freed_slots supply both ss ≡ ss
+silent-slots supply both ss h k = ap (map (freed supply both.1)) (none_freed supply both.0 ss h) ∙ none_freed supply both.1 ss k
 
 -- the releases, with holders that were made for them
 
@@ -93,79 +92,79 @@ apart_at (Some k) (item.End r) first second s e f h = absurd (none_some second f
 apart_at (Some k) (item.Range r id attributes) first second s e f h = absurd (none_some first e)
 apart_at (Some k) (item.Unrange r id) first second s e f h = absurd (none_some first e)
 
-second_kept : (pages : PagesOf) (first second : Release) (s : Slot) (b : Bool) → Apart first second → takes first s ≡ b
-    → takes second (given_if pages b s) ≡ takes second s
-second_kept pages first second s true h e = sym (h s e)
-second_kept pages first second s false h e = refl
+second_kept : (supply : Supply) (first second : Release) (s : Slot) (b : Bool) → Apart first second → takes first s ≡ b
+    → takes second (given_if supply b s) ≡ takes second s
+second_kept supply first second s true h e = sym (h s e)
+second_kept supply first second s false h e = refl
 
-same_holder : (pages : PagesOf) (b : Bool) (s : Slot) → holder pages (given_if pages b s) ≡ holder pages s
-same_holder pages true s = refl
-same_holder pages false s = refl
+same_holder : (supply : Supply) (b : Bool) (s : Slot) → holder supply (given_if supply b s) ≡ holder supply s
+same_holder supply true s = refl
+same_holder supply false s = refl
 
-pushed : (pages : PagesOf) (x y : Slot) (xs ys : List Slot) (b c : Bool) → b ≡ c → holder pages x ≡ holder pages y
-    → map (holder pages) xs ≡ map (holder pages) ys → map (holder pages) (cond b (x ∷ xs) xs) ≡ map (holder pages) (cond c (y ∷ ys) ys)
-pushed pages x y xs ys b true e h k = ap (λ t. map (holder pages) (cond t (x ∷ xs) xs)) e ∙ ap₂ (λ z zs. z ∷ zs) h k
-pushed pages x y xs ys b false e h k = ap (λ t. map (holder pages) (cond t (x ∷ xs) xs)) e ∙ k
+pushed : (supply : Supply) (x y : Slot) (xs ys : List Slot) (b c : Bool) → b ≡ c → holder supply x ≡ holder supply y
+    → map (holder supply) xs ≡ map (holder supply) ys → map (holder supply) (cond b (x ∷ xs) xs) ≡ map (holder supply) (cond c (y ∷ ys) ys)
+pushed supply x y xs ys b true e h k = ap (λ t. map (holder supply) (cond t (x ∷ xs) xs)) e ∙ ap₂ (λ z zs. z ∷ zs) h k
+pushed supply x y xs ys b false e h k = ap (λ t. map (holder supply) (cond t (x ∷ xs) xs)) e ∙ k
 
-same_holders : (pages : PagesOf) (first second : Release) (ss : List Slot) → Apart first second
-    → holders_of pages second (map (λ s. given_if pages (takes first s) s) ss) ≡ holders_of pages second ss
-same_holders pages first second [] h = refl
-same_holders pages first second (s ∷ ss) h =
-    pushed pages (given_if pages (takes first s) s) s (filter (takes second) (map (λ s. given_if pages (takes first s) s) ss)) (filter (takes second) ss)
-    (takes second (given_if pages (takes first s) s)) (takes second s) (second_kept pages first second s (takes first s) h refl)
-    (same_holder pages (takes first s) s) (same_holders pages first second ss h)
+same_holders : (supply : Supply) (first second : Release) (ss : List Slot) → Apart first second
+    → holders_of supply second (map (λ s. given_if supply (takes first s) s) ss) ≡ holders_of supply second ss
+same_holders supply first second [] h = refl
+same_holders supply first second (s ∷ ss) h =
+    pushed supply (given_if supply (takes first s) s) s (filter (takes second) (map (λ s. given_if supply (takes first s) s) ss)) (filter (takes second) ss)
+    (takes second (given_if supply (takes first s) s)) (takes second s) (second_kept supply first second s (takes first s) h refl)
+    (same_holder supply (takes first s) s) (same_holders supply first second ss h)
 
-pub has-those : (pages : PagesOf) (which : Option Release) (ss : List Slot) (found : Option HoldersValue) → HasHolders pages which ss found → HasThose which found ss
-has-those pages None ss found h = tt
-has-those pages (Some which) ss None h = h
-has-those pages (Some which) ss (Some held) h = subst (λ hs. AreThose which hs ss) (sym h) (release-law.those pages which ss)
+pub has-those : (supply : Supply) (which : Option Release) (ss : List Slot) (found : Option HoldersValue) → HasHolders supply which ss found → HasThose which found ss
+has-those supply None ss found h = tt
+has-those supply (Some which) ss None h = h
+has-those supply (Some which) ss (Some held) h = subst (λ hs. AreThose which hs ss) (sym h) (release-law.those supply which ss)
 
-released-is : (pages : PagesOf) (which : Option Release) (ss : List Slot) (found : Option HoldersValue) → HasHolders pages which ss found
-    → released_with which found ss ≡ map (freed pages which) ss
-released-is pages None ss found h = sym (map_same ss)
-released-is pages (Some which) ss None h = absurd h
-released-is pages (Some which) ss (Some held) h = ap (λ hs. released which hs ss) h ∙ release-law.given pages which ss
+released-is : (supply : Supply) (which : Option Release) (ss : List Slot) (found : Option HoldersValue) → HasHolders supply which ss found
+    → released_with which found ss ≡ map (freed supply which) ss
+released-is supply None ss found h = sym (map_same ss)
+released-is supply (Some which) ss None h = absurd h
+released-is supply (Some which) ss (Some held) h = ap (λ hs. released which hs ss) h ∙ release-law.given supply which ss
 
-has_after : (pages : PagesOf) (first second : Option Release) (ss : List Slot) (found : Option HoldersValue) → AreApart (first, second)
-    → HasHolders pages second ss found → HasHolders pages second (map (freed pages first) ss) found
-has_after pages None second ss found apart h = subst (λ xs. HasHolders pages second xs found) (sym (map_same ss)) h
-has_after pages (Some first) None ss found apart h = h
-has_after pages (Some first) (Some second) ss None apart h = h
-has_after pages (Some first) (Some second) ss (Some held) apart h = h ∙ sym (same_holders pages first second ss (λ s. apart first second s refl refl))
+has_after : (supply : Supply) (first second : Option Release) (ss : List Slot) (found : Option HoldersValue) → AreApart (first, second)
+    → HasHolders supply second ss found → HasHolders supply second (map (freed supply first) ss) found
+has_after supply None second ss found apart h = subst (λ xs. HasHolders supply second xs found) (sym (map_same ss)) h
+has_after supply (Some first) None ss found apart h = h
+has_after supply (Some first) (Some second) ss None apart h = h
+has_after supply (Some first) (Some second) ss (Some held) apart h = h ∙ sym (same_holders supply first second ss (λ s. apart first second s refl refl))
 
 -- the second release, after the first
-pub has-those-after : (pages : PagesOf) (both : Option Release × Option Release) (ss new : List Slot) (found more : Option HoldersValue) → AreApart both
-    → HasHolders pages both.0 ss found → HasHolders pages both.1 ss more → new ≡ released_with both.0 found ss → HasThose both.1 more new
-has-those-after pages both ss new found more apart h k e =
-    subst (HasThose both.1 more) (sym (e ∙ released-is pages both.0 ss found h))
-    (has-those pages both.1 (map (freed pages both.0) ss) more (has_after pages both.0 both.1 ss more apart k))
+pub has-those-after : (supply : Supply) (both : Option Release × Option Release) (ss new : List Slot) (found more : Option HoldersValue) → AreApart both
+    → HasHolders supply both.0 ss found → HasHolders supply both.1 ss more → new ≡ released_with both.0 found ss → HasThose both.1 more new
+has-those-after supply both ss new found more apart h k e =
+    subst (HasThose both.1 more) (sym (e ∙ released-is supply both.0 ss found h))
+    (has-those supply both.1 (map (freed supply both.0) ss) more (has_after supply both.0 both.1 ss more apart k))
 
-pub both-released : (pages : PagesOf) (both : Option Release × Option Release) (ss new : List Slot) (found more : Option HoldersValue) → AreApart both
-    → HasHolders pages both.0 ss found → HasHolders pages both.1 ss more → new ≡ released_with both.0 found ss
-    → released_with both.1 more new ≡ freed_slots pages both ss
-both-released pages both ss new found more apart h k e =
-    ap (released_with both.1 more) (e ∙ released-is pages both.0 ss found h)
-    ∙ released-is pages both.1 (map (freed pages both.0) ss) more (has_after pages both.0 both.1 ss more apart k)
+pub both-released : (supply : Supply) (both : Option Release × Option Release) (ss new : List Slot) (found more : Option HoldersValue) → AreApart both
+    → HasHolders supply both.0 ss found → HasHolders supply both.1 ss more → new ≡ released_with both.0 found ss
+    → released_with both.1 more new ≡ freed_slots supply both ss
+both-released supply both ss new found more apart h k e =
+    ap (released_with both.1 more) (e ∙ released-is supply both.0 ss found h)
+    ∙ released-is supply both.1 (map (freed supply both.0) ss) more (has_after supply both.0 both.1 ss more apart k)
 
 pub apart : (h : RoomValue) (i : Item) → AreApart (releases h i)
 apart h i = apart_at (slice_get h.renditions (rendition_of i)) i
 
 -- what a room keeps true of itself after one more item
 
-given_ticket : (pages : PagesOf) (b : Bool) (s : Slot) → (given_if pages b s).entry.ticket ≡ s.entry.ticket
-given_ticket pages true s = refl
-given_ticket pages false s = refl
+given_ticket : (supply : Supply) (b : Bool) (s : Slot) → (given_if supply b s).entry.ticket ≡ s.entry.ticket
+given_ticket supply true s = refl
+given_ticket supply false s = refl
 
-freed_ticket : (pages : PagesOf) (which : Option Release) (s : Slot) → (freed pages which s).entry.ticket ≡ s.entry.ticket
-freed_ticket pages None s = refl
-freed_ticket pages (Some which) s = given_ticket pages (takes which s) s
+freed_ticket : (supply : Supply) (which : Option Release) (s : Slot) → (freed supply which s).entry.ticket ≡ s.entry.ticket
+freed_ticket supply None s = refl
+freed_ticket supply (Some which) s = given_ticket supply (takes which s) s
 
-freed_tickets : (pages : PagesOf) (which : Option Release) (ss : List Slot) → map ticket_in (map (freed pages which) ss) ≡ map ticket_in ss
-freed_tickets pages which [] = refl
-freed_tickets pages which (s ∷ ss) = ap₂ (λ t ts. t ∷ ts) (freed_ticket pages which s) (freed_tickets pages which ss)
+freed_tickets : (supply : Supply) (which : Option Release) (ss : List Slot) → map ticket_in (map (freed supply which) ss) ≡ map ticket_in ss
+freed_tickets supply which [] = refl
+freed_tickets supply which (s ∷ ss) = ap₂ (λ t ts. t ∷ ts) (freed_ticket supply which s) (freed_tickets supply which ss)
 
-pub same-tickets : (pages : PagesOf) (both : Option Release × Option Release) (ss : List Slot) → map ticket_in (freed_slots pages both ss) ≡ map ticket_in ss
-same-tickets pages both ss = freed_tickets pages both.1 (map (freed pages both.0) ss) ∙ freed_tickets pages both.0 ss
+pub same-tickets : (supply : Supply) (both : Option Release × Option Release) (ss : List Slot) → map ticket_in (freed_slots supply both ss) ≡ map ticket_in ss
+same-tickets supply both ss = freed_tickets supply both.1 (map (freed supply both.0) ss) ∙ freed_tickets supply both.0 ss
 
 below_by : (n : ℕ) (xs ys : List Slot) → map ticket_in xs ≡ map ticket_in ys → AreBelow n ys → AreBelow n xs
 below_by n [] ys e h = tt
@@ -188,6 +187,7 @@ kept-item h w now kept ss few k current stored many same =
       current = current;
       stored = stored;
       target = k.target;
+      window = k.window;
       each = many ∙ k.each;
       accepted = omega (arith, k.accepted);
       asked = omega (arith, k.asked);
@@ -213,13 +213,14 @@ pub silent-item : (h now : RoomValue) (kept : List Rendition) (i : Item) → h �
     → takes_any (releases now i).1 now.slots ≡ false → item_on kept h.slots h ≡ with_item now kept i
 silent-item h now kept i e first second =
     ap (λ (x : RoomValue). item_on kept x.slots x) e
-    ∙ ap (λ ss. item_on kept ss now) (sym (silent-slots (new_pages now kept i) (releases now i) now.slots first second))
+    ∙ ap (λ ss. item_on kept ss now) (sym (silent-slots (new_supply now kept i) (releases now i) now.slots first second))
 
 pub released-item : (h : RoomValue) (i : Item) (first second : Option Release) (x : Coming) → (first, second) ≡ releases h i → x.rendition ≡ rendition_of i
-    → IsComing h first second x → changed h first second x ≡ with_item h x.shown.renditions i
-released-item h i first second x both r is =
+    → x.part ≡ part_of i → IsComing h first second x → changed h first second x ≡ with_item h x.shown.renditions i
+released-item h i first second x both r part is =
     let pages_are : pages_in x ≡ new_pages h x.shown.renditions i = ap₂ (λ m q. record { moment = m; rendition = q }) is.shown r in
-    ap₂ (λ p q. item_on x.shown.renditions (freed_slots p q h.slots) h) pages_are both
+    let supply_is : supply_in x ≡ new_supply h x.shown.renditions i = ap₂ (λ p q. record { pages = p; part = q }) pages_are part in
+    ap₂ (λ p q. item_on x.shown.renditions (freed_slots p q h.slots) h) supply_is both
 
 -- the room that takes over what was made is kept true
 pub kept-change : (h : RoomValue) (w now : WrittenOf) (first second : Option Release) (x : Coming) (new final : List Slot) → h.events < event_end → IsKept h w
@@ -227,22 +228,23 @@ pub kept-change : (h : RoomValue) (w now : WrittenOf) (first second : Option Rel
     → AreApart (first, second) → IsComing h first second x → new ≡ released_with first x.first h.slots → final ≡ released_with second x.second new
     → IsKept (item_on x.shown.renditions final h) now
 kept-change h w now first second x new final few k written stored apart is e f =
-    let slots : final ≡ freed_slots (pages_in x) (first, second) h.slots =
-    f ∙ both-released (pages_in x) (first, second) h.slots new x.first x.second apart is.has_first is.has_second e in
+    let slots : final ≡ freed_slots (supply_in x) (first, second) h.slots =
+    f ∙ both-released (supply_in x) (first, second) h.slots new x.first x.second apart is.has_first is.has_second e in
     kept-item h w now x.shown.renditions final few k (one-written _ now.pages (pages_in x) (written ∙ is.pages) is.shown) stored is.many
-    (ap (map ticket_in) slots ∙ same-tickets (pages_in x) (first, second) h.slots)
+    (ap (map ticket_in) slots ∙ same-tickets (supply_in x) (first, second) h.slots)
 
 -- so is one after an item that releases nothing, with no page of before it
 pub kept-silent : (h : RoomValue) (w now : WrittenOf) (kept : List Rendition) → h.events < event_end → IsKept h w → now.pages ≡ [] → AreFew now.pieces kept
     → length kept ≡ length h.renditions → IsKept (item_on kept h.slots h) now
 kept-silent h w now kept few k none stored many = kept-item h w now kept h.slots few k (none-written _ now.pages none) stored many refl
 
--- and one whose pages were dropped
+-- and one whose supply were dropped
 pub kept-dropped : (h : RoomValue) (w now : WrittenOf) → IsKept h w → now.pages ≡ [] → AreFew now.pieces h.renditions → IsKept h now
 kept-dropped h w now k none stored = record {
   current = none-written _ now.pages none;
   stored = stored;
   target = k.target;
+  window = k.window;
   each = k.each;
   accepted = k.accepted;
   asked = k.asked;
@@ -259,5 +261,5 @@ pub changed-is : (h now : RoomValue) (first second : Option Release) (x : Coming
     → IsComing h first second x → new ≡ released_with first x.first h.slots → final ≡ released_with second x.second new
     → item_on x.shown.renditions final h ≡ changed now first second x
 changed-is h now first second x new final e apart is f g =
-    ap (λ ss. item_on x.shown.renditions ss h) (g ∙ both-released (pages_in x) (first, second) h.slots new x.first x.second apart is.has_first is.has_second f)
+    ap (λ ss. item_on x.shown.renditions ss h) (g ∙ both-released (supply_in x) (first, second) h.slots new x.first x.second apart is.has_first is.has_second f)
     ∙ ap (λ (r : RoomValue). changed r first second x) e

@@ -1,15 +1,14 @@
 -- Held requests that are collected, closed or time out: the room after it, and the tickets that are left.
-use Rattle.std.proofs.Common.{◌≡◌, ℕ, ◌+◌, ◌≤◌, ◌==◌, List, [], ◌∷◌, ◌++◌, Bool, true, false, not, ◌&&◌, ◌||◌, cond, nat_le, Option, Some, None, is_none, refl, ap, ap₂, ◌∙◌, sym, subst, true≢false, filter, map, max, append-nil, arith}
+use Rattle.std.proofs.Common.{◌≡◌, ℕ, ◌+◌, ◌≤◌, ◌==◌, List, [], ◌∷◌, ◌++◌, Bool, true, false, not, ◌&&◌, ◌||◌, cond, nat_le, Option, Some, None, is_none, refl, ap, ap₂, ◌∙◌, sym, subst, true≢false, filter, length, map, max, append-nil, arith}
 use Rattle.std.proofs.lemmas.Bool.Decides.{nat_tests}
 use Rattle.ll_item.specs.Settings.{Configuration}
 use Rattle.ll_item.specs.declared.item.Item.{Item}
-use Rattle.ll_page.specs.Page.{Paged}
 use Rattle.ll_verdict.specs.Events.{Event, Collect, Close, Clock, items, time}
 use Rattle.ll_verdict.specs.State.{State, state_of, settle, stays, next}
-use Rattle.ll_verdict.specs.Verdict.{is_there, page_of}
+use Rattle.ll_verdict.specs.Verdict.{given, is_there, media_of, page_of}
 use Rattle.ll_verdict.specs.declared.entry.Slot.{Slot}
 use Rattle.ll_verdict.specs.declared.reply.Settled.{Settled}
-use Rattle.ll_verdict.specs.declared.reply.Settled.TheVariants.{Text, Timeout}
+use Rattle.ll_verdict.specs.declared.reply.Settled.TheVariants.{Timeout}
 use Rattle.ll_book.specs.Release.{expired, is_over, over_if}
 use Rattle.ll_verdict.specs.Waiting.{reply_at, ticket_in, without, without_ready}
 use Rattle.ll_room.specs.RoomValue.{RoomValue, Stands, room_value, less}
@@ -27,19 +26,19 @@ over_cond : (b : Bool) (s : Slot) → over_if b s ≡ record s { settled = cond 
 over_cond true s = refl
 over_cond false s = refl
 
-due_by : (o : Option Settled) (there before now : Bool) (page : Paged)
-    → cond (is_none o && (there || before)) (Some (cond there (Text page) Timeout)) o ≡ o
-    → cond (is_none o && now) (Some Timeout) o ≡ cond (is_none o && (there || now)) (Some (cond there (Text page) Timeout)) o
-due_by (Some reply) there before now page h = refl
-due_by None true before now page h = absurd (true≢false (sym (ap is_none h)))
-due_by None false before now page h = refl
+due_by : (o : Option Settled) (there before now : Bool) (reply : Settled)
+    → cond (is_none o && (there || before)) (Some (cond there reply Timeout)) o ≡ o
+    → cond (is_none o && now) (Some Timeout) o ≡ cond (is_none o && (there || now)) (Some (cond there reply Timeout)) o
+due_by (Some x) there before now reply h = refl
+due_by None true before now reply h = absurd (true≢false (sym (ap is_none h)))
+due_by None false before now reply h = refl
 
 -- what waits is not there, so it is due exactly when its time is over
 due : (c : Configuration) (items : List Item) (before now : ℕ) (s : Slot) → Idle c items before s → expired now s ≡ settle c items now s
 due c items before now s h =
     over_cond (is_over now s) s
     ∙ ap (λ o. record s { settled = o })
-    (due_by s.settled (is_there c items s.entry.wanted) (nat_le s.entry.deadline before) (nat_le s.entry.deadline now) (page_of c items s.entry.wanted) (ap (λ s. s.settled) h))
+    (due_by s.settled (is_there c items s.entry.wanted) (nat_le s.entry.deadline before) (nat_le s.entry.deadline now) (given (length items) s.entry.wanted (page_of c items s.entry.wanted) (media_of c items s.entry.wanted)) (ap (λ s. s.settled) h))
 
 each_due : (c : Configuration) (items : List Item) (before now : ℕ) (ss : List Slot)
     → Each (Idle c items before) ss → map (expired now) ss ≡ map (settle c items now) ss

@@ -28,8 +28,8 @@ use Rattle.ll_verdict.specs.Full.{event_end, full_by, is_full}
 use Rattle.ll_window.specs.Segments.{own}
 
 -- what is kept of a rendition that the channel has
-there : (c : Configuration) (items : List Item) (r : ℕ) → nat_lt r (length c.renditions) ≡ true → slice_get (renditions c items) r ≡ Some (kept c (own r items))
-there c items r within =
+pub kept-there : (c : Configuration) (items : List Item) (r : ℕ) → nat_lt r (length c.renditions) ≡ true → slice_get (renditions c items) r ≡ Some (kept c (own r items))
+kept-there c items r within =
     let got = some_kept (renditions c items) r (slice_get (renditions c items) r) refl (ap (nat_lt r) (length-renditions c items) ∙ within) in
     got.1 ∙ ap Some (rendition-got c items r got.0 got.1).1
 
@@ -50,8 +50,8 @@ stored old new before after i a free goes place map brought is c items shown all
     let within : r < length c.renditions = (let e = in_channel.0 in grind (arith, nat_tests)) in
     is ∙ ap₂ (λ a ss. stores_with a new ss) (arrival_is a old i place map brought) all
     ∙ arrived c items i old new within (not_ended c (own r items) i in_channel.1)
-    (ap (λ ks. slice_get ks r) shown ∙ there c items r in_channel.0)
-    (ap (λ ks. slice_get ks r) (goes c items shown) ∙ there c (items ++ i ∷ []) r in_channel.0 ∙ ap (λ xs. Some (kept c xs)) (own-same r items i refl))
+    (ap (λ ks. slice_get ks r) shown ∙ kept-there c items r in_channel.0)
+    (ap (λ ks. slice_get ks r) (goes c items shown) ∙ kept-there c (items ++ i ∷ []) r in_channel.0 ∙ ap (λ xs. Some (kept c xs)) (own-same r items i refl))
 
 -- what was made doesn't turn on the bytes that are kept
 pub coming-with : (h : RoomValue) (ss : List StoreValue) (first second : Option Release) (x : Coming) → IsComing (with_stores h ss) first second x → IsComing h first second x

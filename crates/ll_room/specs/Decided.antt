@@ -1,9 +1,11 @@
 -- What comes of a request, told apart from its making.
-use Rattle.std.specs.Prelude.{◌≡◌, ◌<◌, ⊤, List, Option, Some, None, length}
+use Rattle.std.specs.Prelude.{◌≡◌, ◌<◌, ⊤, ℕ, List, Option, Some, None, if◌then◌else◌, is_some, length, option_map, true}
+use Rattle.ll_directive.specs.Files.{is_playlist}
 use Rattle.ll_directive.specs.Targets.{WantValue}
+use Rattle.ll_store.specs.Stores.{media_at}
 use Rattle.ll_verdict.specs.Events.{Event}
 use Rattle.ll_verdict.specs.State.{waiting_in}
-use Rattle.ll_verdict.specs.Verdict.{at_once, held, waiting_limit, wanted_of}
+use Rattle.ll_verdict.specs.Verdict.{at_once, held, piece_of, waiting_limit, wanted_of}
 use Rattle.ll_verdict.specs.declared.reply.Reply.{Reply}
 use Rattle.ll_verdict.specs.declared.reply.Reply.TheVariants as now
 use Rattle.ll_page.specs.Page.{Paged, seen_of}
@@ -16,18 +18,26 @@ use Rattle.ll_room.specs.declared.decision.Decision.TheVariants.{NotFound, There
 abbrev pub page_now : RoomValue → Wanted → Paged
 page_now h a = record { seen = seen_of (moment h) a.rendition; form = a.form }
 
+-- the bytes as they are now of the media that is asked for, where it is there
+abbrev pub media_here : RoomValue → Wanted → Option (List ℕ)
+media_here h a = media_at h.renditions h.stores a.rendition a.what
+
+-- the playlist or media as it is now, where it is there
+abbrev pub reply_here : RoomValue → Wanted → Option Reply
+reply_here h a = if is_playlist a.what then Some (now.Text (page_now h a)) else option_map (λ bytes. now.Media (piece_of h.count a bytes)) (media_here h a)
+
 -- the reply at once
 abbrev pub reply_in : RoomValue → Decision → Option Reply
 reply_in h NotFound = Some now.NotFound
-reply_in h (There a) = Some (now.Text (page_now h a))
+reply_in h (There a) = reply_here h a
 reply_in h TooFar = Some now.TooFar
 reply_in h Busy = Some now.Busy
 reply_in h (Waits a) = None
 
--- a request that has its text, or waits, asks this of a rendition of the channel; where it waits, fewer wait than may
+-- a request that has what it is for, or waits, asks this of a rendition of the channel; where it waits, fewer wait than may
 abbrev pub IsFor : RoomValue → WantValue → Decision → Type 0
 IsFor h want NotFound = ⊤
-IsFor h want (There a) = (wanted_of h.settings want ≡ Some a) × (a.rendition < length h.renditions)
+IsFor h want (There a) = (wanted_of h.settings want ≡ Some a) × (a.rendition < length h.renditions) × (is_some (reply_here h a) ≡ true)
 IsFor h want TooFar = ⊤
 IsFor h want Busy = ⊤
 IsFor h want (Waits a) = (wanted_of h.settings want ≡ Some a) × (waiting_in h.slots < waiting_limit)

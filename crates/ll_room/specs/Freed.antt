@@ -9,9 +9,9 @@ use Rattle.ll_store.specs.Stores.{stores}
 use Rattle.ll_rendition.specs.declared.rendition.Rendition.{Rendition}
 use Rattle.ll_verdict.specs.declared.entry.Slot.{Slot}
 use Rattle.ll_book.specs.Pages.{PagesOf}
-use Rattle.ll_book.specs.Release.{given_if, takes}
+use Rattle.ll_book.specs.Release.{Supply, given_if, takes}
 use Rattle.ll_book.specs.declared.release.Release.{Release}
-use Rattle.ll_book.specs.Releases.{first_release, second_release}
+use Rattle.ll_book.specs.Releases.{first_release, part_of, second_release}
 use Rattle.ll_room.specs.RoomValue.{RoomValue}
 
 -- the two releases that an item brings, where this is kept of its rendition
@@ -27,17 +27,21 @@ abbrev pub AreApart : Option Release × Option Release → Type 0
 AreApart both = (first second : Release) (s : Slot) → both.0 ≡ Some first → both.1 ≡ Some second → takes first s ≡ true → takes second s ≡ false
 
 -- an open request after a release
-abbrev pub freed : PagesOf → Option Release → Slot → Slot
-freed pages None s = s
-freed pages (Some which) s = given_if pages (takes which s) s
+abbrev pub freed : Supply → Option Release → Slot → Slot
+freed supply None s = s
+freed supply (Some which) s = given_if supply (takes which s) s
 
 -- the open requests after two releases
-abbrev pub freed_slots : PagesOf → Option Release × Option Release → List Slot → List Slot
-freed_slots pages both slots = map (freed pages both.1) (map (freed pages both.0) slots)
+abbrev pub freed_slots : Supply → Option Release × Option Release → List Slot → List Slot
+freed_slots supply both slots = map (freed supply both.1) (map (freed supply both.0) slots)
 
 -- the pages of a rendition after one more item, with which these are kept
 abbrev pub new_pages : RoomValue → List Rendition → Item → PagesOf
 new_pages h kept i = record { moment = record { settings = h.settings; renditions = kept; count = h.count + 1 }; rendition = rendition_of i }
+
+-- what the requests get that an item releases, with which these are kept
+abbrev pub new_supply : RoomValue → List Rendition → Item → Supply
+new_supply h kept i = record { pages = new_pages h kept i; part = part_of i }
 
 -- the room with these bytes for players
 abbrev pub with_stores : RoomValue → List StoreValue → RoomValue
@@ -52,6 +56,6 @@ abbrev pub with_item : RoomValue → List Rendition → Item → RoomValue
 with_item h kept i = record h {
   renditions = kept;
   count = h.count + 1;
-  slots = freed_slots (new_pages h kept i) (releases h i) h.slots;
+  slots = freed_slots (new_supply h kept i) (releases h i) h.slots;
   events = h.events + 1;
 }

@@ -11,6 +11,8 @@ pub record IsKept (h : RoomValue) (w : WrittenOf) : Type 0 where
   pub stored : AreFew w.pieces h.renditions
   -- a request that waits is not due when it is made
   pub target : 1 ≤ h.settings.target
+  -- the last finished segment is in the window
+  pub window : 1 ≤ h.settings.window
   pub each : length h.renditions ≡ length h.settings.renditions
   pub accepted : h.count ≤ h.events
   pub asked : h.asks ≤ h.events

@@ -1,5 +1,6 @@
 //! Requests: a reply at once, or a request that is held (Blocking Playlist Reload, section 6.2.5.2).
-ghost use Rattle.std.specs.Prelude.{◌≡◌, ◌+◌, ◌<◌, ◌≤◌, ◌++◌, ◌∷◌, [], List, IfOk, IsErrOf, OnOk, OnErr, Some, length, option_map};
+ghost use Rattle.std.specs.Prelude.{◌≡◌, ◌+◌, ◌<◌, ◌≤◌, ◌++◌, ◌∷◌, [], List, IfOk, IsErrOf, MatchOption, None, OnOk, OnErr, Some, false, is_some, length, option_map, true};
+ghost use Rattle.ll_directive.specs.Files.{is_playlist};
 ghost use Rattle.ll_page.specs.Page.{update_in};
 ghost use Rattle.ll_window.specs.Segments.{own};
 ghost use Rattle.ll_verdict.specs.Events.{Event, Ask, items};
@@ -9,7 +10,7 @@ ghost use Rattle.ll_verdict.specs.Verdict.{at_once, held, waiting_limit, wanted_
 ghost use Rattle.ll_verdict.specs.Verdict as verdict;
 ghost use Rattle.ll_directive.specs.Targets.{WantValue};
 ghost use Rattle.ll_room.specs.Answers.{asked, new_tickets, others};
-ghost use Rattle.ll_room.specs.Decided.{IsDecided, IsDecidedOfOne, page_now};
+ghost use Rattle.ll_room.specs.Decided.{IsDecided, IsDecidedOfOne, media_here, page_now, reply_here};
 ghost use Rattle.ll_verdict.specs.Full.{event_end};
 ghost use Rattle.ll_room.specs.RoomValue.{IsSame, Stands, tickets};
 ghost use Rattle.ll_room.specs.Kept.{with_answer, with_held};
@@ -20,10 +21,11 @@ use crate::parked::Parked;
 use crate::room::{EVENT_END, Room};
 use crate::stamped::{Stamp, Stamped};
 use ll_book::ParkFault;
-use ll_directive::Want;
+use ll_directive::{Want, What};
 use ll_item::SkipKind;
 use ll_page::Page;
-use ll_verdict::{AskFault, Entry, Outcome, Reply, Wanted, is_far, is_there};
+use ll_store::{Found, find_at};
+use ll_verdict::{AskFault, Entry, Piece, Reply, Wanted, is_far, is_hinted, is_there};
 use std::alloc::AllocError;
 
 /// How long a request waits, for each second of the target duration: three target durations, in milliseconds.
@@ -33,8 +35,10 @@ impl Room {
     /// Makes a request. Its reply comes at once, or it is held: the first of these that applies.
     ///
     /// 1. The channel has no rendition of that name: NotFound.
-    /// 2. It awaits nothing, or what it awaits is there, or its rendition has ended: the playlist or delta update as it is now.
-    /// 3. What it awaits is too far ahead: TooFar.
+    /// 2. It is for a playlist and awaits nothing, or what it awaits is there, or its rendition has ended: the playlist or delta update as it is
+    ///    now. It is for media that is there: its bytes.
+    /// 3. It is for a playlist, and what it awaits is too far ahead: TooFar. It is for media other than the next part, which the Preload Hint names:
+    ///    NotFound.
     /// 4. As many requests of the channel wait as may wait: Busy.
     /// 5. It is held.
     pub fn ask(&mut self, want: Want) -> Result<Asked, AskFault>
@@ -60,16 +64,51 @@ impl Room {
     pub fn decide(&self, want: &Want) -> Decision
         ensures { IsDecided self.now want.now result }
     {
-        // (so that it is known that there are as many renditions as names)
         let _ = &self.shown;
         let Some(wanted) = self.wanted(want) else {
             return Decision::NotFound;
         };
+        match wanted.what {
+            What::Playlist => self.decide_playlist(want, wanted),
+            _ => self.decide_media(want, wanted),
+        }
+    }
+
+    /// What comes of a request for a playlist, which asks this.
+    fn decide_playlist(&self, _want: &Want, wanted: Wanted) -> Decision
+        requires asks { wanted_of self.now.settings _want.now ≡ Some wanted }
+        requires within { wanted.rendition < length self.now.renditions }
+        requires playlist { is_playlist wanted.what ≡ true }
+        ensures { IsDecided self.now _want.now result }
+    {
+        // (so that it is known that there are as many renditions as names)
+        let _ = &self.shown;
         if self.is_there(&wanted) {
             return Decision::There(wanted);
         }
         if self.is_far(&wanted) {
             return Decision::TooFar;
+        }
+        if self.book.is_busy() {
+            return Decision::Busy;
+        }
+        Decision::Waits(wanted)
+    }
+
+    /// What comes of a request for media, which asks this.
+    fn decide_media(&self, _want: &Want, wanted: Wanted) -> Decision
+        requires asks { wanted_of self.now.settings _want.now ≡ Some wanted }
+        requires within { wanted.rendition < length self.now.renditions }
+        requires media { is_playlist wanted.what ≡ false }
+        ensures { IsDecided self.now _want.now result }
+    {
+        // (so that it is known that there are as many renditions as names)
+        let _ = &self.shown;
+        if self.has_media(&wanted) {
+            return Decision::There(wanted);
+        }
+        if !self.is_hinted(&wanted) {
+            return Decision::NotFound;
         }
         if self.book.is_busy() {
             return Decision::Busy;
@@ -94,8 +133,8 @@ impl Room {
         match decision {
             Decision::NotFound => Ok(self.answer(want, Reply::NotFound)),
             Decision::There(wanted) => {
-                let page = self.page(&wanted)?;
-                Ok(self.answer(want, Reply::Text(page)))
+                let reply = self.reply_here(&wanted)?;
+                Ok(self.answer(want, reply))
             }
             Decision::TooFar => Ok(self.answer(want, Reply::TooFar)),
             Decision::Busy => Ok(self.answer(want, Reply::Busy)),
@@ -130,6 +169,7 @@ impl Room {
         let rendition = self.shown.settings().rendition(want.rendition())?;
         Some(Wanted {
             rendition,
+            what: want.what(),
             awaited: want.awaited(),
             form: want.skip(),
         })
@@ -157,6 +197,75 @@ impl Room {
             &self.shown.renditions()[wanted.rendition].window,
             wanted.awaited,
         )
+    }
+
+    /// Whether what a request awaits is the next part of its rendition.
+    fn is_hinted(&self, wanted: &Wanted) -> bool
+        requires { wanted.now.rendition < length self.now.renditions }
+        ensures { (events : List Event) → Stands self.now events
+            → result ≡ verdict.is_hinted self.now.settings (own wanted.now.rendition (items self.now.settings events)) wanted.now.awaited }
+    {
+        is_hinted(
+            &self.shown.renditions()[wanted.rendition].window,
+            wanted.awaited,
+        )
+    }
+
+    /// The media that is asked for, where it is there.
+    fn media(&self, wanted: &Wanted) -> Option<Found<'_>>
+        ensures { MatchOption result (media_here self.now wanted.now ≡ None) (λ found. media_here self.now wanted.now ≡ Some found) }
+    {
+        find_at(
+            self.shown.renditions(),
+            &self.stores,
+            wanted.rendition,
+            wanted.what,
+        )
+    }
+
+    /// Whether the media that is asked for is there.
+    fn has_media(&self, wanted: &Wanted) -> bool
+        ensures { result ≡ is_some (media_here self.now wanted.now) }
+    {
+        self.media(wanted).is_some()
+    }
+
+    /// How many bytes the media has that is asked for, where it is there.
+    pub(crate) fn media_length(&self, wanted: &Wanted) -> Option<u64>
+        ensures { result ≡ option_map length (media_here self.now wanted.now) }
+    {
+        let found = self.media(wanted)?;
+        Some(found.len())
+    }
+
+    /// The playlist, the delta update or the media as it is now.
+    fn reply_here(&mut self, wanted: &Wanted) -> Result<Reply, AllocError>
+        requires within { wanted.now.rendition < length self.old.renditions }
+        requires here { is_some (reply_here self.old wanted.now) ≡ true }
+        ensures reply { IfOk result (λ reply. reply_here self.old wanted.now ≡ Some reply) }
+        ensures unchanged { self.new ≡ self.old }
+    {
+        match wanted.what {
+            What::Playlist => Ok(Reply::Text(self.page(wanted)?)),
+            _ => Ok(Reply::Media(self.piece(wanted)?)),
+        }
+    }
+
+    /// The media as it is now, shared.
+    fn piece(&self, wanted: &Wanted) -> Result<Piece, AllocError>
+        requires { is_some (media_here self.now wanted.now) ≡ true }
+        ensures { IfOk result (λ piece. option_map (verdict.piece_of self.now.count wanted.now) (media_here self.now wanted.now) ≡ Some piece) }
+    {
+        let _ = &self.shown;
+        let Some(found) = self.media(wanted) else {
+            unreachable!();
+        };
+        Ok(Piece {
+            bytes: found.share(self.alloc)?,
+            number: self.shown.count(),
+            rendition: wanted.rendition,
+            what: wanted.what,
+        })
     }
 
     /// Which delta update the playlist that is asked for is now; none where it is a full one.

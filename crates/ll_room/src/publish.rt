@@ -2,7 +2,7 @@
 ghost use Rattle.std.specs.Prelude.{◌≡◌, ◌≢◌, ◌+◌, ◌<◌, ◌++◌, ◌∷◌, [], List, IfOk, IfErr, IsErrOf, OnOk, OnErr, MatchResult, None, Some, false};
 ghost use Rattle.ll_item.specs.Items.{rendition_of};
 ghost use Rattle.ll_item.specs.declared.item.Item.{Item};
-ghost use Rattle.ll_book.specs.Releases.{takes_any};
+ghost use Rattle.ll_book.specs.Releases.{part_of, takes_any};
 ghost use Rattle.ll_page.specs.View.{GoOn};
 ghost use Rattle.ll_verdict.specs.Events.{Event, Publish};
 ghost use Rattle.ll_room.specs.Freed.{AreApart, StoresGoOn, with_item, with_stores};
@@ -16,9 +16,10 @@ ghost use Rattle.ll_room.specs.declared.stamped.Stamp.TheVariants as stamp;
 use crate::room::{EVENT_END, Room};
 use crate::stamped::{Stamp, Stamped};
 use ll_book::{
-    Holders, Pages, Release, first_release, holders_for, release_with, second_release, takes_any,
+    Holders, Pages, Release, first_release, holders_for, part_of, release_with, second_release,
+    takes_any,
 };
-use ll_item::Item;
+use ll_item::{Item, Media};
 use ll_page::Shown;
 use ll_store::{arrive, expect};
 use ll_verdict::PublishFault;
@@ -162,19 +163,22 @@ impl Room {
         requires { refusal_by self.now item ≡ None }
         ensures goes_on { IfOk result (λ x. GoOn self.now.renditions x.shown.renditions item) }
         ensures rendition { IfOk result (λ x. x.rendition ≡ rendition_of item) }
+        ensures part { IfOk result (λ x. x.part ≡ part_of item) }
         ensures coming { IfOk result (λ x. IsComing self.now first second x) }
     {
         let rendition = item.rendition();
+        let part = part_of(&item)?;
         let mut shown = self.shown.again()?;
         shown.accept(item)?;
         let before = self.written.rendered(rendition);
         let mut pages = Pages::new(self.alloc, shown.again()?, rendition, before)?.unwrap();
-        let first = holders_for(&self.book, self.alloc, first, &mut pages)?;
-        let second = holders_for(&self.book, self.alloc, second, &mut pages)?;
+        let first = holders_for(&self.book, self.alloc, first, &mut pages, &part)?;
+        let second = holders_for(&self.book, self.alloc, second, &mut pages, &part)?;
         Ok(Coming {
             rendition,
             shown,
             pages: vec![in self.alloc; pages]?,
+            part,
             first,
             second,
         })
@@ -204,6 +208,8 @@ struct Coming {
     shown: Shown,
     /// The playlists of its rendition that the releases need.
     pages: Vec<Pages>,
+    /// The bytes of the item, where it is a part.
+    part: Option<Media>,
     /// The holders of the first release.
     first: Option<Holders>,
     /// The holders of the second release.

@@ -77,8 +77,9 @@ impl Room {
     pub fn new(alloc: Global, channel: u64, settings: Settings) -> Result<Room, AllocError>
         ensures { IfOk result (λ r. r ≡ room_value channel settings (state_of settings [])) }
     {
-        // so that no request is due when it is made
+        // so that no request is due when it is made, and the last finished segment is in the window
         prove!(settings.target() >= 1);
+        settings.within_limits();
         let settings = Arc::new(alloc, settings)?;
         let renditions = no_items(alloc, &settings)?;
         let written = Written::new(alloc, &renditions)?;

@@ -81,7 +81,7 @@ hinted-is c own (Part msn index) h =
     let place : index ≡ length (open_segment own) = (let e = p.1.1 in grind (arith, nat_tests, e)) in
     (p.0, ap₂ (λ m i. Part m i) number place)
 
-hinted-missing : (c : Configuration) (items : List Item) (a : Wanted) → is_hinted c (own a.rendition items) a.awaited ≡ true → is_there c items a ≡ false
+pub hinted-missing : (c : Configuration) (items : List Item) (a : Wanted) → is_hinted c (own a.rendition items) a.awaited ≡ true → is_there c items a ≡ false
 unfolding is_there
 hinted-missing c items a h =
     let its = own a.rendition items in

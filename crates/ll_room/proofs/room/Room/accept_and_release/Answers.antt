@@ -43,6 +43,6 @@ returns-clause-accepted c =
     c.change.ensures
     ∙ ap (λ r. with_stores r ss)
     (ap (λ (r : RoomValue). changed r c.args.first c.args.second x) c.self.view_is
-    ∙ released-item now c.args.item c.args.first c.args.second x c.requires.releases c.in_ok-coming.ensures.rendition is)
+    ∙ released-item now c.args.item c.args.first c.args.second x c.requires.releases c.in_ok-coming.ensures.rendition c.in_ok-coming.ensures.part is)
     ∙ ap₂ (λ ks q. with_stores (with_item now ks c.args.item) q) (sym (ap (λ (r : RoomValue). r.renditions) c.change.ensures))
     (sym (ap (λ (r : RoomValue). r.stores) c.change.ensures))

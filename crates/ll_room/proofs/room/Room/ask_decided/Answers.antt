@@ -1,7 +1,7 @@
 -- What was decided comes of the request, and the room goes on by it.
 use Rattle.std.proofs.Common.{ap, subst, ◌∙◌}
 use Rattle.ll_room.specs.RoomValue.{less, tickets}
-use Rattle.ll_room.specs.Decided.{IsDecided, page_now, reply_in}
+use Rattle.ll_room.specs.Decided.{IsDecided, reply_in}
 use Rattle.ll_room.specs.Kept.{with_answer}
 use Rattle.ll_room.specs.contracts.room.Room.{the_view}
 use Rattle.ll_verdict.specs.declared.reply.Reply.TheVariants as reply
@@ -15,11 +15,11 @@ returns-in-NotFound-clause-asked c es stands =
     decided-stands h c.answer.new.self c.args.want c.args.decision reply.NotFound c.requires.decided (ap (reply_in h) c.in-NotFound.is) (low h (the_view c.self.inside) c.self.view_is c.self.invariant.target)
     c.answer.ensures.counted es stands
 
-pub returns-in_ok-page-in-There-clause-asked : goal.returns-in_ok-page-in-There-clause-asked
-returns-in_ok-page-in-There-clause-asked c es stands =
+pub returns-in_ok-reply-in-There-clause-asked : goal.returns-in_ok-reply-in-There-clause-asked
+returns-in_ok-reply-in-There-clause-asked c es stands =
     let h = c.args.self.now in
-    decided-stands h c.answer-in-There.new.self c.args.want c.args.decision (reply.Text (page_now h c.in-There.wanted)) c.requires.decided (ap (reply_in h) c.in-There.is)
-    (low h (the_view c.self.inside) c.self.view_is c.self.invariant.target) (c.answer-in-There.ensures.counted ∙ ap with_answer c.page.ensures.unchanged) es stands
+    decided-stands h c.answer-in-There.new.self c.args.want c.args.decision c.in_ok-reply-in-There.reply c.requires.decided (ap (reply_in h) c.in-There.is ∙ c.in_ok-reply-in-There.ensures.reply)
+    (low h (the_view c.self.inside) c.self.view_is c.self.invariant.target) (c.answer-in-There.ensures.counted ∙ ap with_answer c.reply_here.ensures.unchanged) es stands
 
 pub returns-in-TooFar-clause-asked : goal.returns-in-TooFar-clause-asked
 returns-in-TooFar-clause-asked c es stands =

@@ -5,7 +5,7 @@ use Rattle.ll_room.specs.Kept.{IsKept}
 use Rattle.ll_room.specs.contracts.room.Room.{the_view}
 use Rattle.ll_room.specs.Stored.{AreFew}
 use Rattle.ll_room.proofs.PublishLemmas.{changed-is, coming-of, has-those, has-those-after, kept-change, shown-item}
-use Rattle.ll_room.specs.Coming.{pages_in}
+use Rattle.ll_room.specs.Coming.{supply_in}
 use Rattle.ll_room.proofs.KeptLemmas.{few-events}
 use Rattle.ll_room.proofs.StoredLemmas.{few-length}
 use Rattle.ll_room.proofs.room.Room.change.Goals as goal
@@ -14,7 +14,7 @@ pub release_with-requires : goal.release_with-requires
 release_with-requires c =
     let h = the_view c.self.inside in
     let is = coming-of h c.args.self.now c.args.first c.args.second c.args.coming c.self.view_is c.requires.coming in
-    record { those = has-those (pages_in c.args.coming) c.args.first h.slots c.args.coming.first is.has_first }
+    record { those = has-those (supply_in c.args.coming) c.args.first h.slots c.args.coming.first is.has_first }
 
 pub release_with-requires-2 : goal.release_with-requires-2
 release_with-requires-2 c =
@@ -22,7 +22,7 @@ release_with-requires-2 c =
     let is = coming-of h c.args.self.now c.args.first c.args.second c.args.coming c.self.view_is c.requires.coming in
     record {
       those =
-          has-those-after (pages_in c.args.coming) (c.args.first, c.args.second) h.slots c.release_with.new.book c.args.coming.first c.args.coming.second c.requires.apart
+          has-those-after (supply_in c.args.coming) (c.args.first, c.args.second) h.slots c.release_with.new.book c.args.coming.first c.args.coming.second c.requires.apart
           is.has_first is.has_second c.release_with.ensures;
     }
 
