@@ -15,6 +15,7 @@ ghost use Rattle.ll_verdict.specs.State.{state_of};
 
 use crate::clock::Clock;
 use crate::fault::{HubFault, RoomFault};
+use crate::same::is_entry;
 use crate::total::Total;
 use ll_directive::Want;
 use ll_item::{Item, Settings};
@@ -295,14 +296,14 @@ fn is_here(recorder: &Recorder, known: Known<'_>, entry: Entry) -> bool
 fn is_open(recorder: &Recorder, entry: Entry) -> bool
     ensures { Decides result (found entry.ticket recorder.now.room.slots ≡ Some entry) }
 {
-    opened(recorder, entry.ticket) == Some(entry)
+    is_entry(opened(recorder, entry.ticket), entry)
 }
 
 /// Whether this request's reply is there.
 fn is_ready(recorder: &Recorder, entry: Entry) -> bool
     ensures { Decides result (spec.IsReady recorder.now entry) }
 {
-    recorder.room().ready_at(entry.ticket) == Some(entry)
+    is_entry(recorder.room().ready_at(entry.ticket), entry)
 }
 
 /// Whether settings are equal.

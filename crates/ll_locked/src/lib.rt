@@ -4,6 +4,7 @@
 mod channel;
 mod clock;
 mod fault;
+mod same;
 mod total;
 
 pub use channel::{AtOnce, Channel, Known, Tried};
