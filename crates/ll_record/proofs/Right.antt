@@ -5,11 +5,7 @@ use Rattle.std.specs.List.{list_any}
 use Rattle.ll_verdict.specs.Waiting.{has_ticket, reply_at}
 use Rattle.ll_entry.specs.Entered.{fault_in, is_open_after, same_answer, settled_after, unless_refused}
 use Rattle.ll_entry.specs.Replies.{told_in}
-use Rattle.ll_directive.specs.Files.{is_playlist}
-use Rattle.ll_directive.specs.Targets.{WantValue, awaited_by}
-use Rattle.ll_directive.specs.declared.want.Awaited.{Awaited}
-use Rattle.ll_entry.specs.Lines.{asked_line}
-use Rattle.ll_item.specs.Items.{rendition_named}
+use Rattle.ll_directive.specs.Targets.{WantValue}
 use Rattle.ll_entry.specs.declared.entry.Recorded.TheVariants as recorded
 use Rattle.ll_entry.specs.declared.version.Version.TheVariants.{Two}
 use Rattle.ll_item.specs.Settings.{Configuration}
@@ -23,14 +19,13 @@ use Rattle.ll_room.specs.Ticket.{Ticket}
 use Rattle.ll_room.specs.declared.asked.Closed.TheVariants as given_up
 use Rattle.ll_room.specs.declared.asked.Collected.{Collected}
 use Rattle.ll_room.specs.declared.asked.Collected.TheVariants.{Got, Still, Stranger}
-use Rattle.ll_verdict.specs.Events.{Event, asks, items}
+use Rattle.ll_verdict.specs.Events.{Event, asks}
 use Rattle.ll_verdict.specs.Outcome.{outcome_of}
 use Rattle.ll_verdict.specs.State.{state_of}
-use Rattle.ll_verdict.specs.Verdict.{at_once, held, reply_by, reply_of, waiting, wanted_of}
+use Rattle.ll_verdict.specs.Verdict.{at_once, held, reply_of}
 use Rattle.ll_verdict.specs.declared.reply.Outcome.{Outcome}
 use Rattle.ll_verdict.specs.declared.reply.Reply.{Reply}
 use Rattle.ll_verdict.specs.declared.reply.Settled.{Settled}
-use Rattle.ll_verdict.specs.declared.wanted.Wanted.{Wanted}
 use Rattle.ll_entry.proofs.ToldLemmas.{own, right, same-answer, whole-answer, whole-outcome}
 use Rattle.ll_record.specs.Recording.{of_channel}
 
@@ -39,26 +34,6 @@ its_asks h events st = ap (λ (x : RoomValue). x.asks) st
 
 not_full : (h : RoomValue) (events : List Event) → Stands h events → is_full h.events ≡ false → is_full (length events) ≡ false
 not_full h events st f = ap (λ n. is_full n) (sym (ap (λ (x : RoomValue). x.events) st)) ∙ f
-
--- ---- requests under the channel's own name
-
-awaited_renamed : (c : Configuration) (want : WantValue) (list : Bool) → awaited_by list (of_channel c want) ≡ awaited_by list want
-awaited_renamed c want true = refl
-awaited_renamed c want false = refl
-
-abbrev wanted_with : WantValue → Awaited → ℕ → Wanted
-wanted_with want awaited rendition = record { rendition = rendition; what = want.what; awaited = awaited; form = want.skip }
-
--- what a request wants doesn't depend on the channel's name in it
-pub wanted-renamed : (c d : Configuration) (want : WantValue) → wanted_of c (of_channel d want) ≡ wanted_of c want
-wanted-renamed c d want =
-    ap (λ awaited. option_map (wanted_with want awaited) (rendition_named c want.rendition)) (awaited_renamed d want (is_playlist want.what))
-
--- nor does its line
-pub line-renamed : (c : Configuration) (list : Bool) (ask : ℕ) (want : WantValue) (reply : Option Outcome)
-    → asked_line list ask want reply ≡ asked_line list ask (of_channel c want) reply
-line-renamed c true ask want reply = refl
-line-renamed c false ask want reply = refl
 
 -- ---- items, requests and readings
 
@@ -74,13 +49,11 @@ pub ask-right : (h : RoomValue) (events : List Event) (want : WantValue) (reply 
     → reply ≡ option_map outcome_of (at_once h.settings (held h.settings events) events want)
     → fault_in Two h.settings events (recorded.Ask (h.asks + 1) (of_channel h.settings want) reply) ≡ None
 ask-right h events want reply st f e =
-    let now = at_once h.settings (held h.settings events) events (of_channel h.settings want) in
-    let same : at_once h.settings (held h.settings events) events want ≡ now =
-    ap (reply_by h.settings (waiting h.settings events (held h.settings events)) (items h.settings events)) (sym (wanted-renamed h.settings h.settings want)) in
+    let now = at_once h.settings (held h.settings events) events want in
     let answer = option_map (λ r. told_in Two (outcome_of r)) now in
     right (h.asks + 1 == asks events + 1 && not (is_full (length events))) (same_answer reply answer)
     (ap₂ (λ n b. n + 1 == asks events + 1 && not b) (its_asks h events st) (not_full h events st f) ∙ ap (λ b. b && true) (own (asks events + 1)))
-    (ap (λ r. same_answer r answer) (e ∙ ap (option_map outcome_of) same ∙ whole now) ∙ same-answer answer)
+    (ap (λ r. same_answer r answer) (e ∙ whole now) ∙ same-answer answer)
 
 at_most : (a b : ℕ) → a ≤ b → nat_le a b ≡ true
 at_most a b h = grind (arith, nat_tests, h)

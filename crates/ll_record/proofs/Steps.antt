@@ -1,9 +1,9 @@
 -- Each call, from what its parts tell.
-use Rattle.std.proofs.Common.{◌≡◌, ℕ, ◌+◌, ◌*◌, ◌≤◌, ◌^◌, List, [], ◌∷◌, ◌++◌, None, true, false, Option, ap, ◌∙◌, sym, subst, length, map, filter, option_map}
+use Rattle.std.proofs.Common.{◌≡◌, ℕ, ◌+◌, ◌*◌, ◌≤◌, ◌^◌, List, [], ◌∷◌, ◌++◌, Bool, None, true, false, Option, refl, ap, ◌∙◌, sym, subst, length, option_map}
 use Rattle.std.specs.Str.{is_utf8}
 use Rattle.ll_entry.specs.Entered.{event_of, fault_in}
 use Rattle.ll_directive.specs.Targets.{WantValue}
-use Rattle.ll_entry.specs.Lines.{IsSpelled, entry_line}
+use Rattle.ll_entry.specs.Lines.{IsSpelled, asked_line, entry_line}
 use Rattle.ll_entry.specs.declared.entry.Recorded.{Recorded}
 use Rattle.ll_entry.specs.declared.entry.Recorded.TheVariants as recorded
 use Rattle.ll_entry.specs.declared.version.Version.TheVariants.{Two}
@@ -23,12 +23,11 @@ use Rattle.ll_entry.specs.ItemLines.{IsTyped}
 use Rattle.ll_verdict.proofs.StateLemmas.{state-snoc}
 use Rattle.ll_verdict.specs.Events.{Event, Publish, Ask, Clock, Collect, Close}
 use Rattle.ll_verdict.specs.Outcome.{outcome_of}
-use Rattle.ll_verdict.specs.State.{State, next, settle, slot_by, state_of, stays, waiting_in}
-use Rattle.ll_verdict.specs.Verdict.{at_once, held, reply_by}
+use Rattle.ll_verdict.specs.Verdict.{at_once, held}
 use Rattle.ll_verdict.specs.declared.reply.Outcome.{Outcome}
 use Rattle.ll_verdict.specs.declared.reply.Reply.{Reply}
 use Rattle.ll_record.proofs.Next.{IsNext, recorded-next}
-use Rattle.ll_record.proofs.Right.{ask-right, clock-right, close-right, collect-right, publish-right, wanted-renamed}
+use Rattle.ll_record.proofs.Right.{ask-right, clock-right, close-right, collect-right, publish-right}
 use Rattle.ll_record.specs.Kept.{IsKept, spare}
 use Rattle.ll_record.specs.Recording.{IsRecorded, Recording, of_channel}
 
@@ -59,17 +58,16 @@ publish-step old new item t none kept stands events r =
       stands = stands events r.stands;
     })
 
--- what a channel comes to with a request doesn't depend on the channel's name in it
-next_renamed : (c d : Configuration) (s : State) (want : WantValue) → next c s (Ask want) ≡ next c s (Ask (of_channel d want))
-next_renamed c d s want =
-    let kept = map (settle c s.items s.time) (filter (stays (Ask want)) s.slots) in
-    ap (λ a. record (next c s (Ask want)) { slots = kept ++ slot_by c (reply_by c (waiting_in s.slots) s.items a) s a }) (sym (wanted-renamed c d want))
+-- nor does its line
+pub asked-same : (b : Bool) (ask : ℕ) (c : Configuration) (want : WantValue) (reply : Option Outcome) → asked_line b ask want reply ≡ asked_line b ask (of_channel c want) reply
+asked-same true ask c want reply = refl
+asked-same false ask c want reply = refl
 
+-- what a channel comes to with a request doesn't depend on the channel's name in it
 renamed : (h : RoomValue) (c : Configuration) (events : List Event) (want : WantValue) → Stands h (events ++ Ask want ∷ [])
     → Stands h (events ++ Ask (of_channel c want) ∷ [])
 renamed h c events want st =
-    st ∙ ap (room_value h.channel h.settings) (state-snoc h.settings events (Ask want)
-    ∙ next_renamed h.settings c (state_of h.settings events) want ∙ sym (state-snoc h.settings events (Ask (of_channel c want))))
+    st ∙ ap (room_value h.channel h.settings) (state-snoc h.settings events (Ask want) ∙ sym (state-snoc h.settings events (Ask (of_channel c want))))
 
 pub ask-step : (old new : Recording) (want : WantValue) (answer : Option Outcome)
     → IsTold old new (recorded.Ask (old.room.asks + 1) (of_channel old.room.settings want) answer) → is_full old.room.events ≡ false

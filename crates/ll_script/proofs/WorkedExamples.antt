@@ -7,16 +7,20 @@ use Rattle.form_urlencoded.specs.Form.{raw_pairs, split}
 use Rattle.percent_encoding.specs.Percent.{percent_decode}
 use Rattle.ll_item.specs.Settings.{configuration_of}
 use Rattle.ll_publish.specs.Refusals.{ok_line, refusal_line}
-use Rattle.ll_script.specs.Answers.{named_reply, sent_line, shut_line}
+use Rattle.hex.specs.Hex.{encode_with}
+use Rattle.ll_wire.specs.Response.{first_lines, is_media_response, last_lines}
+use Rattle.ll_script.specs.Answers.{named_reply, sent_line, shut_line, text_reply}
 use Rattle.ll_script.specs.Worked.{WorkedAnswers, WorkedLines}
 
 pub lines : WorkedLines
-unfolding is_utf8 chars encode_utf8 raw_pairs split percent_decode configuration_of
+unfolding is_utf8 chars encode_utf8 raw_pairs split percent_decode configuration_of digits
 lines = record {
   waits = refl;
   any_rendition = refl;
   no_channel = refl;
-  no_playlist = refl;
+  segment = refl;
+  part = refl;
+  no_file = refl;
   part_alone = refl;
   same_number = refl;
   three_words = refl;
@@ -43,5 +47,16 @@ lines = record {
 }
 
 pub answers : WorkedAnswers
-unfolding digits ok_line refusal_line named_reply sent_line shut_line
-answers = record { accepted = refl; refused = refl; late = refl; busy = refl; part_alone = refl; sent = refl; shut = refl }
+unfolding digits ok_line refusal_line named_reply text_reply sent_line shut_line encode_with first_lines last_lines is_media_response
+answers = record {
+  accepted = refl;
+  refused = refl;
+  late = refl;
+  busy = refl;
+  media = refl;
+  no_bytes = refl;
+  part_alone = refl;
+  sent = refl;
+  sent_media = refl;
+  shut = refl;
+}

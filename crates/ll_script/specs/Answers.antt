@@ -1,5 +1,6 @@
 -- The lines that answer the lines of a script. Those that answer a publisher's line are in `ll_publish`.
-use Rattle.std.specs.Prelude.{ℕ, List, ◌++◌, codes, decimal, length}
+use Rattle.std.specs.Prelude.{ℕ, List, [], ◌∷◌, ◌++◌, Bool, true, false, codes, decimal, length}
+use Rattle.hex.specs.Hex.{encode_lower}
 use Rattle.ll_directive.specs.Targets.{status_of, fault_name}
 use Rattle.ll_directive.specs.declared.fault.TargetFault.{TargetFault}
 use Rattle.ll_page.specs.Page.{page_text}
@@ -8,6 +9,7 @@ use Rattle.ll_verdict.specs.declared.reply.Reply.{Reply}
 use Rattle.ll_verdict.specs.declared.reply.Reply.TheVariants as reply
 use Rattle.ll_verdict.specs.Names.{ask_fault_name}
 use Rattle.ll_verdict.specs.declared.fault.AskFault.{AskFault}
+use Rattle.ll_wire.specs.Response.{is_media_response}
 use Rattle.ll_script.specs.declared.clock.ClockRefusal.{ClockRefusal}
 use Rattle.ll_script.specs.declared.clock.ClockRefusal.TheVariants as clock
 
@@ -29,9 +31,13 @@ clock_line r = refusal_line (clock_code r) (clock_name r)
 
 -- ---- requests
 
--- a request gets a text
-unfoldable pub text_reply : ℕ → List ℕ → List ℕ
-text_reply id text = codes "reply " ++ (decimal id ++ (codes " 200 " ++ (decimal (length text) ++ (codes "\n" ++ text))))
+-- a request gets something of this length, which this text tells
+unfoldable pub text_reply : ℕ → ℕ → List ℕ → List ℕ
+text_reply id length text = codes "reply " ++ (decimal id ++ (codes " 200 " ++ (decimal length ++ (codes "\n" ++ text))))
+
+-- the text that tells media: two digits for each byte, and LF
+abbrev pub media_text : List ℕ → List ℕ
+media_text bytes = encode_lower bytes ++ 10 ∷ []
 
 -- a request gets no text, and a status and a name that say why
 unfoldable pub named_reply : ℕ → ℕ → List ℕ → List ℕ
@@ -39,7 +45,8 @@ named_reply id status name = codes "reply " ++ (decimal id ++ (codes " " ++ (dec
 
 -- a request gets the reply of its channel
 abbrev pub reply_lines : ℕ → Reply → List ℕ
-reply_lines id (reply.Text page) = text_reply id (page_text page)
+reply_lines id (reply.Text page) = text_reply id (length (page_text page)) (page_text page)
+reply_lines id (reply.Media piece) = text_reply id (length piece.bytes) (media_text piece.bytes)
 reply_lines id reply.NotFound = named_reply id 404 (codes "NotFound")
 reply_lines id reply.TooFar = named_reply id 400 (codes "TooFar")
 reply_lines id reply.Busy = named_reply id 503 (codes "Busy")
@@ -55,9 +62,17 @@ unasked_line id fault = named_reply id 503 (ask_fault_name fault)
 
 -- ---- connections
 
+abbrev pub ended_by : Bool → List ℕ → List ℕ
+ended_by true bytes = bytes ++ 10 ∷ []
+ended_by false bytes = bytes
+
+-- a response, and LF after media: all others end in LF
+abbrev pub ended : List ℕ → List ℕ
+ended bytes = ended_by (is_media_response bytes) bytes
+
 -- an answer of a connection, with its length
 unfoldable pub sent_line : ℕ → List ℕ → List ℕ
-sent_line number bytes = codes "sent " ++ (decimal number ++ (codes " " ++ (decimal (length bytes) ++ (codes "\n" ++ bytes))))
+sent_line number bytes = codes "sent " ++ (decimal number ++ (codes " " ++ (decimal (length bytes) ++ (codes "\n" ++ ended bytes))))
 
 -- a connection has shut by itself
 unfoldable pub shut_line : ℕ → List ℕ

@@ -1,6 +1,6 @@
 -- The definitions at worked lines: what each means, and how answers are spelled.
-use Rattle.std.specs.Prelude.{◌≡◌, List, ℕ, [], ◌∷◌, Some, None, codes}
-use Rattle.ll_directive.specs.Targets.{WantValue}
+use Rattle.std.specs.Prelude.{◌≡◌, ◌++◌, List, ℕ, [], ◌∷◌, Some, None, codes, true}
+use Rattle.ll_directive.specs.Targets.{WantValue, media_want}
 use Rattle.ll_directive.specs.declared.fault.TargetFault.TheVariants as target
 use Rattle.ll_directive.specs.declared.want.Awaited.{Awaited}
 use Rattle.ll_directive.specs.declared.want.Awaited.TheVariants as awaited
@@ -12,7 +12,11 @@ use Rattle.ll_script.specs.Answers.{clock_line, fault_line, reply_lines, sent_li
 use Rattle.ll_script.specs.Lines.{acts}
 use Rattle.ll_script.specs.declared.act.Act.TheVariants.{Offer, Refuse, Ask, Answer, Close, Clock, RefuseClock, Bytes, Drop}
 use Rattle.ll_script.specs.declared.clock.ClockRefusal.TheVariants as clock
+use Rattle.ll_store.specs.declared.what.What.{What}
+use Rattle.ll_store.specs.declared.what.What.TheVariants as what
+use Rattle.ll_verdict.specs.declared.piece.Piece.{Piece}
 use Rattle.ll_verdict.specs.declared.reply.Reply.TheVariants as reply
+use Rattle.ll_wire.specs.Response.{media_message}
 
 abbrev pub named : List ℕ → Configuration
 named name = record { channel = name; target = 4; part_target = 1000000; skip = 24; window = 36; renditions = codes "hi" ∷ []; first = 0; start = 0 }
@@ -21,9 +25,17 @@ named name = record { channel = name; target = 4; part_target = 1000000; skip = 
 abbrev pub both : List Configuration
 both = named (codes "cam") ∷ named (codes "two") ∷ []
 
--- a request of the second channel for a rendition of this name
+-- a request of the second channel for the playlist of a rendition of this name
 abbrev pub of_two : List ℕ → Awaited → WantValue
-of_two rendition what = record { channel = codes "two"; rendition = rendition; awaited = what; skip = None }
+of_two rendition awaited = record { channel = codes "two"; rendition = rendition; what = what.Playlist; awaited = awaited; skip = None }
+
+-- a request of the second channel for media
+abbrev pub media_of_two : What → WantValue
+media_of_two what = media_want (codes "two") (codes "hi") what
+
+-- media of these bytes
+abbrev pub piece : List ℕ → Piece
+piece bytes = record { bytes = bytes; number = 1; rendition = 0; what = what.Init 0 }
 
 -- what lines mean after the request 6
 pub record WorkedLines : Type 0 where
@@ -31,7 +43,9 @@ pub record WorkedLines : Type 0 where
   -- whether the channel has the rendition isn't looked at
   pub any_rendition : acts both (Some 6) (codes "get 7 /two/lo/live.m3u8") ≡ Some (Ask 7 1 (of_two (codes "lo") awaited.Nothing) ∷ [])
   pub no_channel : acts both (Some 6) (codes "get 7 /three/hi/live.m3u8") ≡ Some (Answer 7 target.NotFound ∷ [])
-  pub no_playlist : acts both (Some 6) (codes "get 7 /two/hi/s0.m4s") ≡ Some (Answer 7 target.NotFound ∷ [])
+  pub segment : acts both (Some 6) (codes "get 7 /two/hi/s0.m4s") ≡ Some (Ask 7 1 (media_of_two (what.Segment 0)) ∷ [])
+  pub part : acts both (Some 6) (codes "get 7 /two/hi/s3.1.m4s") ≡ Some (Ask 7 1 (media_of_two (what.Part 3 1)) ∷ [])
+  pub no_file : acts both (Some 6) (codes "get 7 /two/hi/s00.m4s") ≡ Some (Answer 7 target.NotFound ∷ [])
   pub part_alone : acts both (Some 6) (codes "get 7 /two/hi/live.m3u8?_HLS_part=1") ≡ Some (Answer 7 target.PartAlone ∷ [])
   pub same_number : acts both (Some 6) (codes "get 6 /two/hi/live.m3u8") ≡ None
   pub three_words : acts both (Some 6) (codes "get 7 /two/hi/live.m3u8 now") ≡ None
@@ -62,6 +76,10 @@ pub record WorkedAnswers : Type 0 where
   pub refused : no_line refused.TooLong ≡ codes "no 4 TooLong\n"
   pub late : clock_line clock.ClockRange ≡ codes "no 1 ClockRange\n"
   pub busy : reply_lines 7 reply.Busy ≡ codes "reply 7 503 Busy\n"
+  pub media : reply_lines 7 (reply.Media (piece (1 ∷ 255 ∷ []))) ≡ codes "reply 7 200 2\n01ff\n"
+  pub no_bytes : reply_lines 7 (reply.Media (piece [])) ≡ codes "reply 7 200 0\n\n"
   pub part_alone : fault_line 7 target.PartAlone ≡ codes "reply 7 400 PartAlone\n"
   pub sent : sent_line 7 (codes "HTTP") ≡ codes "sent 7 4\nHTTP"
+  -- LF after media isn't counted
+  pub sent_media : sent_line 7 (media_message (1 ∷ 2 ∷ 3 ∷ []) true) ≡ codes "sent 7 117\n" ++ media_message (1 ∷ 2 ∷ 3 ∷ []) true ++ 10 ∷ []
   pub shut : shut_line 7 ≡ codes "shut 7\n"

@@ -1,12 +1,15 @@
 //! The lines that answer the lines of a script, but for publishers' lines. Each fails only where no memory is found.
-ghost use Rattle.std.specs.Prelude.{◌≡◌, ◌++◌, IfOk, OnOk, decimal, string_bytes};
+ghost use Rattle.std.specs.Prelude.{◌≡◌, ◌++◌, IfOk, OnOk, decimal, length, string_bytes};
 ghost use Rattle.ll_script.specs.Answers as spec;
 
 use crate::clock::ClockRefusal;
+use hex::encode;
 use itoa::Buffer;
 use ll_directive::TargetFault;
 use ll_publish::refusal_line;
+use ll_store::Blocks;
 use ll_verdict::{AskFault, Reply};
+use ll_wire::{is_media_response, push_blocks};
 use std::alloc::{AllocError, Global};
 
 /// A reading of the clock is refused.
@@ -16,13 +19,14 @@ pub fn clock_line(alloc: Global, refusal: ClockRefusal) -> Result<String, AllocE
     refusal_line(alloc, refusal.code(), refusal.name())
 }
 
-/// A request gets the reply of its channel: a playlist or delta update after its length, or a status and a name that say why there is
-/// none.
+/// A request gets the reply of its channel: a playlist or delta update after its length, media in hexadecimal digits after its length, or a
+/// status and a name that say why there is none. It fails too where the bytes of media aren't known.
 pub fn reply_lines(alloc: Global, id: u64, reply: &Reply) -> Result<String, AllocError>
     ensures { IfOk result (λ t. string_bytes t ≡ spec.reply_lines id reply.now) }
 {
     match reply {
-        Reply::Text(page) => text_reply(alloc, id, page.text()),
+        Reply::Text(page) => text_reply(alloc, id, page.text().len() as u64, page.text()),
+        Reply::Media(piece) => media_reply(alloc, id, &piece.bytes),
         Reply::NotFound => named_reply(alloc, id, 404, "NotFound"),
         Reply::TooFar => named_reply(alloc, id, 400, "TooFar"),
         Reply::Busy => named_reply(alloc, id, 503, "Busy"),
@@ -58,8 +62,20 @@ pub fn push_sent(
     text.extend_from_slice(b" ")?;
     push_number(text, (head.len() + body.len()) as u64)?;
     text.extend_from_slice(b"\n")?;
+    push_ended(text, head, body)
+}
+
+/// A response in two pieces, and LF after media.
+fn push_ended(text: &mut Vec<u8>, head: &[u8], body: &[u8]) -> Result<(), AllocError>
+    ensures { OnOk result (text.new.items ≡ text.old.items ++ spec.ended (head.now ++ body.now)) }
+{
+    let start = text.len();
     text.extend_from_slice(head)?;
-    text.extend_from_slice(body)
+    text.extend_from_slice(body)?;
+    if !is_media_response(&text[start..]) {
+        return Ok(());
+    }
+    text.extend_from_slice(b"\n")
 }
 
 /// A connection has shut by itself.
@@ -80,12 +96,30 @@ fn push_number(text: &mut Vec<u8>, number: u64) -> Result<(), AllocError>
     text.extend_from_slice(digits.format(number).as_bytes())
 }
 
-/// A request gets a text.
-#[tactic(auto, unfolding(crate::specs::Answers::text_reply))]
-fn text_reply(alloc: Global, id: u64, text: &str) -> Result<String, AllocError>
-    ensures { IfOk result (λ t. string_bytes t ≡ spec.text_reply id text.now) }
+/// A request gets media.
+fn media_reply(alloc: Global, id: u64, media: &Blocks) -> Result<String, AllocError>
+    ensures { IfOk result (λ t. string_bytes t ≡ spec.text_reply id (length media.now) (spec.media_text media.now)) }
 {
-    let length = text.len();
+    let text = media_text(alloc, media)?;
+    text_reply(alloc, id, media.len(), &text)
+}
+
+/// The text that tells media.
+fn media_text(alloc: Global, media: &Blocks) -> Result<String, AllocError>
+    ensures { IfOk result (λ t. string_bytes t ≡ spec.media_text media.now) }
+{
+    let mut bytes = Vec::new(alloc);
+    push_blocks(&mut bytes, media)?;
+    let mut text = encode(alloc, &bytes)?;
+    text.push_str("\n")?;
+    Ok(text)
+}
+
+/// A request gets something of this length, which this text tells.
+#[tactic(auto, unfolding(crate::specs::Answers::text_reply))]
+fn text_reply(alloc: Global, id: u64, length: u64, text: &str) -> Result<String, AllocError>
+    ensures { IfOk result (λ t. string_bytes t ≡ spec.text_reply id length text.now) }
+{
     format!(in alloc; "reply {id} 200 {length}\n{text}")
 }
 

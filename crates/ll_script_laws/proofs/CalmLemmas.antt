@@ -16,6 +16,7 @@ use Rattle.ll_verdict.specs.declared.reply.Reply.TheVariants.{Busy, TooFar}
 use Rattle.ll_verdict.specs.declared.reply.Reply.TheVariants as now
 use Rattle.ll_verdict.specs.declared.reply.Settled.{Settled}
 use Rattle.ll_verdict.specs.declared.wanted.Wanted.{Wanted}
+use Rattle.ll_verdict.proofs.HintLemmas.{awaited-missing}
 use Rattle.ll_verdict.proofs.ListLemmas.{Each, each-append}
 use Rattle.ll_verdict.proofs.StateLemmas.{state-snoc}
 use Rattle.ll_verdict.proofs.StepLemmas.{along}
@@ -35,10 +36,6 @@ settled_by (Some x) b s h = absurd (none_some x (sym h))
 stays_by : (o : Option Settled) (b : Bool) (s : Settled) → (o ≡ None → b ≡ false) → (if is_none o && b then Some s else o) ≡ o
 stays_by None b s h = ap (λ b. if b then Some s else None) (h refl)
 stays_by (Some x) b s h = refl
-
-waits_by : (x y z : Bool) (p : Paged) → (if x then Some (now.Text p) else if y then Some TooFar else if z then Some Busy else None) ≡ None → x ≡ false
-waits_by true y z p h = cc
-waits_by false y z p h = refl
 
 module _ (c : Configuration) where
   abbrev IsUnripe : List Item → ℕ → Slot → Type 0
@@ -60,8 +57,7 @@ module _ (c : Configuration) where
   new-unripe low n st (Some r) a h = tt
   new-unripe low n st None None h = tt
   new-unripe low n st None (Some a) h =
-      let away : is_there c st.items a ≡ false =
-      waits_by (is_there c st.items a) (far c (own a.rendition st.items) a.awaited) (nat_le 65536 n) (page_of c st.items a) h in
+      let away : is_there c st.items a ≡ false = awaited-missing c n st.items a h in
       let early : nat_le (st.time + 3000 * c.target) st.time ≡ false = grind (arith, nat_tests, low) in
       ((λ none. ap₂ (λ x y. x || y) away early), tt)
 

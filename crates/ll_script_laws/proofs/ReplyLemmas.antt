@@ -1,17 +1,20 @@
 -- What a request gets is the playlist that it wants, of its own moment or of a later one.
-use Rattle.std.proofs.Common.{◌≡◌, ℕ, ◌+◌, ◌<◌, ◌&&◌, ◌||◌, List, [], ◌∷◌, ◌++◌, Bool, true, false, Option, Some, None, length, length-append, refl, ap, sym, subst, ◌∙◌, append-nil, append_assoc, arith, bytes_eq, nat_le, nat_lt, if◌then◌else◌, option_map, option_and_then}
+use Rattle.std.proofs.Common.{◌≡◌, ℕ, ◌+◌, ◌<◌, ◌&&◌, ◌||◌, List, [], ◌∷◌, ◌++◌, Bool, true, false, Option, Some, None, length, length-append, refl, ap, sym, subst, ◌∙◌, append-nil, append_assoc, arith, bytes_eq, not, nat_lt, if◌then◌else◌, option_map, option_and_then}
 use Rattle.std.proofs.lemmas.Bool.Decides.{nat_tests}
 use Rattle.std.proofs.lemmas.List.Quantifiers.{position-Some}
+use Rattle.ll_directive.specs.Files.{is_playlist}
 use Rattle.ll_directive.specs.Targets.{WantValue}
 use Rattle.ll_item.specs.Items.{rendition_named}
 use Rattle.ll_item.specs.Settings.{Configuration}
+use Rattle.ll_item.specs.declared.item.Item.{Item}
 use Rattle.ll_page.specs.Page.{Paged}
 use Rattle.ll_verdict.specs.Events.{Event, Publish, Ask, Collect, Close, Clock, Step, asks, items, until}
-use Rattle.ll_verdict.specs.Verdict.{Request, at_once, closes, comes_after, decided, far, held, held_by, hold_by, is_close, is_there, page_of, reply, reply_at_step, reply_by, reply_of, settles, waiting, wanted_at, wanted_of}
+use Rattle.ll_verdict.specs.Verdict.{Request, at_once, closes, comes_after, decided, far, held, held_by, hold_by, is_busy, is_close, is_hinted, is_there, media_now, media_of, media_or, media_or_none, page_of, playlist_now, reply, reply_at_step, reply_by, reply_of, settles, waiting, wanted_at, wanted_of}
 use Rattle.ll_verdict.specs.declared.reply.Reply.{Reply}
 use Rattle.ll_verdict.specs.declared.reply.Reply.TheVariants.{Busy, TooFar}
 use Rattle.ll_verdict.specs.declared.reply.Reply.TheVariants as now
 use Rattle.ll_verdict.specs.declared.reply.Settled.TheVariants.{Text, Timeout}
+use Rattle.ll_verdict.specs.declared.reply.Settled.TheVariants as settled
 use Rattle.ll_verdict.specs.declared.wanted.Wanted.{Wanted}
 use Rattle.ll_verdict.proofs.LawProofs.{first_state}
 use Rattle.ll_verdict.proofs.ListLemmas.{Each, each-append, each-at, each-map}
@@ -41,6 +44,19 @@ text_by false true z p page h = cc
 text_by false false true p page h = cc
 text_by false false false p page h = cc
 
+media_by : (n : ℕ) (a : Wanted) (o : Option (List ℕ)) (x y : Bool) (p page : Paged)
+    → media_or n a o (if x then Some now.NotFound else if y then Some Busy else None) ≡ Some (now.Text page) → page ≡ p
+media_by n a (Some bytes) x y p page h = cc
+media_by n a None true y p page h = cc
+media_by n a None false true p page h = cc
+media_by n a None false false p page h = cc
+
+text_now : (c : Configuration) (n : ℕ) (list : List Item) (a : Wanted) (page : Paged) (b : Bool)
+    → (if b then playlist_now c n list a else media_now c n list a) ≡ Some (now.Text page) → page ≡ page_of c list a
+text_now c n list a page true h = text_by (is_there c list a) (far c (own a.rendition list) a.awaited) (is_busy n) (page_of c list a) page h
+text_now c n list a page false h =
+    media_by (length list) a (media_of c list a) (not (is_hinted c (own a.rendition list) a.awaited)) (is_busy n) (page_of c list a) page h
+
 text_of : (c : Configuration) (n : ℕ) (events : List Event) (want : WantValue) (page : Paged) (o : Option Wanted) → wanted_of c want ≡ o
     → reply_by c n (items c events) o ≡ Some (now.Text page) → (a : Wanted) × (o ≡ Some a) × IsWanted c events a page
 text_of c n events want page None e h = cc
@@ -49,8 +65,7 @@ text_of c n events want page (Some a) e h = (
   refl,
   record {
     rendition = one-of c want a e;
-    is =
-        text_by (is_there c (items c events) a) (far c (own a.rendition (items c events)) a.awaited) (nat_le 65536 n) (page_of c (items c events) a) page h;
+    is = text_now c n (items c events) a page (is_playlist a.what) h;
   },
 )
 
@@ -111,10 +126,13 @@ comes-after c r s h =
     let lt : length r.before < length s.before = grind (arith, nat_tests) in
     omega (arith, length-append s.before (s.event ∷ []))
 
-settled_by : (x y : Bool) (p page : Paged) → (if x then None else Some (if y then Text p else Timeout)) ≡ Some (Text page) → page ≡ p
-settled_by true y p page h = cc
-settled_by false true p page h = cc
-settled_by false false p page h = cc
+settled_by : (x y z : Bool) (n : ℕ) (a : Wanted) (o : Option (List ℕ)) (p page : Paged)
+    → (if x then None else Some (if y then (if z then Text p else media_or_none n a o) else Timeout)) ≡ Some (Text page) → page ≡ p
+settled_by true y z n a o p page h = cc
+settled_by false true true n a o p page h = cc
+settled_by false true false n a (Some bytes) p page h = cc
+settled_by false true false n a None p page h = cc
+settled_by false false z n a o p page h = cc
 
 by_decision : (c : Configuration) (events : List Event) (r : Request) (page : Paged) (o : Option Step) → decided c events r ≡ o → IsAsked c events r
     → option_and_then (reply_at_step c r) o ≡ Some (Text page)
@@ -125,7 +143,8 @@ by_decision c events r page (Some s) e asked h =
     let f = first_state c events r s e in
     let p = front-has r.before (until s) (Ask asked.0) asked.1 f.rest (sym asked.2 ∙ f.place) (comes-after c r s f.decides) in
     let same : page ≡ page_of c (items c (until s)) r.wanted =
-    settled_by (closes r s) (is_there c (items c (until s)) r.wanted) (page_of c (items c (until s)) r.wanted) page h in (
+    settled_by (closes r s) (is_there c (items c (until s)) r.wanted) (is_playlist r.wanted.what) (length (items c (until s))) r.wanted
+    (media_of c (items c (until s)) r.wanted) (page_of c (items c (until s)) r.wanted) page h in (
       asked.0,
       p.0,
       f.rest,
@@ -146,6 +165,8 @@ later c events place r page h e =
 text-settled : (page : Paged) (o : Option Settled) → option_map reply_of o ≡ Some (now.Text page) → o ≡ Some (Text page)
 text-settled page None h = cc
 text-settled page (Some (Text p)) h = cc
+text-settled page (Some (settled.Media piece)) h = cc
+text-settled page (Some settled.NotFound) h = cc
 text-settled page (Some Timeout) h = cc
 
 pub verdicts : VerdictLaw

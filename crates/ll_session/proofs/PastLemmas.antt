@@ -2,6 +2,7 @@
 use Rattle.std.proofs.Common.{◌≡◌, ℕ, ◌+◌, List, [], ◌∷◌, ◌++◌, Bool, true, false, Option, Some, None, refl, ap, ◌∙◌, sym, subst, arith, length, length-append, append_assoc, append-nil, fold}
 use Rattle.std.specs.Prelude.{◌||◌, if◌then◌else◌, nat_lt}
 use Rattle.ll_directive.specs.Targets.{WantValue}
+use Rattle.ll_wire.proofs.ResponseLemmas.{responds}
 use Rattle.ll_wire.specs.Response.{response_bytes}
 use Rattle.ll_wire.specs.declared.fault.HeadFault.TheVariants.{HeadTooLarge}
 use Rattle.ll_wire.specs.declared.answer.Answer.{Answer}
@@ -10,7 +11,7 @@ use Rattle.ll_session.specs.Requests.{Entry, Wanted, Refused, Faulty, requests}
 use Rattle.ll_session.specs.Talk.{Taking, taking, entries_of, given, kept_of, fed_to, refusals, overflow, most_waiting}
 use Rattle.ll_session.specs.Past.{Call, Feed, Mute, Next, Reply, Send, Past, before_any, called, past, conversation, IsTalk}
 use Rattle.ll_session.proofs.SplitLemmas.{goes_on, wants, taking-splits, taking-right}
-use Rattle.ll_session.proofs.SentLemmas.{HasFirst, Put, put_more, put_sent, responds}
+use Rattle.ll_session.proofs.SentLemmas.{HasFirst, Put, put_more, put_sent}
 
 -- ---- answers
 

@@ -6,8 +6,6 @@ use Rattle.std.proofs.lemmas.Bool.Decides.{nat_tests}
 use Rattle.std.proofs.lemmas.List.{drop-append-le, drop-drop, drop_all, length-take}
 use Rattle.std.proofs.lemmas.List.Folds.{concat-append}
 use Rattle.std.proofs.Math.Seq.{drop-append-add}
-use Rattle.ll_wire.specs.Response.{response_bytes, first_lines, last_lines, lines, status_of, body_of, status_words, content_type, allow_line, kept_word}
-use Rattle.ll_wire.specs.declared.answer.Answer.{Answer}
 use Rattle.ll_session.specs.Output.{unsent}
 
 -- ---- what is left, as bytes
@@ -125,18 +123,3 @@ put_sent n gone answers all p = record {
       ∙ unsent_twice (length (take n (concat answers))) (length gone) all
       ∙ ap (λ k. unsent k all) (sym (length-append gone (take n (concat answers))));
 }
-
--- ---- every answer has a byte
-
-starts : (words kind : List ℕ) (n : ℕ) → 0 < length (first_lines words kind n)
-unfolding first_lines
-starts words kind n = omega arith
-
-longer : (xs ys : List ℕ) → 0 < length xs → 0 < length (xs ++ ys)
-longer xs ys some = omega (arith, length-append xs ys, some)
-
-pub responds : (a : Answer) (keep : Bool) → 0 < length (response_bytes a keep)
-responds a keep =
-    longer (lines (status_of a) (length (body_of a)) keep) (body_of a)
-    (longer (first_lines (status_words (status_of a)) (content_type (status_of a)) (length (body_of a))) (last_lines (allow_line (status_of a)) (kept_word keep))
-    (starts (status_words (status_of a)) (content_type (status_of a)) (length (body_of a))))

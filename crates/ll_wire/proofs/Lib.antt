@@ -3,4 +3,5 @@ pub mod FrontLemmas
 pub mod HeadLemmas
 pub mod PlaceLemmas
 pub mod ReadLemmas
+pub mod ResponseLemmas
 pub mod ValidLemmas

@@ -1,7 +1,8 @@
--- The laws of heads.
-use Rattle.std.specs.Prelude.{◌≡◌, ℕ, ◌<◌, ◌≤◌, ◌⊎◌, List, ◌++◌, length, take}
+-- The laws of heads and of responses.
+use Rattle.std.specs.Prelude.{◌≡◌, ℕ, ◌<◌, ◌≤◌, ◌⊎◌, List, ◌++◌, Bool, true, false, length, take}
 use Rattle.httparse.specs.Grammar.{RequestHead, ReadsRequest, HasNoRequest, NeverHasRequest, MayBecomeRequest, EndsInTarget}
 use Rattle.ll_wire.specs.declared.fault.HeadFault.TheVariants.{BadHead}
+use Rattle.ll_wire.specs.Response.{is_media_response, media_message, message}
 use Rattle.ll_wire.specs.Heads.{RequestValue, Unfinished, Whole, Fault, most_bytes, unfinished, judged, head_of}
 
 -- bytes that follow change what stands at the front only where that is unfinished
@@ -27,3 +28,10 @@ PartsAreUnfinished = (bytes : List ℕ) → HasNoRequest (first_bytes bytes) →
 -- else no request begins so
 abbrev pub OthersAreBad : Type 0
 OthersAreBad = (bytes : List ℕ) → NeverHasRequest (first_bytes bytes) → ¬ (EndsInTarget (first_bytes bytes)) → head_of bytes ≡ Fault BadHead
+
+-- the first bytes of a response tell whether it is one with media
+abbrev pub MediaIsTold : Type 0
+MediaIsTold = (bytes : List ℕ) (keep : Bool) → is_media_response (media_message bytes keep) ≡ true
+
+abbrev pub OthersAreTold : Type 0
+OthersAreTold = (status : ℕ) (body : List ℕ) (keep : Bool) → is_media_response (message status body keep) ≡ false

@@ -1,11 +1,12 @@
 -- The response with an answer (RFC 9112, section 4).
 use Rattle.std.specs.Prelude.{ℕ, List, [], ◌∷◌, ◌++◌, Bool, true, false, ◌==◌, if◌then◌else◌, codes, decimal, length}
+use Rattle.std.specs.List.{starts_with}
 use Rattle.ll_page.specs.Page.{page_text}
 use Rattle.ll_directive.specs.Targets.{fault_name}
 use Rattle.ll_directive.specs.Targets as target
 use Rattle.ll_verdict.specs.Names.{ask_fault_name}
 use Rattle.ll_verdict.specs.declared.reply.Reply.{Reply}
-use Rattle.ll_verdict.specs.declared.reply.Reply.TheVariants.{Text, NotFound, TooFar, Busy, Timeout}
+use Rattle.ll_verdict.specs.declared.reply.Reply.TheVariants.{Text, Media, NotFound, TooFar, Busy, Timeout}
 use Rattle.ll_wire.specs.declared.fault.HeadFault.{HeadFault}
 use Rattle.ll_wire.specs.declared.fault.HeadFault.TheVariants.{BadHead, HeadTooLarge, BadHost, BadMethod, BadBody}
 use Rattle.ll_wire.specs.declared.answer.Answer.{Answer}
@@ -27,6 +28,7 @@ head_fault_name BadBody = codes "BadBody"
 
 abbrev pub reply_status : Reply → ℕ
 reply_status (Text page) = 200
+reply_status (Media piece) = 200
 reply_status NotFound = 404
 reply_status TooFar = 400
 reply_status Busy = 503
@@ -46,12 +48,13 @@ named name = name ++ 10 ∷ []
 
 abbrev pub reply_body : Reply → List ℕ
 reply_body (Text page) = page_text page
+reply_body (Media piece) = piece.bytes
 reply_body NotFound = named (codes "NotFound")
 reply_body TooFar = named (codes "TooFar")
 reply_body Busy = named (codes "Busy")
 reply_body Timeout = named (codes "Timeout")
 
--- the playlist, or the name of the refusal and LF
+-- the playlist or the media, or the name of the refusal and LF
 abbrev pub body_of : Answer → List ℕ
 body_of (answer.Reply reply) = reply_body reply
 body_of (answer.Unavailable reason) = named (ask_fault_name reason)
@@ -87,17 +90,40 @@ first_lines words kind length =
     codes "HTTP/1.1 " ++ (words ++ (codes "\r\nContent-Type: " ++ (kind ++ (codes "\r\nContent-Length: " ++ (decimal length ++ codes "\r\n")))))
 
 -- the other fields and the empty line
-unfoldable pub last_lines : List ℕ → List ℕ → List ℕ
-last_lines allow kept = codes "Cache-Control: no-cache\r\n" ++ (allow ++ (codes "Connection: " ++ (kept ++ codes "\r\n\r\n")))
+unfoldable pub last_lines : List ℕ → List ℕ → List ℕ → List ℕ
+last_lines caching allow kept = codes "Cache-Control: " ++ (caching ++ (codes "\r\n" ++ (allow ++ (codes "Connection: " ++ (kept ++ codes "\r\n\r\n")))))
+
+-- ---- a response that isn't media, which nobody may use again
 
 -- all that stands before a body of this length
 abbrev pub lines : ℕ → ℕ → Bool → List ℕ
-lines status length keep = first_lines (status_words status) (content_type status) length ++ last_lines (allow_line status) (kept_word keep)
+lines status length keep = first_lines (status_words status) (content_type status) length ++ last_lines (codes "no-cache") (allow_line status) (kept_word keep)
 
 -- a response with this status and body
 abbrev pub message : ℕ → List ℕ → Bool → List ℕ
 message status body keep = lines status (length body) keep ++ body
 
+-- ---- a response with media, which may be used again for a minute
+
+-- all that stands before so many bytes of media
+abbrev pub media_lines : ℕ → Bool → List ℕ
+media_lines length keep = first_lines (codes "200 OK") (codes "video/mp4") length ++ last_lines (codes "max-age=60") [] (kept_word keep)
+
+-- a response with these bytes of media
+abbrev pub media_message : List ℕ → Bool → List ℕ
+media_message bytes keep = media_lines (length bytes) keep ++ bytes
+
+-- whether a response is one with media: its first two lines tell
+unfoldable pub is_media_response : List ℕ → Bool
+is_media_response bytes = starts_with (λ a b. a == b) bytes (codes "HTTP/1.1 200 OK\r\nContent-Type: video/mp4\r\n")
+
+-- ---- any response
+
+abbrev pub reply_bytes : Reply → Bool → List ℕ
+reply_bytes (Media piece) keep = media_message piece.bytes keep
+reply_bytes reply keep = message (reply_status reply) (reply_body reply) keep
+
 -- the bytes of the response
 abbrev pub response_bytes : Answer → Bool → List ℕ
-response_bytes answer keep = message (status_of answer) (body_of answer) keep
+response_bytes (answer.Reply reply) keep = reply_bytes reply keep
+response_bytes other keep = message (status_of other) (body_of other) keep

@@ -1,5 +1,5 @@
-//! Laws of heads, each the contract of an empty function.
-ghost use Rattle.ll_wire.specs.Laws.{HeadStays, HeadsAreJudged, OthersAreBad, PartsAreUnfinished, WholeWithin};
+//! Laws of heads and of responses, each the contract of an empty function.
+ghost use Rattle.ll_wire.specs.Laws.{HeadStays, HeadsAreJudged, MediaIsTold, OthersAreBad, OthersAreTold, PartsAreUnfinished, WholeWithin};
 
 /// Bytes that follow change what stands at the front only where that is unfinished, and a request's head lies in its bytes.
 pub fn heads_stay_law()
@@ -14,4 +14,10 @@ pub fn grammar_law()
     ensures heads { HeadsAreJudged }
     ensures parts { PartsAreUnfinished }
     ensures others { OthersAreBad }
+{}
+
+/// The first bytes of a response tell whether it is one with media.
+pub fn media_law()
+    ensures media { MediaIsTold }
+    ensures others { OthersAreTold }
 {}

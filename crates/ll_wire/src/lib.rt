@@ -7,6 +7,7 @@ mod fault;
 mod fields;
 mod head;
 mod laws;
+mod media;
 mod message;
 mod place;
 
@@ -14,5 +15,6 @@ pub use answer::Answer;
 pub use body::{Body, Message};
 pub use fault::HeadFault;
 pub use head::{Head, Request, next_head};
-pub use laws::{grammar_law, heads_stay_law};
+pub use laws::{grammar_law, heads_stay_law, media_law};
+pub use media::{is_media_response, push_blocks};
 pub use message::response;

@@ -6,12 +6,15 @@ ghost use Rattle.ll_wire.specs.Response as spec;
 
 use crate::answer::Answer;
 use crate::body::{Body, Message};
+use crate::media::push_blocks;
 use ll_page::Page;
+use ll_store::Blocks;
 use ll_verdict::Reply;
 use std::alloc::{AllocError, Global};
 
 /// The response with this answer (RFC 9112, section 4), which tells whether the connection is kept. Its body is the playlist, which
-/// it shares with the answer, or the name of the refusal and LF. It fails only where no memory is found.
+/// it shares with the answer, the media, or the name of the refusal and LF. It fails only where no memory is found, or where the bytes
+/// of media aren't known.
 pub fn response(alloc: Global, answer: &Answer, keep: bool) -> Result<Message, AllocError>
     ensures { IfOk result (λ message. bytes_of message ≡ spec.response_bytes answer.now keep) }
 {
@@ -25,10 +28,11 @@ pub fn response(alloc: Global, answer: &Answer, keep: bool) -> Result<Message, A
 
 /// The response with what a channel gives.
 fn reply_response(alloc: Global, reply: &Reply, keep: bool) -> Result<Message, AllocError>
-    ensures { IfOk result (λ message. bytes_of message ≡ spec.message (spec.reply_status reply.now) (spec.reply_body reply.now) keep) }
+    ensures { IfOk result (λ message. bytes_of message ≡ spec.reply_bytes reply.now keep) }
 {
     match reply {
         Reply::Text(page) => playlist(alloc, page, keep),
+        Reply::Media(piece) => media(alloc, &piece.bytes, keep),
         Reply::NotFound => refusal(alloc, 404, "NotFound", keep),
         Reply::TooFar => refusal(alloc, 400, "TooFar", keep),
         Reply::Busy => refusal(alloc, 503, "Busy", keep),
@@ -44,6 +48,18 @@ fn playlist(alloc: Global, page: &Page, keep: bool) -> Result<Message, AllocErro
     Ok(Message {
         head: head.into_bytes(),
         body: Body::Playlist(page.again()?),
+    })
+}
+
+/// The response with media, of which it has a copy.
+fn media(alloc: Global, bytes: &Blocks, keep: bool) -> Result<Message, AllocError>
+    ensures { IfOk result (λ message. bytes_of message ≡ spec.media_message bytes.now keep) }
+{
+    let mut head = media_head(alloc, bytes.len(), keep)?.into_bytes();
+    push_blocks(&mut head, bytes)?;
+    Ok(Message {
+        head,
+        body: Body::Nothing,
     })
 }
 
@@ -64,14 +80,28 @@ fn refusal(alloc: Global, status: u16, name: &str, keep: bool) -> Result<Message
 fn head(alloc: Global, status: u16, length: usize, keep: bool) -> Result<String, AllocError>
     ensures { IfOk result (λ text. string_bytes text ≡ spec.lines status length keep) }
 {
-    let mut text = first_lines(alloc, status_words(status), content_type(status), length)?;
-    push_last_lines(&mut text, allow_line(status), kept_word(keep))?;
+    let mut text = first_lines(
+        alloc,
+        status_words(status),
+        content_type(status),
+        length as u64,
+    )?;
+    push_last_lines(&mut text, "no-cache", allow_line(status), kept_word(keep))?;
+    Ok(text)
+}
+
+/// All that stands before so many bytes of media.
+fn media_head(alloc: Global, length: u64, keep: bool) -> Result<String, AllocError>
+    ensures { IfOk result (λ text. string_bytes text ≡ spec.media_lines length keep) }
+{
+    let mut text = first_lines(alloc, "200 OK", "video/mp4", length)?;
+    push_last_lines(&mut text, "max-age=60", "", kept_word(keep))?;
     Ok(text)
 }
 
 /// The status line and the first fields.
 #[tactic(auto, unfolding(crate::specs::Response::first_lines))]
-fn first_lines(alloc: Global, words: &str, kind: &str, length: usize) -> Result<String, AllocError>
+fn first_lines(alloc: Global, words: &str, kind: &str, length: u64) -> Result<String, AllocError>
     ensures { IfOk result (λ text. string_bytes text ≡ spec.first_lines words.now kind.now length) }
 {
     format!(in alloc; "HTTP/1.1 {words}\r\nContent-Type: {kind}\r\nContent-Length: {length}\r\n")
@@ -79,12 +109,17 @@ fn first_lines(alloc: Global, words: &str, kind: &str, length: usize) -> Result<
 
 /// Adds the other fields and the empty line.
 #[tactic(auto, unfolding(crate::specs::Response::last_lines))]
-fn push_last_lines(text: &mut String, allow: &str, kept: &str) -> Result<(), AllocError>
-    ensures { OnOk result (string_bytes text.new ≡ string_bytes text.old ++ spec.last_lines allow.now kept.now) }
+fn push_last_lines(
+    text: &mut String,
+    caching: &str,
+    allow: &str,
+    kept: &str,
+) -> Result<(), AllocError>
+    ensures { OnOk result (string_bytes text.new ≡ string_bytes text.old ++ spec.last_lines caching.now allow.now kept.now) }
 {
     write!(
         text,
-        "Cache-Control: no-cache\r\n{allow}Connection: {kept}\r\n\r\n"
+        "Cache-Control: {caching}\r\n{allow}Connection: {kept}\r\n\r\n"
     )
 }
 
