@@ -3,7 +3,7 @@ ghost use Rattle.std.specs.Prelude.{◌≡◌};
 ghost use Rattle.ll_verdict.specs.Waiting.{AreBelow};
 
 use ll_book::{Book, Pages, ParkFault, Release, Released, release_law};
-use ll_directive::Awaited;
+use ll_directive::{Awaited, What};
 use ll_item::{Item, Payload, Settings};
 use ll_page::{Rendition, Shown};
 use ll_range::Ranges;
@@ -61,6 +61,7 @@ impl Kept {
             ticket,
             wanted: Wanted {
                 rendition,
+                what: What::Playlist,
                 awaited,
                 form: None,
             },
@@ -79,7 +80,7 @@ impl Kept {
         pages: &mut Pages,
     ) -> Result<(usize, Released), AllocError> {
         release_law();
-        let holders = self.book.holders(alloc, which, pages)?;
+        let holders = self.book.holders(alloc, which, pages, &None)?;
         let looked = holders.looked();
         let released = match which {
             Release::Part(rendition, msn, part) => {

@@ -108,6 +108,8 @@ fn take_row(rows: &mut Vec<Row>, ticket: u64) -> &'static str {
 fn name(settled: Option<Settled>) -> &'static str {
     match settled {
         Some(Settled::Text(_)) => "text",
+        Some(Settled::Media(_)) => "media",
+        Some(Settled::NotFound) => "notfound",
         Some(Settled::Timeout) => "timeout",
         None => "",
     }

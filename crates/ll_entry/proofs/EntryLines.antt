@@ -1,9 +1,10 @@
 -- The line of an entry is read as that entry, in the format that is written; and the fields of a line are read again in each format.
-use Rattle.std.proofs.Common.{◌≡◌, ℕ, ◌≤◌, ◌++◌, List, [], true, false, Option, Some, None, Ok, refl, ap, sym, subst, ◌∙◌, codes, decimal, length, bytes_eq, arith, if◌then◌else◌}
+use Rattle.std.proofs.Common.{◌≡◌, ℕ, ◌≤◌, ◌++◌, List, [], true, false, Option, Some, None, Ok, refl, ap, ap₂, sym, subst, ◌∙◌, codes, decimal, length, bytes_eq, arith, if◌then◌else◌}
 use Rattle.std.proofs.lemmas.Bool.{and_from}
 use Rattle.std.proofs.lemmas.List.{append-nil, length-replicate}
 use Rattle.ll_attr.specs.declared.attributes.Attribute.{Attribute}
-use Rattle.ll_directive.specs.Targets.{WantValue}
+use Rattle.ll_directive.specs.Files.{is_playlist}
+use Rattle.ll_directive.specs.Targets.{WantValue, awaits, media_want}
 use Rattle.ll_directive.specs.declared.want.Awaited.{Awaited}
 use Rattle.ll_directive.specs.declared.want.Awaited.TheVariants.{Nothing, Segment, Part}
 use Rattle.ll_format.specs.Format.{◌>>=◌, Format, up_to}
@@ -18,12 +19,14 @@ use Rattle.ll_item.proofs.WithinLimits.{within}
 use Rattle.ll_item.specs.declared.item.Item.{Item}
 use Rattle.ll_item.specs.declared.item.Item.TheVariants as item
 use Rattle.ll_entry.specs.ItemLines.{IsWritable, item_line, part_line, init_line, break_line, end_line, range_line, unrange_line, flags_text, name_of}
+use Rattle.ll_store.specs.declared.what.What.{What}
+use Rattle.ll_store.specs.declared.what.What.TheVariants as what
 use Rattle.ll_verdict.specs.declared.reply.Outcome.{Outcome}
-use Rattle.ll_entry.specs.Entries.{reply_fields, place_fields, ask_fields, collect_fields, want_by, ask_of, collect_of, counted, entry_by, item_text, measured, media, publish_by, published, with_key, entry_in}
+use Rattle.ll_entry.specs.Entries.{reply_fields, place_fields, ask_fields, media_fields, file_fields, collect_fields, want_by, where_named, ask_of, media_in, media_of as request_of, collect_of, counted, entry_by, item_text, measured, media, publish_by, published, entry_in}
 use Rattle.ll_entry.specs.Blank.{blank_entry}
 use Rattle.ll_entry.specs.Laws.{EntryLaw}
-use Rattle.ll_entry.specs.Lines.{msn_of, part_of, ask_values, counted_line, entry_line, published_line, AwaitedWithin, IsSpelled}
-use Rattle.ll_entry.specs.Replies.{most, count, or_dash, WithinDash, OutcomeWithin, awaited_of}
+use Rattle.ll_entry.specs.Lines.{msn_of, part_of, ask_values, asked_line, media_values, counted_line, entry_line, published_line, AwaitedWithin, IsSpelled, WhatWithin}
+use Rattle.ll_entry.specs.Replies.{most, count, or_dash, FileWithin, WithinDash, OutcomeWithin, awaited_of, with_key}
 use Rattle.ll_entry.specs.Frame.{last_line}
 use Rattle.ll_entry.specs.declared.entry.Recorded.{Recorded}
 use Rattle.ll_entry.specs.declared.entry.Recorded.TheVariants.{Publish, Ask, Clock, Collect, Close}
@@ -31,15 +34,18 @@ use Rattle.ll_entry.specs.declared.version.Version.{Version}
 use Rattle.ll_entry.specs.declared.version.Version.TheVariants.{Two}
 use Rattle.ll_attr.specs.Words.{words}
 use Rattle.ll_entry.proofs.Cuts.{uncut}
+use Rattle.ll_entry.proofs.FileLaws.{file-laws, file-word}
 use Rattle.ll_entry.proofs.ItemBack.{item_back}
 use Rattle.ll_entry.proofs.Numbers.{number-word}
 use Rattle.ll_format.proofs.WordLaws.{number-laws}
 use Rattle.ll_entry.proofs.ReplyLaws.{count-laws, count-lacks, count-within, name-laws, name-lacks, or_dash-laws, or_dash-lacks, spaced-laws, update-laws, update-lacks, update-within, outcome-laws, or_held-laws}
 
 -- the line is read as the entry without its bytes, is one line, and isn't the last one of a chunk
+abbrev IsLineOf : Configuration → Recorded → List ℕ → Type 0
+IsLineOf c entry line = (entry_in Two c line ≡ Ok (blank_entry entry)) × (is_one_line line ≡ true) × (bytes_eq line last_line ≡ false)
+
 abbrev pub IsReadAgain : Configuration → Recorded → Type 0
-IsReadAgain c entry =
-    (entry_in Two c (entry_line c entry) ≡ Ok (blank_entry entry)) × (is_one_line (entry_line c entry) ≡ true) × (bytes_eq (entry_line c entry) last_line ≡ false)
+IsReadAgain c entry = IsLineOf c entry (entry_line c entry)
 
 -- ---- fields
 
@@ -57,6 +63,12 @@ place_fields-laws v = spaced-laws dash_first (spaced-laws dash_first (reply_fiel
 
 ask_fields-laws : (v : Version) → FormatLaws (ask_fields v)
 ask_fields-laws v = spaced-laws count_first (spaced-laws (up_to-laws 32 name-laws name-lacks) (place_fields-laws v))
+
+file_fields-laws : FormatLaws file_fields
+file_fields-laws = spaced-laws (up_to-laws 32 file-laws (λ x h. (file-word x h).spaceless)) (to_end-laws (or_held-laws Two))
+
+media_fields-laws : FormatLaws media_fields
+media_fields-laws = spaced-laws count_first (spaced-laws (up_to-laws 32 name-laws name-lacks) file_fields-laws)
 
 collect_fields-laws : (v : Version) → FormatLaws (collect_fields v)
 collect_fields-laws v = spaced-laws count_first (to_end-laws (outcome-laws v))
@@ -82,31 +94,74 @@ awaited_again Nothing = refl
 awaited_again (Segment msn) = refl
 awaited_again (Part msn part) = refl
 
+named_again : (c : Configuration) (rendition : List ℕ) (want : WantValue) → is_name c.channel ≡ true → is_name rendition ≡ true
+    → where_named c rendition want ≡ Some want
+named_again c rendition want named is = ap (λ b. if b then Some want else None) (and_from (is_name c.channel) (is_name rendition) named is)
+
+-- a request with this instead
+abbrev with_all : WantValue → List ℕ → What → WantValue
+with_all want channel what = record want { channel = channel; what = what }
+
 want_again : (c : Configuration) (want : WantValue) → is_name c.channel ≡ true → want.channel ≡ c.channel → is_name want.rendition ≡ true
-    → want_by c want.rendition want.skip want.awaited ≡ Some want
-want_again c want named same is =
-    ap (λ b. if b then Some (record { channel = c.channel; rendition = want.rendition; awaited = want.awaited; skip = want.skip }) else None)
-    (and_from (is_name c.channel) (is_name want.rendition) named is)
-    ∙ ap (λ channel. Some (record { channel = channel; rendition = want.rendition; awaited = want.awaited; skip = want.skip })) (sym same)
+    → want.what ≡ what.Playlist → want_by c want.rendition want.skip want.awaited ≡ Some want
+want_again c want named same is list =
+    named_again c want.rendition (with_all want c.channel what.Playlist) named is
+    ∙ ap₂ (λ channel what. Some (with_all want channel what)) (sym same) (sym list)
 
 ask_within : (c : Configuration) (ask : ℕ) (want : WantValue) (reply : Option Outcome) → IsSpelled c (Ask ask want reply)
     → (ask_fields Two).Within (ask_values ask want reply)
-ask_within c ask want reply (small, same, is, awaited, told) =
+ask_within c ask want reply (small, (same, is, awaited, file, plain), told) =
     (small, (is, (msn_within want.awaited awaited, (part_within want.awaited awaited, (update-within want.skip, told)))))
 
-ask_again : (c : Configuration) (ask : ℕ) (want : WantValue) (reply : Option Outcome) → is_name c.channel ≡ true → IsSpelled c (Ask ask want reply)
-    → IsReadAgain c (Ask ask want reply)
-ask_again c ask want reply named h =
+playlist_again : (c : Configuration) (ask : ℕ) (want : WantValue) (reply : Option Outcome) → is_name c.channel ≡ true → IsSpelled c (Ask ask want reply)
+    → want.what ≡ what.Playlist → IsLineOf c (Ask ask want reply) (asked_line true ask want reply)
+playlist_again c ask want reply named h list =
     let values = ask_values ask want reply in
     let text = (ask_fields Two).print values in
     let all = ask_within c ask want reply h in (
       ap (λ t. with_key t (λ text. entry_by ((ask_fields Two).read text >>= ask_of Two c)) (entry_by None)) (key_again (codes "A ") text)
           ∙ ap (λ r. entry_by (r >>= ask_of Two c)) (alone (ask_fields-laws Two) values all refl)
           ∙ ap (λ r. entry_by (r >>= want_by c want.rendition want.skip >>= λ want. Some (Ask ask want reply))) (awaited_again want.awaited)
-          ∙ ap (λ r. entry_by (r >>= λ want. Some (Ask ask want reply))) (want_again c want named h.1 h.2),
+          ∙ ap (λ r. entry_by (r >>= λ want. Some (Ask ask want reply))) (want_again c want named h.1.0 h.1.1 list),
       inside_both (codes "A ") text refl ((ask_fields-laws Two).inside values all),
       refl,
     )
+
+-- ---- requests for media
+
+media_want_again : (c : Configuration) (want : WantValue) → is_name c.channel ≡ true → want.channel ≡ c.channel → is_name want.rendition ≡ true
+    → (want.awaited ≡ awaits want.what) × (want.skip ≡ None) → where_named c want.rendition (media_want c.channel want.rendition want.what) ≡ Some want
+media_want_again c want named same is plain =
+    named_again c want.rendition (media_want c.channel want.rendition want.what) named is
+    ∙ ap₂ (λ awaited skip. Some (record want { channel = c.channel; awaited = awaited; skip = skip })) (sym plain.0) (sym plain.1)
+    ∙ ap (λ channel. Some (record want { channel = channel })) (sym same)
+
+media_again : (c : Configuration) (ask : ℕ) (want : WantValue) (reply : Option Outcome) → is_name c.channel ≡ true → IsSpelled c (Ask ask want reply)
+    → FileWithin want.what → is_playlist want.what ≡ false → IsLineOf c (Ask ask want reply) (asked_line false ask want reply)
+media_again c ask want reply named (small, (same, is, awaited, file, plain), told) within other =
+    let values = media_values ask want reply in
+    let text = media_fields.print values in
+    let all : media_fields.Within values = (small, (is, (within, told))) in (
+      ap (λ t. with_key t (λ text. entry_by (media_in Two c text)) (entry_by None)) (key_again (codes "M ") text)
+          ∙ ap (λ r. entry_by (r >>= request_of c)) (alone media_fields-laws values all refl)
+          ∙ ap (λ r. entry_by (r >>= λ want. Some (Ask ask want reply))) (media_want_again c want named same is (plain other)),
+      inside_both (codes "M ") text refl (media_fields-laws.inside values all),
+      refl,
+    )
+
+ask_by : (c : Configuration) (ask : ℕ) (want : WantValue) (reply : Option Outcome) (x : What) → is_name c.channel ≡ true → IsSpelled c (Ask ask want reply)
+    → want.what ≡ x → WhatWithin x → IsLineOf c (Ask ask want reply) (asked_line (is_playlist x) ask want reply)
+ask_by c ask want reply what.Playlist named h is within = playlist_again c ask want reply named h is
+ask_by c ask want reply (what.Segment n) named h is within =
+    media_again c ask want reply named h (subst FileWithin (sym is) within) (ap is_playlist is)
+ask_by c ask want reply (what.Part n i) named h is within =
+    media_again c ask want reply named h (subst FileWithin (sym is) within) (ap is_playlist is)
+ask_by c ask want reply (what.Init n) named h is within =
+    media_again c ask want reply named h (subst FileWithin (sym is) within) (ap is_playlist is)
+
+ask_again : (c : Configuration) (ask : ℕ) (want : WantValue) (reply : Option Outcome) → is_name c.channel ≡ true → IsSpelled c (Ask ask want reply)
+    → IsReadAgain c (Ask ask want reply)
+ask_again c ask want reply named h = ask_by c ask want reply want.what named h refl h.1.3
 
 -- ---- the other entries
 

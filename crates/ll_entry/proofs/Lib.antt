@@ -4,7 +4,9 @@ pub mod ChainLemmas
 pub mod ChunkProof
 pub mod Cuts
 pub mod EntryLines
+pub mod FileLaws
 pub mod ItemBack
+pub mod ItemBlanks
 pub mod LeadLemmas
 pub mod Names
 pub mod Numbers
@@ -12,6 +14,7 @@ pub mod RangeLine
 pub mod RangeTexts
 pub mod ReplyLaws
 pub mod SettingsBack
+pub mod StoreBlanks
 pub mod ToldLemmas
 pub mod WritableProof
 pub mod Written

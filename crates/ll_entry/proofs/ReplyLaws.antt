@@ -10,10 +10,10 @@ use Rattle.ll_format.proofs.FormatLaws.{FormatLaws, WordLaws, after_key-laws, be
 use Rattle.ll_format.proofs.WordLaws.{number-laws, number-lacks, text_if-laws, lacks_from, inside_from}
 use Rattle.ll_item.specs.Names.{is_name, is_name_byte}
 use Rattle.ll_verdict.specs.declared.reply.Outcome.{Outcome}
-use Rattle.ll_verdict.specs.declared.reply.Outcome.TheVariants.{Text, NotFound, TooFar, Busy, Timeout}
+use Rattle.ll_verdict.specs.declared.reply.Outcome.TheVariants.{Text, Media, NotFound, TooFar, Busy, Timeout}
 use Rattle.ll_item.specs.declared.skip_kind.SkipKind.{SkipKind}
 use Rattle.ll_item.specs.declared.skip_kind.SkipKind.TheVariants.{Yes, V2}
-use Rattle.ll_entry.specs.Replies.{most, count, count_alone, name, or_dash, or_dash_text, WithinDash, kind, kind_name, update, playlist, spaced, outcome, outcome_text, OutcomeWithin, or_held, or_held_text, HeldWithin}
+use Rattle.ll_entry.specs.Replies.{most, count, count_alone, counted_reply, counts, name, no_word, with_key, or_dash, or_dash_text, WithinDash, kind, kind_name, update, playlist, spaced, outcome, outcome_text, OutcomeWithin, or_held, or_held_text, HeldWithin}
 use Rattle.ll_entry.specs.declared.version.Version.{Version}
 use Rattle.ll_entry.specs.declared.version.Version.TheVariants.{One, Two}
 
@@ -131,6 +131,15 @@ playlist-laws : (v : Version) → WordLaws (playlist v)
 playlist-laws One = count_alone-laws
 playlist-laws Two = whole-laws (spaced-laws (up_to-laws 32 count-laws count-lacks) (to_end-laws update-laws)) (λ p. refl)
 
+-- ---- media
+
+no_word-laws : {A : Type 0} → WordLaws {A = A} no_word
+no_word-laws = record { takes = λ text x e. absurd cc; again = λ x h. absurd h; inside = λ x h. absurd h }
+
+counts-laws : (v : Version) → WordLaws (counts v)
+counts-laws One = no_word-laws
+counts-laws Two = whole-laws (spaced-laws (up_to-laws 32 count-laws count-lacks) (to_end-laws count-laws)) (λ p. refl)
+
 -- ---- what a reply comes to
 
 abbrev IsTold : Version → List ℕ → Outcome → Type 0
@@ -141,18 +150,36 @@ is_told : (v : Version) (text key : List ℕ) (first : Outcome) (other : Option 
 is_told v text key first other o is within more e =
     tested_by (IsTold v text) (bytes_eq text key) first other o (λ same. ((bytes_eq-Decides text key).0 same ∙ is, within)) (λ none rest. more rest) e
 
-text_told : (v : Version) (text : List ℕ) (o : Outcome) → (after (codes "text ") text >>= (playlist v).read >>= λ p. Some (Text p.0 p.1)) ≡ Some o
+text_told : (v : Version) (text rest : List ℕ) (o : Outcome) → after (codes "text ") text ≡ Some rest
+    → ((playlist v).read rest >>= λ p. Some (Text p.0 p.1)) ≡ Some o → IsTold v text o
+text_told v text rest o is e =
+    let b = bind_some ((playlist v).read rest) (λ p. Some (Text p.0 p.1)) o e in
+    let t = (playlist-laws v).takes rest b.0 b.1 in
+    subst (IsTold v text) (some_is (Text b.0.0 b.0.1) o b.2) (key_takes (codes "text ") text rest is ∙ ap (λ t. codes "text " ++ t) t.0, t.1)
+
+media_told : (v : Version) (text rest : List ℕ) (o : Outcome) → after (codes "media ") text ≡ Some rest
+    → ((counts v).read rest >>= λ p. Some (Media p.0 p.1)) ≡ Some o → IsTold v text o
+media_told v text rest o is e =
+    let b = bind_some ((counts v).read rest) (λ p. Some (Media p.0 p.1)) o e in
+    let t = (counts-laws v).takes rest b.0 b.1 in
+    subst (IsTold v text) (some_is (Media b.0.0 b.0.1) o b.2) (key_takes (codes "media ") text rest is ∙ ap (λ t. codes "media " ++ t) t.0, t.1)
+
+counted_by : (v : Version) (text : List ℕ) (first second : Option (List ℕ)) (o : Outcome) → after (codes "text ") text ≡ first
+    → after (codes "media ") text ≡ second
+    → with_key first (λ rest. (playlist v).read rest >>= λ p. Some (Text p.0 p.1))
+    (with_key second (λ rest. (counts v).read rest >>= λ p. Some (Media p.0 p.1)) None) ≡ Some o
     → IsTold v text o
-text_told v text o e =
-    let b = bind_some (after (codes "text ") text >>= (playlist v).read) (λ p. Some (Text p.0 p.1)) o e in
-    let a = bind_some (after (codes "text ") text) (playlist v).read b.0 b.1 in
-    let t = (playlist-laws v).takes a.0 b.0 a.2 in
-    subst (IsTold v text) (some_is (Text b.0.0 b.0.1) o b.2) (key_takes (codes "text ") text a.0 a.1 ∙ ap (λ t. codes "text " ++ t) t.0, t.1)
+counted_by v text (Some rest) second o is other e = text_told v text rest o is e
+counted_by v text None (Some rest) o none is e = media_told v text rest o is e
+counted_by v text None None o none other e = absurd cc
 
 outcome_again : (v : Version) (o : Outcome) → OutcomeWithin v o → (outcome v).read (outcome_text v o) ≡ Some o
 outcome_again v (Text n u) h =
-    ap (λ r. r >>= (playlist v).read >>= λ p. Some (Text p.0 p.1)) (key_again (codes "text ") ((playlist v).print (n, u)))
+    ap (λ r. with_key r (λ rest. (playlist v).read rest >>= λ p. Some (Text p.0 p.1)) None) (key_again (codes "text ") ((playlist v).print (n, u)))
     ∙ ap (λ r. r >>= λ p. Some (Text p.0 p.1)) ((playlist-laws v).again (n, u) h)
+outcome_again v (Media n size) h =
+    ap (λ r. with_key r (λ rest. (counts v).read rest >>= λ p. Some (Media p.0 p.1)) None) (key_again (codes "media ") ((counts v).print (n, size)))
+    ∙ ap (λ r. r >>= λ p. Some (Media p.0 p.1)) ((counts-laws v).again (n, size) h)
 outcome_again v NotFound h = refl
 outcome_again v TooFar h = refl
 outcome_again v Busy h = refl
@@ -160,6 +187,7 @@ outcome_again v Timeout h = refl
 
 outcome_inside : (v : Version) (o : Outcome) → OutcomeWithin v o → list_all is_line_byte (outcome_text v o) ≡ true
 outcome_inside v (Text n u) h = inside_both (codes "text ") ((playlist v).print (n, u)) refl ((playlist-laws v).inside (n, u) h)
+outcome_inside v (Media n size) h = inside_both (codes "media ") ((counts v).print (n, size)) refl ((counts-laws v).inside (n, size) h)
 outcome_inside v NotFound h = refl
 outcome_inside v TooFar h = refl
 outcome_inside v Busy h = refl
@@ -171,7 +199,7 @@ outcome-laws v = record {
       is_told v text (codes "notfound") NotFound _ o refl tt
       (is_told v text (codes "bad TooFar") TooFar _ o refl tt
       (is_told v text (codes "busy") Busy _ o refl tt
-      (is_told v text (codes "timeout") Timeout _ o refl tt (text_told v text o)))) e;
+      (is_told v text (codes "timeout") Timeout _ o refl tt (counted_by v text (after (codes "text ") text) (after (codes "media ") text) o refl refl)))) e;
   again = λ o h. outcome_again v o h;
   inside = λ o h. outcome_inside v o h;
 }
@@ -180,6 +208,7 @@ outcome-laws v = record {
 
 not_held : (v : Version) (o : Outcome) → bytes_eq (outcome_text v o) (codes "held") ≡ false
 not_held v (Text n u) = refl
+not_held v (Media n size) = refl
 not_held v NotFound = refl
 not_held v TooFar = refl
 not_held v Busy = refl

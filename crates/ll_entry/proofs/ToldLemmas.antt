@@ -23,7 +23,7 @@ use Rattle.ll_verdict.specs.State.{open_requests, slot_of, state_of}
 use Rattle.ll_verdict.specs.Verdict.{Request, at_once, held, reply, reply_of}
 use Rattle.ll_rendition.specs.declared.fault.PublishFault.{PublishFault}
 use Rattle.ll_verdict.specs.declared.reply.Outcome.{Outcome}
-use Rattle.ll_verdict.specs.declared.reply.Outcome.TheVariants.{Text, NotFound, TooFar, Busy, Timeout}
+use Rattle.ll_verdict.specs.declared.reply.Outcome.TheVariants.{Text, Media, NotFound, TooFar, Busy, Timeout}
 use Rattle.ll_verdict.specs.declared.reply.Reply.{Reply}
 use Rattle.ll_verdict.specs.declared.reply.Settled.{Settled}
 use Rattle.ll_entry.specs.Told.{as_told, entry_after, outcome_of_reply}
@@ -40,6 +40,8 @@ same_updates a b h = cc
 same_outcomes : (a b : Outcome) → same_outcome a b ≡ true → a ≡ b
 same_outcomes (Text m u) (Text n v) h =
     let p = and_parts (m == n) (same_update u v) h in ap₂ Text (same_number m n p.0) (same_updates u v p.1)
+same_outcomes (Media m a) (Media n b) h =
+    let p = and_parts (m == n) (a == b) h in ap₂ Media (same_number m n p.0) (same_number a b p.1)
 same_outcomes NotFound NotFound h = refl
 same_outcomes TooFar TooFar h = refl
 same_outcomes Busy Busy h = refl
@@ -95,6 +97,7 @@ same-update (Some V2) = refl
 
 same-outcome : (o : Outcome) → same_outcome o o ≡ true
 same-outcome (Text n u) = ap₂ (λ a b. a && b) (own n) (same-update u)
+same-outcome (Media n size) = ap₂ (λ a b. a && b) (own n) (own size)
 same-outcome NotFound = refl
 same-outcome TooFar = refl
 same-outcome Busy = refl
@@ -163,6 +166,7 @@ told_out v ask (Some reply) = refl
 -- format 2 tells all of it
 pub whole-outcome : (o : Outcome) → told_in Two o ≡ o
 whole-outcome (Text n u) = refl
+whole-outcome (Media n size) = refl
 whole-outcome NotFound = refl
 whole-outcome TooFar = refl
 whole-outcome Busy = refl

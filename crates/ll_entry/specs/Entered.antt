@@ -16,7 +16,7 @@ use Rattle.ll_verdict.specs.State.{state_of}
 use Rattle.ll_verdict.specs.Verdict.{at_once, held, reply_of}
 use Rattle.ll_rendition.specs.declared.fault.PublishFault.{PublishFault}
 use Rattle.ll_verdict.specs.declared.reply.Outcome.{Outcome}
-use Rattle.ll_verdict.specs.declared.reply.Outcome.TheVariants.{Text, NotFound, TooFar, Busy, Timeout}
+use Rattle.ll_verdict.specs.declared.reply.Outcome.TheVariants.{Text, Media, NotFound, TooFar, Busy, Timeout}
 use Rattle.ll_verdict.specs.declared.reply.Settled.{Settled}
 use Rattle.ll_entry.specs.declared.fault.CheckKind.{CheckKind}
 use Rattle.ll_entry.specs.declared.fault.CheckKind.TheVariants.{Refused, WrongReply}
@@ -37,6 +37,7 @@ same_update a b = false
 
 abbrev pub same_outcome : Outcome → Outcome → Bool
 same_outcome (Text a update) (Text b other) = a == b && same_update update other
+same_outcome (Media a size) (Media b other) = a == b && size == other
 same_outcome NotFound NotFound = true
 same_outcome TooFar TooFar = true
 same_outcome Busy Busy = true

@@ -1,7 +1,7 @@
 -- The entries of a record, in each format: each tells one event of a channel, and what the reply came to where there was one.
 use Rattle.std.specs.Prelude.{ℕ, List, ◌&&◌, ◌||◌, Bool, Option, Some, None, Result, Ok, Err, codes, if◌then◌else◌, is_some}
 use Rattle.ll_attr.specs.Words.{after}
-use Rattle.ll_directive.specs.Targets.{WantValue}
+use Rattle.ll_directive.specs.Targets.{WantValue, media_want}
 use Rattle.ll_directive.specs.declared.want.Awaited.{Awaited}
 use Rattle.ll_format.specs.Format.{Format, Word, ◌>>=◌, to_end, up_to}
 use Rattle.ll_format.specs.Words.{number}
@@ -14,8 +14,10 @@ use Rattle.ll_item.specs.declared.item.Item.{Item}
 use Rattle.ll_item.specs.declared.skip_kind.SkipKind.{SkipKind}
 use Rattle.ll_item.specs.declared.item.ItemFault.{ItemFault}
 use Rattle.ll_item.specs.declared.item.ItemFault.TheVariants as item
+use Rattle.ll_store.specs.declared.what.What.{What}
+use Rattle.ll_store.specs.declared.what.What.TheVariants as what
 use Rattle.ll_verdict.specs.declared.reply.Outcome.{Outcome}
-use Rattle.ll_entry.specs.Replies.{asked_for, awaited_of, count, name, or_dash, or_held, outcome, spaced, update}
+use Rattle.ll_entry.specs.Replies.{asked_for, awaited_of, count, file, name, or_dash, or_held, outcome, spaced, update, with_key}
 use Rattle.ll_entry.specs.declared.entry.EntryFault.{EntryFault}
 use Rattle.ll_entry.specs.declared.entry.EntryFault.TheVariants.{BadLine, Refused, Memory}
 use Rattle.ll_entry.specs.declared.entry.Recorded.{Recorded}
@@ -31,23 +33,39 @@ reply_fields version = spaced (up_to 32 update) (to_end (or_held version))
 abbrev pub place_fields : Version → Format (Option ℕ × (Option ℕ × (Option SkipKind × Option Outcome)))
 place_fields version = spaced (up_to 32 (or_dash count)) (spaced (up_to 32 (or_dash count)) (reply_fields version))
 
--- `ASK RENDITION MSN PART SKIP REPLY`: the number of a request, the name of a rendition, what is awaited of it, which playlist is asked
--- for, and what came at once
+-- `ASK RENDITION MSN PART SKIP REPLY`: the number of a request for a playlist, the name of a rendition, what is awaited of it, which playlist
+-- is asked for, and what came at once
 abbrev pub ask_fields : Version → Format (ℕ × (List ℕ × (Option ℕ × (Option ℕ × (Option SkipKind × Option Outcome)))))
 ask_fields version = spaced (up_to 32 count) (spaced (up_to 32 name) (place_fields version))
+
+-- `FILE REPLY`
+abbrev pub file_fields : Format (What × Option Outcome)
+file_fields = spaced (up_to 32 file) (to_end (or_held Two))
+
+-- `ASK RENDITION FILE REPLY`: the number of a request for media, the name of a rendition, that of a file, and what came at once
+abbrev pub media_fields : Format (ℕ × (List ℕ × (What × Option Outcome)))
+media_fields = spaced (up_to 32 count) (spaced (up_to 32 name) file_fields)
 
 -- `ASK REPLY`
 abbrev pub collect_fields : Version → Format (ℕ × Outcome)
 collect_fields version = spaced (up_to 32 count) (to_end (outcome version))
 
--- what a request wants of a rendition of the channel of these settings; none where a name hasn't a name's form
+-- this request, where the names of the channel and of the rendition have a name's form
+abbrev pub where_named : Configuration → List ℕ → WantValue → Option WantValue
+where_named c rendition want = if is_name c.channel && is_name rendition then Some want else None
+
+-- a request for a playlist of a rendition of the channel of these settings
 abbrev pub want_by : Configuration → List ℕ → Option SkipKind → Awaited → Option WantValue
 want_by c rendition skip awaited =
-    if is_name c.channel && is_name rendition then Some (record { channel = c.channel; rendition = rendition; awaited = awaited; skip = skip }) else None
+    where_named c rendition (record { channel = c.channel; rendition = rendition; what = what.Playlist; awaited = awaited; skip = skip })
 
 abbrev pub ask_of : Version → Configuration → (ℕ × (List ℕ × (Option ℕ × (Option ℕ × (Option SkipKind × Option Outcome))))) × List ℕ → Option Recorded
 ask_of version c ((ask, (rendition, (msn, (part, (skip, reply))))), rest) =
     awaited_of msn part >>= want_by c rendition (asked_for version skip) >>= λ want. Some (Ask ask want reply)
+
+abbrev pub media_of : Configuration → (ℕ × (List ℕ × (What × Option Outcome))) × List ℕ → Option Recorded
+media_of c ((ask, (rendition, (what, reply))), rest) =
+    where_named c rendition (media_want c.channel rendition what) >>= λ want. Some (Ask ask want reply)
 
 abbrev pub collect_of : (ℕ × Outcome) × List ℕ → Option Recorded
 collect_of ((ask, outcome), rest) = Some (Collect ask outcome)
@@ -95,10 +113,6 @@ abbrev pub publish_by : Configuration → Option (List ℕ × ℕ) → Result Re
 publish_by c None = Err BadLine
 publish_by c (Some (text, n)) = published (item_in c text (zeros n))
 
-abbrev pub with_key : {A : Type 0} → Option (List ℕ) → (List ℕ → A) → A → A
-with_key (Some text) read other = read text
-with_key None read other = other
-
 -- `C MILLISECONDS`, `G ASK REPLY` or `X ASK`
 abbrev pub short_in : Version → List ℕ → Option Recorded
 short_in version line =
@@ -110,9 +124,15 @@ short_in version line =
 abbrev pub ask_in : Version → Configuration → List ℕ → Option Recorded
 ask_in version c text = (ask_fields version).read text >>= ask_of version c
 
+-- `ASK RENDITION FILE REPLY`: format 1 knows no requests for media
+abbrev pub media_in : Version → Configuration → List ℕ → Option Recorded
+media_in One c text = None
+media_in Two c text = media_fields.read text >>= media_of c
+
 -- the entry that a line of a channel's record in this format spells, or what is wrong with it:
--- `P ITEM`, `A ASK RENDITION MSN PART SKIP REPLY`, `C MILLISECONDS`, `G ASK REPLY` or `X ASK`
+-- `P ITEM`, `A ASK RENDITION MSN PART SKIP REPLY`, `M ASK RENDITION FILE REPLY`, `C MILLISECONDS`, `G ASK REPLY` or `X ASK`
 abbrev pub entry_in : Version → Configuration → List ℕ → Result Recorded EntryFault
 entry_in version c line =
     with_key (after (codes "P ") line) (λ text. publish_by c (item_text version text))
-    (with_key (after (codes "A ") line) (λ text. entry_by (ask_in version c text)) (entry_by (short_in version line)))
+    (with_key (after (codes "A ") line) (λ text. entry_by (ask_in version c text))
+    (with_key (after (codes "M ") line) (λ text. entry_by (media_in version c text)) (entry_by (short_in version line))))

@@ -1,6 +1,7 @@
 -- How a record tells what a reply comes to, and what a request asks for, in each format.
-use Rattle.std.specs.Prelude.{◌≡◌, ℕ, List, [], ◌∷◌, ◌++◌, false, Option, Some, None, bytes_eq, codes, if◌then◌else◌, option_map}
+use Rattle.std.specs.Prelude.{◌≡◌, ◌≤◌, ℕ, List, [], ◌∷◌, ◌++◌, false, Option, Some, None, bytes_eq, codes, if◌then◌else◌, option_map}
 use Rattle.ll_attr.specs.Words.{after}
+use Rattle.ll_directive.specs.Files.{file_name, media_file}
 use Rattle.ll_directive.specs.declared.want.Awaited.{Awaited}
 use Rattle.ll_directive.specs.declared.want.Awaited.TheVariants.{Nothing, Segment, Part}
 use Rattle.ll_entry.specs.declared.version.Version.{Version}
@@ -10,8 +11,10 @@ use Rattle.ll_format.specs.Words.{number, text_if}
 use Rattle.ll_item.specs.Names.{is_name}
 use Rattle.ll_item.specs.declared.skip_kind.SkipKind.{SkipKind}
 use Rattle.ll_item.specs.declared.skip_kind.SkipKind.TheVariants.{Yes, V2}
+use Rattle.ll_store.specs.declared.what.What.{What}
+use Rattle.ll_store.specs.declared.what.What.TheVariants as what
 use Rattle.ll_verdict.specs.declared.reply.Outcome.{Outcome}
-use Rattle.ll_verdict.specs.declared.reply.Outcome.TheVariants.{Text, NotFound, TooFar, Busy, Timeout}
+use Rattle.ll_verdict.specs.declared.reply.Outcome.TheVariants.{Text, Media, NotFound, TooFar, Busy, Timeout}
 
 -- the largest number of a record
 abbrev pub most : ℕ
@@ -31,6 +34,17 @@ or_dash_text w (Some x) = w.print x
 abbrev pub WithinDash : {A : Type 0} → Word A → Option A → Type 0
 WithinDash w None = Unit {0}
 WithinDash w (Some x) = w.Within x × (bytes_eq (w.print x) (codes "-") ≡ false)
+
+-- which files of media have names that are read again
+abbrev pub FileWithin : What → Type 0
+FileWithin what.Playlist = ⊥
+FileWithin (what.Segment number) = number ≤ most
+FileWithin (what.Part number index) = (number ≤ most) × (index ≤ most)
+FileWithin (what.Init number) = number ≤ most
+
+-- the name of a file of media: `s<n>.m4s`, `s<n>.<index>.m4s` or `init<n>.mp4`
+abbrev pub file : Word What
+file = record { print = file_name; read = media_file; Within = FileWithin }
 
 -- a word, or `-` for none
 abbrev pub or_dash : {A : Type 0} → Word A → Word (Option A)
@@ -61,6 +75,7 @@ asked_for Two skip = skip
 abbrev pub told_in : Version → Outcome → Outcome
 told_in One (Text n skip) = Text n None
 told_in Two (Text n skip) = Text n skip
+told_in version (Media n size) = Media n size
 told_in version NotFound = NotFound
 told_in version TooFar = TooFar
 told_in version Busy = Busy
@@ -83,8 +98,18 @@ abbrev pub playlist : Version → Word (ℕ × Option SkipKind)
 playlist One = count_alone
 playlist Two = whole (spaced (up_to 32 count) (to_end update))
 
+-- nothing that can be told
+abbrev pub no_word : {A : Type 0} → Word A
+no_word = record { print = λ x. []; read = λ text. None; Within = λ x. ⊥ }
+
+-- how many items media comes after, and how many bytes it has: format 1 knows no media, it is `N LENGTH` in format 2
+abbrev pub counts : Version → Word (ℕ × ℕ)
+counts One = no_word
+counts Two = whole (spaced (up_to 32 count) (to_end count))
+
 abbrev pub outcome_text : Version → Outcome → List ℕ
 outcome_text version (Text n skip) = codes "text " ++ (playlist version).print (n, skip)
+outcome_text version (Media n size) = codes "media " ++ (counts version).print (n, size)
 outcome_text version NotFound = codes "notfound"
 outcome_text version TooFar = codes "bad TooFar"
 outcome_text version Busy = codes "busy"
@@ -92,12 +117,23 @@ outcome_text version Timeout = codes "timeout"
 
 abbrev pub OutcomeWithin : Version → Outcome → Type 0
 OutcomeWithin version (Text n skip) = (playlist version).Within (n, skip)
+OutcomeWithin version (Media n size) = (counts version).Within (n, size)
 OutcomeWithin version NotFound = Unit
 OutcomeWithin version TooFar = Unit
 OutcomeWithin version Busy = Unit
 OutcomeWithin version Timeout = Unit
 
--- `text N` or `text N UPDATE`; `notfound`, `bad TooFar`, `busy` or `timeout`
+abbrev pub with_key : {A : Type 0} → Option (List ℕ) → (List ℕ → A) → A → A
+with_key (Some text) read other = read text
+with_key None read other = other
+
+-- `text N` or `text N UPDATE`, or `media N LENGTH`
+abbrev pub counted_reply : Version → List ℕ → Option Outcome
+counted_reply version text =
+    with_key (after (codes "text ") text) (λ rest. (playlist version).read rest >>= λ p. Some (Text p.0 p.1))
+    (with_key (after (codes "media ") text) (λ rest. (counts version).read rest >>= λ p. Some (Media p.0 p.1)) None)
+
+-- `text N` or `text N UPDATE`; `media N LENGTH`; `notfound`, `bad TooFar`, `busy` or `timeout`
 abbrev pub outcome : Version → Word Outcome
 outcome version = record {
   print = outcome_text version;
@@ -106,7 +142,7 @@ outcome version = record {
       else if bytes_eq text (codes "bad TooFar") then Some TooFar
       else if bytes_eq text (codes "busy") then Some Busy
       else if bytes_eq text (codes "timeout") then Some Timeout
-      else (after (codes "text ") text >>= (playlist version).read >>= λ p. Some (Text p.0 p.1));
+      else counted_reply version text;
   Within = OutcomeWithin version;
 }
 

@@ -11,7 +11,7 @@ use crate::entry::{EntryFault, Recorded};
 use crate::version::Version;
 use crate::words::{awaited, count, or_dash, or_held, outcome, update};
 use ll_attr::{Text, after};
-use ll_directive::Want;
+use ll_directive::{Want, What, media_file};
 use ll_format::{number, until};
 use ll_item::{Item, MEDIA_LIMIT, Payload, Settings, SkipKind, cut_last, is_name};
 use ll_verdict::Outcome;
@@ -19,7 +19,7 @@ use std::alloc::Global;
 
 impl Recorded {
     /// The entry that a line of the record of this channel spells in this format: `P ITEM`, `A ASK RENDITION MSN PART SKIP REPLY`,
-    /// `C MILLISECONDS`, `G ASK REPLY` or `X ASK`; or why there is none. Memory that isn't found comes after the other faults.
+    /// `M ASK RENDITION FILE REPLY`, `C MILLISECONDS`, `G ASK REPLY` or `X ASK`; or why there is none. Memory that isn't found comes after the other faults.
     pub fn read(
         alloc: Global,
         version: Version,
@@ -35,6 +35,9 @@ impl Recorded {
         }
         if let Some(text) = after(line, "A ") {
             return read_ask(alloc, version, settings, text);
+        }
+        if let Some(text) = after(line, "M ") {
+            return read_media(alloc, version, settings, text);
         }
         read_short(version, line).ok_or(EntryFault::BadLine)
     }
@@ -120,7 +123,7 @@ fn collect_fields(version: Version, text: &str) -> Option<(u64, Outcome)>
     Some((ask, outcome(version, after(rest, " ")?)?))
 }
 
-/// The request that a text tells of, and what it got at once.
+/// The request for a playlist that a text tells of, and what it got at once.
 fn read_ask(
     alloc: Global,
     version: Version,
@@ -183,4 +186,54 @@ fn reply_fields(version: Version, text: &str) -> Option<(Option<SkipKind>, Optio
     let (word, rest) = until(text, ' ');
     let skip = update(word)?;
     Some((skip, or_held(version, after(rest, " ")?)?))
+}
+
+/// The request for media that a text tells of, and what it got at once: format 1 knows no such requests.
+fn read_media(
+    alloc: Global,
+    version: Version,
+    settings: &Settings,
+    text: &str,
+) -> Result<Recorded, EntryFault>
+    ensures value { IfOk result (λ entry. spec.media_in version settings.now text.now ≡ Some entry) }
+    ensures refused { IfErr result (λ fault. fault ≢ EntryFault.Memory
+        → (fault ≡ EntryFault.BadLine) × (spec.media_in version settings.now text.now ≡ None)) }
+    ensures memory { IsErrOf result EntryFault.Memory → is_some (spec.media_in version settings.now text.now) ≡ true }
+{
+    if version == Version::One {
+        return Err(EntryFault::BadLine);
+    }
+    let Some((ask, rendition, what, outcome)) = media_fields(text) else {
+        return Err(EntryFault::BadLine);
+    };
+    let channel = Text::from_str(alloc, settings.channel())?;
+    let rendition = Text::from_str(alloc, rendition)?;
+    match Want::media(channel, rendition, what) {
+        Some(want) => Ok(Recorded::Ask(ask, want, outcome)),
+        None => unreachable!(),
+    }
+}
+
+/// `ASK RENDITION FILE REPLY`
+fn media_fields(text: &str) -> Option<(u64, &str, What, Option<Outcome>)>
+    ensures value { spec.media_fields.read text.now ≡ option_map (λ r. ((r.0, (r.1.now, (r.2, r.3))), [])) result }
+    ensures named { IfSome result (λ r. is_name r.1.now ≡ true) }
+{
+    let (word, rest) = until(text, ' ');
+    let ask = count(word)?;
+    let (name, rest) = until(after(rest, " ")?, ' ');
+    if !is_name(name) {
+        return None;
+    }
+    let (what, outcome) = file_fields(after(rest, " ")?)?;
+    Some((ask, name, what, outcome))
+}
+
+/// `FILE REPLY`
+fn file_fields(text: &str) -> Option<(What, Option<Outcome>)>
+    ensures { spec.file_fields.read text.now ≡ option_map (λ r. ((r.0, r.1), [])) result }
+{
+    let (word, rest) = until(text, ' ');
+    let what = media_file(word)?;
+    Some((what, or_held(Version::Two, after(rest, " ")?)?))
 }

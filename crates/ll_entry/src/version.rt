@@ -10,9 +10,10 @@ use ll_verdict::Outcome;
 #[derive(Clone, Copy, PartialEq, Eq)]
 pub enum Version {
     /// `#LLHLS-CHUNK 1`: of a playlist the count of items is told and not which delta update it is, a request for `v2` was answered as
-    /// one for `YES`, and nothing is told of a part's media.
+    /// one for `YES`, nothing is told of a part's media, and there are no requests for media.
     One,
-    /// `#LLHLS-CHUNK 2`: a playlist is told with the delta update that it is, a part with the length of its media.
+    /// `#LLHLS-CHUNK 2`: a playlist is told with the delta update that it is, a part with the length of its media, and requests for media
+    /// have lines of their own.
     Two,
 }
 

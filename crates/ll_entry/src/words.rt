@@ -68,8 +68,33 @@ pub(crate) fn outcome(version: Version, text: &str) -> Option<Outcome>
     } else if text == "timeout" {
         Some(Outcome::Timeout)
     } else {
-        let (count, update) = playlist(version, after(text, "text ")?)?;
-        Some(Outcome::Text(count, update))
+        counted_reply(version, text)
+    }
+}
+
+/// `text N` or `text N UPDATE`, or `media N LENGTH`
+fn counted_reply(version: Version, text: &str) -> Option<Outcome>
+    ensures { result ≡ spec.counted_reply version text.now }
+{
+    if let Some(rest) = after(text, "text ") {
+        let (count, update) = playlist(version, rest)?;
+        return Some(Outcome::Text(count, update));
+    }
+    let (count, length) = counts(version, after(text, "media ")?)?;
+    Some(Outcome::Media(count, length))
+}
+
+/// How many items media comes after, and how many bytes it has: format 1 knows no media.
+fn counts(version: Version, text: &str) -> Option<(u64, u64)>
+    ensures { result ≡ (spec.counts version).read text.now }
+{
+    match version {
+        Version::One => None,
+        Version::Two => {
+            let (word, rest) = until(text, ' ');
+            let items = count(word)?;
+            Some((items, count(after(rest, " ")?)?))
+        }
     }
 }
 

@@ -1,20 +1,24 @@
 //! Entries, written as lines in format 2. No end of a line is added. The lines that read the clock, hand a reply out or give a request up
 //! take no memory.
-ghost use Rattle.std.specs.Prelude.{◌≡◌, ◌≤◌, ◌+◌, ◌++◌, IfOk, OnOk, codes, decimal, length, string_bytes};
+ghost use Rattle.std.specs.Prelude.{◌≡◌, ◌≤◌, ◌+◌, ◌++◌, IfOk, MatchOption, OnOk, codes, false, decimal, length, string_bytes};
 ghost use Rattle.arrayvec.specs.ArrayString.{array_string_len};
+ghost use Rattle.ll_directive.specs.Files.{file_name, is_playlist};
 ghost use Rattle.ll_item.specs.Settings.{Configuration};
+ghost use Rattle.ll_store.specs.declared.what.What.TheVariants.{Playlist};
 ghost use Rattle.ll_entry.specs.Lines as spec;
 ghost use Rattle.ll_entry.specs.Lines.{IsSpelled, counted_line, entry_line};
 ghost use Rattle.ll_entry.specs.Replies.{count, kind, or_dash_text, or_held_text, outcome_text};
 ghost use Rattle.ll_entry.specs.declared.version.Version.TheVariants.{Two};
 ghost use Rattle.ll_entry.specs.declared.entry.Recorded.TheVariants as recorded;
 ghost use Rattle.ll_entry.specs.ItemLines.{IsTyped};
+ghost use Rattle.ll_line.specs.Uris.{uri_text};
 
 use crate::item::item_text;
 use arrayvec::ArrayString;
 use itoa::Buffer;
-use ll_directive::{Awaited, Want};
+use ll_directive::{Awaited, Want, What};
 use ll_item::{Item, Settings, SkipKind};
+use ll_line::Uri;
 use ll_verdict::Outcome;
 use std::alloc::{AllocError, Global};
 
@@ -43,7 +47,8 @@ fn counted_text(alloc: Global, line: &str, length: u64) -> Result<String, AllocE
     format!(in alloc; "P {line} {length}")
 }
 
-/// The line of a request of this number, and of what it got at once; none where it was held. It fails only where no memory is found.
+/// The line of a request of this number, for a playlist or for media, and of what it got at once; none where it was held. It fails only
+/// where no memory is found.
 pub fn ask_line(
     alloc: Global,
     ask: u64,
@@ -53,8 +58,45 @@ pub fn ask_line(
     ensures text { (c : Configuration) → IfOk result (λ t. string_bytes t ≡ entry_line c (recorded.Ask ask want.now outcome)) }
     ensures spelled { (c : Configuration) → OnOk result (IsSpelled c (recorded.Ask ask (record want.now { channel = c.channel }) outcome)) }
 {
-    let place = place_text(alloc, want.awaited(), want.skip(), outcome)?;
-    ask_text(alloc, ask, want.rendition(), place.as_str())
+    let (name, awaited, skip) = (want.rendition(), want.awaited(), want.skip());
+    let Some(file) = uri_of(want.what()) else {
+        let place = place_text(alloc, awaited, skip, outcome)?;
+        return ask_text(alloc, ask, name, place.as_str());
+    };
+    // a request for media never asks for a delta update, which its line couldn't tell
+    if skip.is_some() {
+        return Err(AllocError);
+    }
+    media_text(alloc, ask, name, file, outcome)
+}
+
+/// How a file of media is named; none for a playlist.
+fn uri_of(what: What) -> Option<Uri<'static>>
+    ensures name { MatchOption result (what ≡ Playlist) (λ file. (is_playlist what ≡ false) × (uri_text file ≡ file_name what)) }
+    ensures within { spec.WhatWithin what }
+{
+    match what {
+        What::Playlist => None,
+        What::Segment(number) => Some(Uri::Segment { number }),
+        What::Part(number, index) => Some(Uri::Part { number, index }),
+        What::Init(number) => Some(Uri::Map { number }),
+    }
+}
+
+/// `M ASK RENDITION FILE REPLY`
+fn media_text(
+    alloc: Global,
+    ask: u64,
+    rendition: &str,
+    file: Uri<'_>,
+    outcome: Option<Outcome>,
+) -> Result<String, AllocError>
+    ensures { IfOk result (λ t. string_bytes t ≡ codes "M " ++ (decimal ask ++ (codes " " ++ (rendition.now ++ (codes " "
+        ++ (uri_text file.entry ++ (codes " " ++ or_held_text Two outcome))))))) }
+{
+    let reply = reply_text(outcome);
+    let reply = reply.as_str();
+    format!(in alloc; "M {ask} {rendition} {file} {reply}")
 }
 
 /// `A ASK RENDITION PLACE`
@@ -86,10 +128,10 @@ fn place_text(
 }
 
 /// The line of a reading of the clock.
-pub fn clock_line(ms: u64) -> ArrayString<64>
+pub fn clock_line(ms: u64) -> ArrayString<80>
     ensures text { (c : Configuration) → result.bytes ≡ entry_line c (recorded.Clock ms) }
     ensures spelled { (c : Configuration) → IsSpelled c (recorded.Clock ms) }
-    ensures short { array_string_len result ≤ 63 }
+    ensures short { array_string_len result ≤ 79 }
 {
     let mut line = ArrayString::new();
     line.push_str("C ");
@@ -98,10 +140,10 @@ pub fn clock_line(ms: u64) -> ArrayString<64>
 }
 
 /// The line of a reply that was handed out.
-pub fn collect_line(ask: u64, outcome: Outcome) -> ArrayString<64>
+pub fn collect_line(ask: u64, outcome: Outcome) -> ArrayString<80>
     ensures text { (c : Configuration) → result.bytes ≡ entry_line c (recorded.Collect ask outcome) }
     ensures spelled { (c : Configuration) → IsSpelled c (recorded.Collect ask outcome) }
-    ensures short { array_string_len result ≤ 63 }
+    ensures short { array_string_len result ≤ 79 }
 {
     let mut line = ArrayString::new();
     line.push_str("G ");
@@ -112,10 +154,10 @@ pub fn collect_line(ask: u64, outcome: Outcome) -> ArrayString<64>
 }
 
 /// The line of a request that was given up.
-pub fn close_line(ask: u64) -> ArrayString<64>
+pub fn close_line(ask: u64) -> ArrayString<80>
     ensures text { (c : Configuration) → result.bytes ≡ entry_line c (recorded.Close ask) }
     ensures spelled { (c : Configuration) → IsSpelled c (recorded.Close ask) }
-    ensures short { array_string_len result ≤ 63 }
+    ensures short { array_string_len result ≤ 79 }
 {
     let mut line = ArrayString::new();
     line.push_str("X ");
@@ -124,8 +166,8 @@ pub fn close_line(ask: u64) -> ArrayString<64>
 }
 
 /// Adds a number.
-fn push_number(line: &mut ArrayString<64>, n: u64)
-    requires { array_string_len line.old ≤ 44 }
+fn push_number(line: &mut ArrayString<80>, n: u64)
+    requires { array_string_len line.old ≤ 60 }
     ensures text { line.new.bytes ≡ line.old.bytes ++ decimal n }
     ensures len { array_string_len line.new ≤ array_string_len line.old + 20 }
 {
@@ -134,10 +176,10 @@ fn push_number(line: &mut ArrayString<64>, n: u64)
 }
 
 /// Adds what a reply comes to.
-fn push_outcome(line: &mut ArrayString<64>, outcome: Outcome)
-    requires { array_string_len line.old ≤ 35 }
+fn push_outcome(line: &mut ArrayString<80>, outcome: Outcome)
+    requires { array_string_len line.old ≤ 33 }
     ensures text { line.new.bytes ≡ line.old.bytes ++ outcome_text Two outcome }
-    ensures len { array_string_len line.new ≤ array_string_len line.old + 29 }
+    ensures len { array_string_len line.new ≤ array_string_len line.old + 47 }
 {
     match outcome {
         Outcome::Text(n, update) => {
@@ -145,6 +187,12 @@ fn push_outcome(line: &mut ArrayString<64>, outcome: Outcome)
             push_number(line, n);
             line.push_str(" ");
             line.push_str(update_text(update));
+        }
+        Outcome::Media(n, length) => {
+            line.push_str("media ");
+            push_number(line, n);
+            line.push_str(" ");
+            push_number(line, length);
         }
         Outcome::NotFound => line.push_str("notfound"),
         Outcome::TooFar => line.push_str("bad TooFar"),
@@ -154,7 +202,7 @@ fn push_outcome(line: &mut ArrayString<64>, outcome: Outcome)
 }
 
 /// What a request got at once; `held` for none.
-fn reply_text(outcome: Option<Outcome>) -> ArrayString<64>
+fn reply_text(outcome: Option<Outcome>) -> ArrayString<80>
     ensures { result.bytes ≡ or_held_text Two outcome }
 {
     let mut text = ArrayString::new();
@@ -166,7 +214,7 @@ fn reply_text(outcome: Option<Outcome>) -> ArrayString<64>
 }
 
 /// A number, or `-` for none.
-fn number_text(number: Option<u64>) -> ArrayString<64>
+fn number_text(number: Option<u64>) -> ArrayString<80>
     ensures { result.bytes ≡ or_dash_text count number }
 {
     let mut text = ArrayString::new();

@@ -1,5 +1,5 @@
 -- The line of an entry in format 2: it is a line of text, and is read as the entry in full.
-use Rattle.std.proofs.Common.{◌≡◌, ℕ, ◌≤◌, ◌<◌, ◌^◌, ◌==◌, ◌&&◌, ◌||◌, List, [], ◌∷◌, ◌++◌, Bool, true, false, not, cond, Option, Some, None, Result, Ok, Err, is_some, refl, ap, ◌∙◌, sym, subst, append-nil, length, length-append, take, nat_le, option_map, bytes_eq, codes, decimal, arith, if◌then◌else◌}
+use Rattle.std.proofs.Common.{◌≡◌, ℕ, ◌≤◌, ◌<◌, ◌^◌, ◌==◌, ◌&&◌, ◌||◌, List, [], ◌∷◌, ◌++◌, Bool, true, false, not, cond, Option, Some, None, Result, Ok, Err, is_some, refl, ap, ◌∙◌, sym, subst, true≢false, append-nil, length, length-append, take, nat_le, option_map, bytes_eq, codes, decimal, arith, if◌then◌else◌}
 use Rattle.std.proofs.Math.Seq.{take-append_seam}
 use Rattle.std.proofs.lemmas.Bool.{and_from, and_parts}
 use Rattle.std.proofs.lemmas.Bool.Decides.{Decides-eqb, nat_tests}
@@ -15,7 +15,8 @@ use Rattle.ll_attr.specs.Words.{after, words}
 use Rattle.ll_check.specs.Steps.{full_entry, in_full}
 use Rattle.ll_enter.specs.Full.{without_item}
 use Rattle.ll_explain.specs.Upgrade.{media_text, upgraded_line}
-use Rattle.ll_directive.specs.Targets.{WantValue}
+use Rattle.ll_directive.specs.Files.{is_playlist}
+use Rattle.ll_directive.specs.Targets.{IsPlain, WantValue}
 use Rattle.ll_directive.specs.declared.want.Awaited.{Awaited}
 use Rattle.ll_directive.specs.declared.want.Awaited.TheVariants.{Nothing, Part, Segment}
 use Rattle.ll_entry.proofs.ChunkProof.{is_low, plain}
@@ -23,11 +24,11 @@ use Rattle.ll_entry.proofs.EntryLines.{counted-again, read_again}
 use Rattle.ll_entry.proofs.ReplyLaws.{count-lacks, count-laws, name-lacks, name-laws, or_dash-lacks, or_dash-laws, or_held-laws, outcome-laws, spaced-laws, update-lacks, update-laws, update-within}
 use Rattle.ll_entry.proofs.ToldLemmas.{told-right, whole-entry}
 use Rattle.ll_entry.specs.Chain.{Chain, entry_at}
-use Rattle.ll_entry.specs.Entries.{ask_fields, ask_in, ask_of, collect_fields, counted, collect_of, entry_by, entry_in, is_init_line, is_part_line, item_text, publish_by, published, short_in, want_by, with_key}
+use Rattle.ll_entry.specs.Entries.{ask_fields, ask_in, ask_of, collect_fields, counted, collect_of, entry_by, entry_in, is_init_line, is_part_line, item_text, media_in, publish_by, published, short_in, want_by}
 use Rattle.ll_entry.specs.Frame.{last_line}
 use Rattle.ll_entry.specs.Blank.{blank_entry}
-use Rattle.ll_entry.specs.Lines.{AwaitedWithin, IsSpelled, counted_line, entry_line, msn_of, part_of}
-use Rattle.ll_entry.specs.Replies.{HeldWithin, OutcomeWithin, WithinDash, asked_for, awaited_of, count, most, or_dash, or_dash_text, or_held_text, outcome_text, told_in, update}
+use Rattle.ll_entry.specs.Lines.{AwaitedWithin, IsSpelled, WantWithin, WhatWithin, asked_line, counted_line, entry_line, msn_of, part_of}
+use Rattle.ll_entry.specs.Replies.{HeldWithin, OutcomeWithin, WithinDash, asked_for, awaited_of, count, most, or_dash, or_dash_text, or_held_text, outcome_text, told_in, update, with_key}
 use Rattle.ll_entry.specs.Told.{as_told, entry_after}
 use Rattle.ll_entry.specs.declared.entry.Recorded.{Recorded}
 use Rattle.ll_entry.specs.declared.entry.Recorded.TheVariants as recorded
@@ -45,9 +46,10 @@ use Rattle.ll_item.specs.declared.item.ItemFault.{ItemFault}
 use Rattle.ll_item.specs.declared.settings.SettingsFault.{SettingsFault}
 use Rattle.ll_item.specs.declared.skip_kind.SkipKind.{SkipKind}
 use Rattle.ll_item.specs.declared.skip_kind.SkipKind.TheVariants.{V2, Yes}
+use Rattle.ll_store.specs.declared.what.What.TheVariants as what
 use Rattle.ll_verdict.specs.Events.{Event}
 use Rattle.ll_verdict.specs.declared.reply.Outcome.{Outcome}
-use Rattle.ll_verdict.specs.declared.reply.Outcome.TheVariants.{Busy, NotFound, Text, Timeout, TooFar}
+use Rattle.ll_verdict.specs.declared.reply.Outcome.TheVariants.{Busy, Media, NotFound, Text, Timeout, TooFar}
 
 -- ---- lines of text
 
@@ -107,6 +109,9 @@ outcome-line : (o : Outcome) → OutcomeWithin Two o → IsLine (outcome_text Tw
 outcome-line (Text n u) h =
     line-both (codes "text ") (decimal n ++ (codes " " ++ update.print u)) (plain-line (codes "text ") refl refl)
     (spaced-line (decimal n) (update.print u) (decimal-line n h.0) (update-line u))
+outcome-line (Media n size) h =
+    line-both (codes "media ") (decimal n ++ (codes " " ++ decimal size)) (plain-line (codes "media ") refl refl)
+    (spaced-line (decimal n) (decimal size) (decimal-line n h.0) (decimal-line size h.1))
 outcome-line NotFound h = plain-line (codes "notfound") refl refl
 outcome-line TooFar h = plain-line (codes "bad TooFar") refl refl
 outcome-line Busy h = plain-line (codes "busy") refl refl
@@ -116,20 +121,22 @@ held-line : (o : Option Outcome) → HeldWithin Two o → IsLine (or_held_text T
 held-line None h = plain-line (codes "held") refl refl
 held-line (Some o) h = outcome-line o h
 
-ask-line : (c : Configuration) (ask : ℕ) (want : WantValue) (reply : Option Outcome) → IsSpelled c (recorded.Ask ask want reply)
+-- the line of a request for a playlist
+ask-line : (c : Configuration) (ask : ℕ) (want : WantValue) (reply : Option Outcome) → want.what ≡ what.Playlist → IsSpelled c (recorded.Ask ask want reply)
     → IsLine (entry_line c (recorded.Ask ask want reply))
-ask-line c ask want reply h =
+ask-line c ask want reply list (small, (same, name, awaited, file, plain), told) =
     let held = or_held_text Two reply in
     let fields3 = update.print want.skip ++ (codes " " ++ held) in
     let fields2 = or_dash_text count (part_of want.awaited) ++ (codes " " ++ fields3) in
     let fields1 = or_dash_text count (msn_of want.awaited) ++ (codes " " ++ fields2) in
     let fields0 = want.rendition ++ (codes " " ++ fields1) in
-    line-both (codes "A ") (decimal ask ++ (codes " " ++ fields0)) (plain-line (codes "A ") refl refl)
-    (spaced-line (decimal ask) fields0 (decimal-line ask h.0)
-    (spaced-line want.rendition fields1 (name-line want.rendition h.2)
-    (spaced-line (or_dash_text count (msn_of want.awaited)) fields2 (msn-line want.awaited h.3)
-    (spaced-line (or_dash_text count (part_of want.awaited)) fields3 (part-line want.awaited h.3)
-    (spaced-line (update.print want.skip) held (update-line want.skip) (held-line reply h.4))))))
+    subst (λ w. IsLine (asked_line (is_playlist w) ask want reply)) (sym list)
+    (line-both (codes "A ") (decimal ask ++ (codes " " ++ fields0)) (plain-line (codes "A ") refl refl)
+    (spaced-line (decimal ask) fields0 (decimal-line ask small)
+    (spaced-line want.rendition fields1 (name-line want.rendition name)
+    (spaced-line (or_dash_text count (msn_of want.awaited)) fields2 (msn-line want.awaited awaited)
+    (spaced-line (or_dash_text count (part_of want.awaited)) fields3 (part-line want.awaited awaited)
+    (spaced-line (update.print want.skip) held (update-line want.skip) (held-line reply told)))))))
 
 collect-line : (c : Configuration) (ask : ℕ) (reply : Outcome) → IsSpelled c (recorded.Collect ask reply) → IsLine (entry_line c (recorded.Collect ask reply))
 collect-line c ask reply h =
@@ -138,12 +145,12 @@ collect-line c ask reply h =
 
 -- ---- what a line is that is read as an entry
 
--- the words of an item after the key, a request's numbers and names as they can be spelled, or the line's own words
+-- the words of an item after the key, the numbers and names of a request for a playlist as they can be spelled, or the line's own words
 abbrev IsReadBy : Version → Configuration → List ℕ → Recorded → Type 0
 IsReadBy v c line (recorded.Publish item) =
     (text : List ℕ) × (line ≡ codes "P " ++ text) × (publish_by c (item_text v text) ≡ Ok (recorded.Publish item))
 IsReadBy v c line (recorded.Ask ask want reply) =
-    (ask ≤ most) × (want.channel ≡ c.channel) × (is_name want.rendition ≡ true) × AwaitedWithin want.awaited × HeldWithin v reply
+    (ask ≤ most) × (want.channel ≡ c.channel) × (is_name want.rendition ≡ true) × AwaitedWithin want.awaited × (want.what ≡ what.Playlist) × HeldWithin v reply
 IsReadBy v c line (recorded.Clock ms) = (line ≡ codes "C " ++ decimal ms) × (ms ≤ most)
 IsReadBy v c line (recorded.Collect ask reply) = (ask ≤ most) × OutcomeWithin v reply
 IsReadBy v c line (recorded.Close ask) = (line ≡ codes "X " ++ decimal ask) × (ask ≤ most)
@@ -188,11 +195,11 @@ ask-parts v c line text ((ask, (rendition, (msn, (part, (skip, reply))))), rest)
     let t = (ask_laws v).takes text (ask, (rendition, (msn, (part, (skip, reply))))) rest is in
     let w = bind_some (awaited_of msn part >>= want_by c rendition (asked_for v skip)) (λ want. Some (recorded.Ask ask want reply)) entry h in
     let a = bind_some (awaited_of msn part) (want_by c rendition (asked_for v skip)) w.0 w.1 in
-    let want : WantValue = record { channel = c.channel; rendition = rendition; awaited = a.0; skip = asked_for v skip } in
+    let want : WantValue = record { channel = c.channel; rendition = rendition; what = what.Playlist; awaited = a.0; skip = asked_for v skip } in
     let g = guarded (is_name c.channel && is_name rendition) (Some want) w.0 a.2 in
     subst (IsReadBy v c line) (some_is (recorded.Ask ask w.0 reply) entry w.2)
     (subst (λ want. IsReadBy v c line (recorded.Ask ask want reply)) (some_is want w.0 g.1)
-    (t.1.0, refl, t.1.1.0, awaited_within msn part a.0 a.1 t.1.1.1.0 t.1.1.1.1.0, t.1.1.1.1.1.1))
+    (t.1.0, refl, t.1.1.0, awaited_within msn part a.0 a.1 t.1.1.1.0 t.1.1.1.1.0, refl, t.1.1.1.1.1.1))
 
 ask-read : (v : Version) (c : Configuration) (line text : List ℕ) (entry : Recorded) → ask_in v c text ≡ Some entry → IsReadBy v c line entry
 ask-read v c line text entry h =
@@ -227,16 +234,20 @@ there : (o : Option Recorded) (entry : Recorded) → entry_by o ≡ Ok entry →
 there None entry h = cc
 there (Some x) entry h = cc
 
-line-read : (v : Version) (c : Configuration) (line : List ℕ) (entry : Recorded) (publish ask : Option (List ℕ)) → after (codes "P ") line ≡ publish
-    → with_key publish (λ text. publish_by c (item_text v text)) (with_key ask (λ text. entry_by (ask_in v c text)) (entry_by (short_in v line))) ≡ Ok entry
-    → IsReadBy v c line entry
-line-read v c line entry (Some text) ask e h = publish-read v c line text entry e h
-line-read v c line entry None (Some text) e h = ask-read v c line text entry (there (ask_in v c text) entry h)
-line-read v c line entry None None e h =
-    short-read v c line entry (after (codes "C ") line) (after (codes "G ") line) (after (codes "X ") line) refl refl (there (short_in v line) entry h)
+-- in format 1 no request is for media
+line-read : (c : Configuration) (line : List ℕ) (entry : Recorded) (publish ask media : Option (List ℕ)) → after (codes "P ") line ≡ publish
+    → with_key publish (λ text. publish_by c (item_text One text))
+    (with_key ask (λ text. entry_by (ask_in One c text))
+    (with_key media (λ text. entry_by (media_in One c text)) (entry_by (short_in One line)))) ≡ Ok entry
+    → IsReadBy One c line entry
+line-read c line entry (Some text) ask media e h = publish-read One c line text entry e h
+line-read c line entry None (Some text) media e h = ask-read One c line text entry (there (ask_in One c text) entry h)
+line-read c line entry None None (Some text) e h = cc
+line-read c line entry None None None e h =
+    short-read One c line entry (after (codes "C ") line) (after (codes "G ") line) (after (codes "X ") line) refl refl (there (short_in One line) entry h)
 
-read-by : (v : Version) (c : Configuration) (line : List ℕ) (entry : Recorded) → entry_in v c line ≡ Ok entry → IsReadBy v c line entry
-read-by v c line entry h = line-read v c line entry (after (codes "P ") line) (after (codes "A ") line) refl h
+read-by : (c : Configuration) (line : List ℕ) (entry : Recorded) → entry_in One c line ≡ Ok entry → IsReadBy One c line entry
+read-by c line entry h = line-read c line entry (after (codes "P ") line) (after (codes "A ") line) (after (codes "M ") line) refl h
 
 -- ---- items
 
@@ -296,6 +307,7 @@ publish-again c line text item is h =
 -- what is told of a reply in format 1 is spelled in format 2 with the delta update that it is
 told_within : (o : Outcome) → OutcomeWithin One (told_in One o) → OutcomeWithin Two o
 told_within (Text n u) h = (h.0, update-within u)
+told_within (Media n size) h = absurd h
 told_within NotFound h = tt
 told_within TooFar h = tt
 told_within Busy h = tt
@@ -315,6 +327,9 @@ same-new : (c : Configuration) (line : List ℕ) (entry : Recorded) → limit_br
     → line ≡ entry_line c entry → IsNew c entry line
 same-new c line entry limits l bare spelled is = record { read = ap (entry_in Two c) is ∙ (read_again c entry limits spelled).0 ∙ ap Ok bare; text = l }
 
+plain_list : (want : WantValue) → want.what ≡ what.Playlist → IsPlain want
+plain_list want is other = absurd (true≢false (sym (ap is_playlist is) ∙ other))
+
 one-new : (c : Configuration) (line : List ℕ) (entry : Recorded) → limit_broken c ≡ None → IsLine line → IsReadBy One c line (as_told One entry)
     → IsNew c entry (upgraded_line One c line (without_item entry))
 one-new c line (recorded.Publish item) limits l r = record {
@@ -322,8 +337,9 @@ one-new c line (recorded.Publish item) limits l r = record {
   text = line-both line (media_text line) l (media-line (option_map_or is_part_line (after (codes "P ") line) false));
 }
 one-new c line (recorded.Ask ask want reply) limits l r =
-    let spelled : IsSpelled c (recorded.Ask ask want reply) = (r.0, r.1, r.2, r.3, held_within reply r.4) in
-    record { read = (read_again c (recorded.Ask ask want reply) limits spelled).0; text = ask-line c ask want reply spelled }
+    let within : WantWithin c want = (r.1, r.2, r.3, subst WhatWithin (sym r.4) tt, plain_list want r.4) in
+    let spelled : IsSpelled c (recorded.Ask ask want reply) = (r.0, within, held_within reply r.5) in
+    record { read = (read_again c (recorded.Ask ask want reply) limits spelled).0; text = ask-line c ask want reply r.4 spelled }
 one-new c line (recorded.Clock ms) limits l r = same-new c line (recorded.Clock ms) limits l refl r.1 r.0
 one-new c line (recorded.Collect ask reply) limits l r =
     let spelled : IsSpelled c (recorded.Collect ask reply) = (r.0, told_within reply r.1) in
@@ -333,7 +349,7 @@ one-new c line (recorded.Close ask) limits l r = same-new c line (recorded.Close
 -- the line that an entry has in format 2, where its line in a format is given
 pub new-line : (v : Version) (c : Configuration) (line : List ℕ) (entry : Recorded) → limit_broken c ≡ None → IsLine line
     → entry_in v c line ≡ Ok (as_told v entry) → IsNew c entry (upgraded_line v c line (without_item entry))
-new-line One c line entry limits l h = one-new c line entry limits l (read-by One c line (as_told One entry) h)
+new-line One c line entry limits l h = one-new c line entry limits l (read-by c line (as_told One entry) h)
 new-line Two c line entry limits l h = record { read = h ∙ ap Ok (whole-entry entry); text = l }
 
 -- ---- the entry of a line, in full

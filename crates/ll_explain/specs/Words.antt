@@ -1,5 +1,5 @@
 -- How an entry is told in words.
-use Rattle.std.specs.Prelude.{◌≡◌, ◌≤◌, ◌⊎◌, ℕ, List, [], ◌++◌, Bool, true, false, Option, Some, None, Err, codes, decimal, if◌then◌else◌, is_some}
+use Rattle.std.specs.Prelude.{◌≡◌, ◌≤◌, ◌⊎◌, ◌||◌, ℕ, List, [], ◌++◌, Bool, true, false, Option, Some, None, Err, codes, decimal, if◌then◌else◌, is_some}
 use Rattle.ll_attr.specs.Words.{after}
 use Rattle.ll_check.specs.Answer.{answer_line}
 use Rattle.ll_entry.specs.Chain.{checked}
@@ -10,7 +10,7 @@ use Rattle.ll_item.specs.declared.skip_kind.SkipKind.TheVariants.{Yes, V2}
 use Rattle.ll_page.specs.Page.{page_text}
 use Rattle.ll_verdict.specs.Outcome.{outcome_of}
 use Rattle.ll_verdict.specs.declared.reply.Outcome.{Outcome}
-use Rattle.ll_verdict.specs.declared.reply.Outcome.TheVariants.{Text, NotFound, TooFar, Busy, Timeout}
+use Rattle.ll_verdict.specs.declared.reply.Outcome.TheVariants.{Text, Media, NotFound, TooFar, Busy, Timeout}
 use Rattle.ll_verdict.specs.declared.reply.Reply.{Reply}
 use Rattle.ll_verdict.specs.declared.reply.Reply.TheVariants as reply
 
@@ -23,19 +23,27 @@ playlist_words (Some V2) = codes "a delta update (v2)"
 unfoldable pub text_words : ℕ → List ℕ → List ℕ
 text_words n playlist = playlist ++ (codes " after " ++ (decimal n ++ codes " items"))
 
+unfoldable pub media_words : ℕ → ℕ → List ℕ
+media_words n size = codes "media of " ++ (decimal size ++ (codes " bytes after " ++ (decimal n ++ codes " items")))
+
 abbrev pub outcome_words : Outcome → List ℕ
 outcome_words (Text n update) = text_words n (playlist_words update)
-outcome_words NotFound = codes "NotFound: the channel has no such rendition"
+outcome_words (Media n size) = media_words n size
+outcome_words NotFound = codes "NotFound: there is no such rendition or media"
 outcome_words TooFar = codes "TooFar: what it awaits is too far ahead"
 outcome_words Busy = codes "Busy: as many requests wait as may wait"
 outcome_words Timeout = codes "Timeout: what it awaits did not come in time"
 
+-- whether a line is that of a request: for a playlist, or for media
+abbrev pub is_ask_line : List ℕ → Bool
+is_ask_line line = is_some (after (codes "A ") line) || is_some (after (codes "M ") line)
+
 -- what happens at the entry of a line, before what it gets
 abbrev pub event_words : List ℕ → Option Reply → List ℕ
-event_words line (Some reply) = if is_some (after (codes "A ") line) then codes "a request gets at once " else codes "a request that was held gets "
+event_words line (Some reply) = if is_ask_line line then codes "a request gets at once " else codes "a request that was held gets "
 event_words line None =
     if is_some (after (codes "P ") line) then codes "an item is accepted"
-    else if is_some (after (codes "A ") line) then codes "a request is held"
+    else if is_ask_line line then codes "a request is held"
     else if is_some (after (codes "C ") line) then codes "the clock is read"
     else codes "a request that was held is given up"
 

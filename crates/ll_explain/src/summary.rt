@@ -16,15 +16,15 @@ pub struct Summary {
     pub entries: u64,
     /// The items that were accepted.
     pub items: u64,
-    /// The requests that got a playlist at once.
+    /// The requests that got a playlist or media at once.
     pub at_once: u64,
-    /// The requests that were held, and got a playlist.
+    /// The requests that were held, and got a reply before their time was over.
     pub answered: u64,
     /// The requests that were held until their time was over.
     pub timed_out: u64,
     /// The requests for what was too far ahead.
     pub too_far: u64,
-    /// The requests for a rendition that the channel doesn't have.
+    /// The requests for a rendition or media that there isn't, as was told at once.
     pub not_found: u64,
     /// The requests that came when as many waited as may wait.
     pub busy: u64,
@@ -91,7 +91,7 @@ impl Summary {
     /// Counts what a request got at once.
     fn add_answer(&mut self, outcome: Outcome) {
         match outcome {
-            Outcome::Text(..) | Outcome::Timeout => count(&mut self.at_once),
+            Outcome::Text(..) | Outcome::Media(..) | Outcome::Timeout => count(&mut self.at_once),
             Outcome::NotFound => count(&mut self.not_found),
             Outcome::TooFar => count(&mut self.too_far),
             Outcome::Busy => count(&mut self.busy),
@@ -162,7 +162,7 @@ fn events_text(alloc: Global, number: u64, chain: &Summary) -> Result<String, Al
     )
 }
 
-/// The requests of a chain that could get a playlist.
+/// The requests of a chain that could get what they asked for.
 fn requests_text(alloc: Global, chain: &Summary) -> Result<String, AllocError> {
     let (at_once, answered, timed_out) = (chain.at_once, chain.answered, chain.timed_out);
     let (given_up, open, most) = (chain.given_up, chain.open, chain.most_open);

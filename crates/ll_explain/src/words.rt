@@ -28,7 +28,7 @@ impl Explained<'_> {
 fn event_words(line: &str, reply: &Option<Reply>) -> &'static str
     ensures { result.now ≡ spec.event_words line.now reply.now }
 {
-    let asks = after(line, "A ").is_some();
+    let asks = after(line, "A ").is_some() || after(line, "M ").is_some();
     if reply.is_some() {
         return if asks {
             "a request gets at once "
@@ -63,7 +63,10 @@ fn outcome_words(alloc: Global, outcome: Outcome) -> Result<String, AllocError>
 {
     match outcome {
         Outcome::Text(items, update) => text_words(alloc, items, playlist_words(update)),
-        Outcome::NotFound => String::from_str(alloc, "NotFound: the channel has no such rendition"),
+        Outcome::Media(items, length) => media_words(alloc, items, length),
+        Outcome::NotFound => {
+            String::from_str(alloc, "NotFound: there is no such rendition or media")
+        }
         Outcome::TooFar => String::from_str(alloc, "TooFar: what it awaits is too far ahead"),
         Outcome::Busy => String::from_str(alloc, "Busy: as many requests wait as may wait"),
         Outcome::Timeout => String::from_str(alloc, "Timeout: what it awaits did not come in time"),
@@ -76,6 +79,14 @@ fn text_words(alloc: Global, items: u64, playlist: &str) -> Result<String, Alloc
     ensures { IfOk result (λ t. string_bytes t ≡ spec.text_words items playlist.now) }
 {
     format!(in alloc; "{playlist} after {items} items")
+}
+
+/// Media of so many bytes after so many items.
+#[tactic(auto, unfolding(crate::specs::Words::media_words))]
+fn media_words(alloc: Global, items: u64, length: u64) -> Result<String, AllocError>
+    ensures { IfOk result (λ t. string_bytes t ≡ spec.media_words items length) }
+{
+    format!(in alloc; "media of {length} bytes after {items} items")
 }
 
 /// A playlist that is a delta update of this kind, or a full one for none.

@@ -1,7 +1,7 @@
 -- What a caller has seen and counted.
 use Rattle.std.specs.Prelude.{ℕ, List, Option, Some, None, max, replicate, slice_get, slice_set}
 use Rattle.ll_verdict.specs.declared.reply.Reply.{Reply}
-use Rattle.ll_verdict.specs.declared.reply.Reply.TheVariants.{Text, NotFound, TooFar, Busy, Timeout}
+use Rattle.ll_verdict.specs.declared.reply.Reply.TheVariants.{Text, Media, NotFound, TooFar, Busy, Timeout}
 
 pub record PassValue : Type 0 where
   -- of each channel, how many items it has accepted at least
@@ -23,9 +23,10 @@ noted_by (Some before) seen channel count = slice_set seen channel (max before c
 abbrev pub noted : List ℕ → ℕ → ℕ → List ℕ
 noted seen channel count = noted_by (slice_get seen channel) seen channel count
 
--- a text tells how many items there were; no other reply does
+-- a text and media tell how many items there were; no other reply does
 abbrev pub noted_reply : List ℕ → ℕ → Reply → List ℕ
 noted_reply seen channel (Text page) = noted seen channel page.seen.count
+noted_reply seen channel (Media piece) = noted seen channel piece.number
 noted_reply seen channel NotFound = seen
 noted_reply seen channel TooFar = seen
 noted_reply seen channel Busy = seen

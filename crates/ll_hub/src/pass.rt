@@ -54,8 +54,10 @@ impl<L: Ledgers> Pass<L> {
     pub(crate) fn note_reply(&mut self, channel: usize, reply: &Reply)
         ensures { self.new ≡ record self.old { seen = noted_reply self.old.seen channel reply.now } }
     {
-        if let Reply::Text(page) = reply {
-            self.note(channel, page.number());
+        match reply {
+            Reply::Text(page) => self.note(channel, page.number()),
+            Reply::Media(piece) => self.note(channel, piece.number),
+            Reply::NotFound | Reply::TooFar | Reply::Busy | Reply::Timeout => {}
         }
     }
 

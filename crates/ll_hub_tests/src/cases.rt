@@ -245,6 +245,7 @@ pub(crate) fn awaited<L: Ledgers, R: Wait + Abort>(
 fn told(alloc: Global, reply: &Reply) -> Result<String, AllocError> {
     let name = match reply {
         Reply::Text(page) => return told_page(alloc, page.number(), page.text()),
+        Reply::Media(_) => "media",
         Reply::NotFound => "NotFound",
         Reply::TooFar => "TooFar",
         Reply::Busy => "Busy",

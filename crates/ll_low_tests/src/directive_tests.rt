@@ -1,4 +1,4 @@
-use ll_directive::{Awaited, Want, read_target};
+use ll_directive::{Awaited, Want, What, read_target};
 use ll_item::SkipKind;
 use std::alloc::{AllocError, Global};
 
@@ -25,6 +25,7 @@ fn add_target(alloc: Global, told: &mut String, target: &str) -> Result<(), Allo
 fn add_want(told: &mut String, want: &Want) -> Result<(), AllocError> {
     add_names(told, want)?;
     add_awaited(told, want.awaited())?;
+    add_what(told, want.what())?;
     told.push_str(match want.skip() {
         None => "",
         Some(SkipKind::Yes) => ", skip YES",
@@ -44,6 +45,38 @@ fn add_awaited(told: &mut String, awaited: Awaited) -> Result<(), AllocError> {
         Awaited::Part(msn, part) => write!(told, "part {msn} {part}"),
     }
 }
+
+fn add_what(told: &mut String, what: What) -> Result<(), AllocError> {
+    match what {
+        What::Playlist => Ok(()),
+        What::Segment(number) => write!(told, ", file of segment {number}"),
+        What::Part(number, index) => write!(told, ", file of part {number} {index}"),
+        What::Init(number) => write!(told, ", file of section {number}"),
+    }
+}
+
+/// Targets of media, whose query isn't read.
+pub(crate) const FILES: &str = "directive: target
+/cam/hi/s0.m4s => cam hi: nothing, file of segment 0
+/cam/hi/s12.m4s?_HLS_msn=x => cam hi: nothing, file of segment 12
+/cam/hi/s12.3.m4s => cam hi: part 12 3, file of part 12 3
+http://a/cam/hi/init7.mp4? => cam hi: nothing, file of section 7
+/cam/hi/s18446744073709551615.18446744073709551615.m4s => cam hi: part 18446744073709551615 18446744073709551615, file of part 18446744073709551615 18446744073709551615
+/cam/hi/s18446744073709551616.m4s => NotFound
+/cam/hi/s00.m4s => NotFound
+/cam/hi/s01.0.m4s => NotFound
+/cam/hi/s1.00.m4s => NotFound
+/cam/hi/s.m4s => NotFound
+/cam/hi/s0..m4s => NotFound
+/cam/hi/s0.0.0.m4s => NotFound
+/cam/hi/s0.mp4 => NotFound
+/cam/hi/init0.m4s => NotFound
+/cam/hi/init0.0.mp4 => NotFound
+/cam/hi/init.mp4 => NotFound
+/cam/hi/S0.m4s => NotFound
+/cam/hi/s0.m4s. => NotFound
+/cam/hi/s0.m4s/ => NotFound
+/cam/hi/s%30.m4s => NotFound";
 
 /// Targets that are read, and what they ask for.
 pub(crate) const DIRECTIVES: &str = "directive: target

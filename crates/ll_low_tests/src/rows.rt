@@ -38,7 +38,7 @@ impl Bench {
     }
 }
 
-const TABLES: [&str; 39] = [
+const TABLES: [&str; 40] = [
     attr_tests::WRITTEN,
     attr_tests::READ,
     attr_tests::NUMBERS,
@@ -73,6 +73,7 @@ const TABLES: [&str; 39] = [
     want_tests::HELD,
     want_tests::FAR,
     directive_tests::DIRECTIVES,
+    directive_tests::FILES,
     directive_tests::QUERIES,
     directive_tests::TARGETS,
     directive_tests::NAMES,

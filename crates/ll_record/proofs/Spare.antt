@@ -63,8 +63,8 @@ pub spare-left-more : (n len line requests free left : ℕ) → len ≡ line →
     → spare * (n + 1) ≤ left
 spare-left-more n len line requests free left e f enough taken = omega (arith, e, f, enough, taken)
 
--- a line of at most 63 bytes, with its end
-pub short-line : (n m : ℕ) → n ≡ m → m ≤ 63 → n + 1 ≤ spare
+-- a line of at most 79 bytes, with its end
+pub short-line : (n m : ℕ) → n ≡ m → m ≤ 79 → n + 1 ≤ spare
 short-line n m e h = omega (arith, e, h)
 
 pub one-new : (a : Asked) → length (new_tickets a) ≤ 1

@@ -11,7 +11,7 @@ pub record Buffer : Type 0 where
 
 -- how many bytes are kept for the line that hands a reply out or gives a request up, with its end
 abbrev pub spare : ℕ
-spare = 64
+spare = 80
 
 -- the record is that of some events, and each open request can be told of once more without memory
 pub record IsKept (r : Recording) (free : ℕ) : Type 0 where

@@ -8,7 +8,7 @@ use std::alloc::{AllocError, Global};
 use std::marker::Model;
 
 /// How many bytes are kept, for each open request, for the line that hands its reply out or gives it up, with its end.
-const SPARE: usize = 64;
+const SPARE: usize = 80;
 
 /// Lines, each with its end.
 #[derive(Drop)]

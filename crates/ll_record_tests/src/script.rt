@@ -225,6 +225,7 @@ impl Played {
 fn name_of(reply: &Reply) -> &'static str {
     match reply {
         Reply::Text(_) => "Text",
+        Reply::Media(_) => "Media",
         Reply::NotFound => "NotFound",
         Reply::TooFar => "TooFar",
         Reply::Busy => "Busy",

@@ -1,5 +1,5 @@
 //! Calls of a recorded channel for whose memory nothing is found.
-use crate::rows::{Answer, Made, NOW, PART, Row, SECOND, item, want};
+use crate::rows::{Answer, LAST, Made, NOW, PART, Row, SECOND, SEGMENT, item, want};
 use crate::tools::Tools;
 use std::alloc::Global;
 use std::sync::Wait;
@@ -13,6 +13,8 @@ pub(crate) enum Call {
     AskHeld,
     /// A request that waits for nothing.
     AskNow,
+    /// A request for a segment that is finished.
+    AskSegment,
     /// A reading at which their time is over.
     Clock,
     /// The record is handed out.
@@ -26,13 +28,18 @@ impl Call {
             Call::Publish => (Made::Publish(item(alloc, PART)?), Answer::Accepted(2)),
             Call::AskHeld => (Made::Ask(want(alloc, SECOND)?), Answer::Held(4)),
             Call::AskNow => (Made::Ask(want(alloc, NOW)?), Answer::Text(1)),
+            Call::AskSegment => (Made::Ask(want(alloc, SEGMENT)?), Answer::Media(10)),
             Call::Clock => (Made::Clock(12_000), Answer::Read),
             Call::Rotate => (Made::Rotate, Answer::Entries(4)),
         })
     }
 
-    /// Uses up the record's memory, so that the call needs more for its line. Handing the record out needs none for a line.
+    /// Finishes the segment, where it is asked for, and uses up the record's memory, so that the call needs more for its line. Handing the record
+    /// out needs none for a line.
     fn fill<R: Wait>(self, tools: &Tools<'_, R>, row: &mut Row) {
+        if let (Call::AskSegment, Some(last)) = (self, item(tools.alloc, LAST)) {
+            row.make(Made::Publish(last));
+        }
         if !matches!(self, Call::Rotate) {
             row.fill(tools);
         }

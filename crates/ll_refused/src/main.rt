@@ -38,6 +38,7 @@ const SWEPT: [(&str, Swept); 8] = [
     ("Recorder::publish", Swept::Channel(Call::Publish)),
     ("Recorder::ask, held", Swept::Channel(Call::AskHeld)),
     ("Recorder::ask, at once", Swept::Channel(Call::AskNow)),
+    ("Recorder::ask, a segment", Swept::Channel(Call::AskSegment)),
     ("Recorder::clock", Swept::Channel(Call::Clock)),
     ("Recorder::rotate", Swept::Channel(Call::Rotate)),
     ("Shelf::put", Swept::Put),

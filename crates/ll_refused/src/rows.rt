@@ -11,6 +11,12 @@ use std::sync::Wait;
 /// A part that starts a segment, or goes on with one.
 pub(crate) const PART: &str = "part hi 1000000 i";
 
+/// The last part of a segment.
+pub(crate) const LAST: &str = "part hi 1000000 f";
+
+/// A request for the first segment.
+pub(crate) const SEGMENT: &str = "/cam/hi/s0.m4s";
+
 /// A request for the second part.
 pub(crate) const SECOND: &str = "/cam/hi/live.m3u8?_HLS_msn=0&_HLS_part=1";
 
@@ -29,6 +35,8 @@ pub(crate) enum Answer {
     Held(u64),
     /// The request gets the playlist of so many items.
     Text(u64),
+    /// The request gets media of so many bytes.
+    Media(u64),
     /// The request's time is over.
     Timeout,
     /// The reading is taken.
@@ -58,10 +66,10 @@ pub(crate) struct Row {
     pub(crate) chunk: Option<Chunk>,
 }
 
-/// What a line announces.
+/// What a line of a part announces, which has five bytes.
 pub(crate) fn item(alloc: Global, line: &str) -> Option<Item> {
     let settings = Settings::read(alloc, CHANNEL).ok()?;
-    Item::read(alloc, &settings, line, &Payload::none()).ok()
+    Item::read(alloc, &settings, line, &Payload::of_bytes(b"bytes")?).ok()
 }
 
 /// What a target asks for.
@@ -73,6 +81,7 @@ pub(crate) fn want(alloc: Global, target: &str) -> Option<Want> {
 pub(crate) fn answer_of(reply: &Reply) -> Answer {
     match reply {
         Reply::Text(page) => Answer::Text(page.number()),
+        Reply::Media(piece) => Answer::Media(piece.bytes.len()),
         Reply::Timeout => Answer::Timeout,
         Reply::NotFound | Reply::TooFar | Reply::Busy => Answer::Other,
     }

@@ -97,6 +97,8 @@ fn push_reply(text: &mut String, reply: &Reply) -> Result<(), AllocError> {
     match reply {
         Reply::Text(page) => text.push_str(page.text()),
         Reply::Timeout => text.push_str("Timeout\n"),
-        Reply::NotFound | Reply::TooFar | Reply::Busy => text.push_str("another reply\n"),
+        Reply::Media(_) | Reply::NotFound | Reply::TooFar | Reply::Busy => {
+            text.push_str("another reply\n")
+        }
     }
 }

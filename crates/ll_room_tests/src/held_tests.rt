@@ -144,6 +144,7 @@ fn told(alloc: Global, answer: Option<ActAnswer>) -> Option<String> {
 fn reply_told(reply: &Reply) -> &str {
     match reply {
         Reply::Text(page) => page.text().lines().last().unwrap_or(""),
+        Reply::Media(_) => "media",
         Reply::NotFound => "NotFound",
         Reply::TooFar => "TooFar",
         Reply::Busy => "Busy",
