@@ -3,7 +3,7 @@ use Rattle.std.proofs.Common.{◌≡◌, Bool, true, false, refl}
 use Rattle.ll_directive.specs.Files.{is_playlist}
 use Rattle.ll_directive.specs.Targets.{IsPlain, WantValue, awaited_by, awaited_in}
 
-by_file : (w : WantValue) (b : Bool) → is_playlist w.what ≡ b → IsPlain w → w.awaited ≡ awaited_by b w
+by_file : (w : WantValue) (b : Bool) → is_playlist w.what ≡ b → IsPlain w → w.awaited ≡ awaited_by b w.awaited w.what
 by_file w true e plain = refl
 by_file w false e plain = (plain e).0
 

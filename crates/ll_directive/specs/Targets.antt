@@ -39,13 +39,13 @@ awaits (what.Init number) = Nothing
 abbrev pub IsPlain : WantValue → Type 0
 IsPlain w = is_playlist w.what ≡ false → (w.awaited ≡ awaits w.what) × (w.skip ≡ None)
 
-abbrev pub awaited_by : Bool → WantValue → Awaited
-awaited_by true w = w.awaited
-awaited_by false w = awaits w.what
+abbrev pub awaited_by : Bool → Awaited → What → Awaited
+awaited_by true awaited file = awaited
+awaited_by false awaited file = awaits file
 
 -- what a request waits for, whatever it is for
 abbrev pub awaited_in : WantValue → Awaited
-awaited_in w = awaited_by (is_playlist w.what) w
+awaited_in w = awaited_by (is_playlist w.what) w.awaited w.what
 
 -- a request for media of a rendition
 abbrev pub media_want : List ℕ → List ℕ → What → WantValue

@@ -1,9 +1,9 @@
 -- Each call, from what its parts tell.
-use Rattle.std.proofs.Common.{◌≡◌, ℕ, ◌+◌, ◌*◌, ◌≤◌, ◌^◌, List, [], ◌∷◌, ◌++◌, None, true, false, Option, ap, ◌∙◌, sym, subst, length, option_map}
+use Rattle.std.proofs.Common.{◌≡◌, ℕ, ◌+◌, ◌*◌, ◌≤◌, ◌^◌, List, [], ◌∷◌, ◌++◌, Bool, None, true, false, Option, refl, ap, ◌∙◌, sym, subst, length, option_map}
 use Rattle.std.specs.Str.{is_utf8}
 use Rattle.ll_entry.specs.Entered.{event_of, fault_in}
 use Rattle.ll_directive.specs.Targets.{WantValue}
-use Rattle.ll_entry.specs.Lines.{IsSpelled, entry_line}
+use Rattle.ll_entry.specs.Lines.{IsSpelled, asked_line, entry_line}
 use Rattle.ll_entry.specs.declared.entry.Recorded.{Recorded}
 use Rattle.ll_entry.specs.declared.entry.Recorded.TheVariants as recorded
 use Rattle.ll_entry.specs.declared.version.Version.TheVariants.{Two}
@@ -57,6 +57,11 @@ publish-step old new item t none kept stands events r =
       right = publish-right old.room.settings events item free;
       stands = stands events r.stands;
     })
+
+-- nor does its line
+pub asked-same : (b : Bool) (ask : ℕ) (c : Configuration) (want : WantValue) (reply : Option Outcome) → asked_line b ask want reply ≡ asked_line b ask (of_channel c want) reply
+asked-same true ask c want reply = refl
+asked-same false ask c want reply = refl
 
 -- what a channel comes to with a request doesn't depend on the channel's name in it
 renamed : (h : RoomValue) (c : Configuration) (events : List Event) (want : WantValue) → Stands h (events ++ Ask want ∷ [])

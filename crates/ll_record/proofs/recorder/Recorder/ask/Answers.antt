@@ -3,6 +3,7 @@ use Rattle.std.specs.Str.{is_utf8}
 use Rattle.ll_entry.specs.Lines.{entry_line}
 use Rattle.ll_entry.specs.declared.entry.Recorded.{Recorded}
 use Rattle.ll_entry.specs.declared.entry.Recorded.TheVariants as recorded
+use Rattle.ll_directive.specs.Files.{is_playlist}
 use Rattle.ll_item.specs.Settings.{limit_broken}
 use Rattle.ll_entry.specs.Leads.{with_end}
 use Rattle.std.specs.Prelude.{option_map}
@@ -12,7 +13,7 @@ use Rattle.ll_verdict.specs.Events.{Event, Ask}
 use Rattle.ll_verdict.specs.Outcome.{outcome_of}
 use Rattle.ll_verdict.specs.Verdict.{at_once, held}
 use Rattle.ll_record.proofs.Spare.{one-new, spare-left-more, spare-more}
-use Rattle.ll_record.proofs.Steps.{IsTold, ask-step, kept-after}
+use Rattle.ll_record.proofs.Steps.{IsTold, ask-step, asked-same, kept-after}
 use Rattle.ll_record.specs.Recording.{IsRecorded, Recording, of_channel}
 use Rattle.ll_record.specs.contracts.recorder.Recorder.{the_view}
 use Rattle.ll_record.proofs.recorder.Recorder.ask.Goals as goal
@@ -25,7 +26,9 @@ abbrev entry : After-drop-line → Recorded
 entry c = recorded.Ask (c.self.inside.room.asks + 1) (of_channel c.self.inside.room.settings c.args.want) c.outcome-outcome.result
 
 line-is : (c : After-drop-line) → c.as_str.result.now ≡ entry_line c.self.inside.room.settings (entry c)
-line-is c = c.as_str.ensures.value ∙ c.in-Ok.ensures.text c.self.inside.room.settings
+line-is c =
+    let h = c.self.inside.room in
+    c.as_str.ensures.value ∙ c.in-Ok.ensures.text h.settings ∙ asked-same (is_playlist c.args.want.what) (h.asks + 1) h.settings c.args.want c.outcome-outcome.result
 
 told : (c : After-drop-line) → IsTold (the_view c.self.inside) (after c) (entry c)
 told c = record {
