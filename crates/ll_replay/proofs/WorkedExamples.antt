@@ -3,6 +3,7 @@ use Rattle.std.proofs.Common.{refl}
 use Rattle.std.specs.Fmt.{digits}
 use Rattle.std.specs.Str.{is_utf8, chars}
 use Rattle.std.specs.Char.{encode_utf8}
+use Rattle.hex.specs.Hex.{encode_with}
 use Rattle.ll_attr.specs.Durations.{seconds}
 use Rattle.ll_time.specs.Calendar.{nth_date}
 use Rattle.ll_time.specs.Times.{time_of, digits_2, digits_3, digits_4}
@@ -19,5 +20,5 @@ use Rattle.ll_replay.specs.Script.{line}
 use Rattle.ll_replay.specs.Worked.{WorkedScript}
 
 pub worked : WorkedScript
-unfolding line_text segment_uri part_uri map_uri report_uri seconds digits configuration_of nth_date time_of digits_2 digits_3 digits_4 ok_line refusal_line text_reply named_reply rendition_refusal is_there raw_pairs split percent_decode line is_utf8 chars encode_utf8
-worked = record { no_memory = refl; at_once = refl; later = refl; refusals = refl; last_refusals_told = refl; waiting = refl; same_text = refl; same_ending = refl }
+unfolding encode_with line_text segment_uri part_uri map_uri report_uri seconds digits configuration_of nth_date time_of digits_2 digits_3 digits_4 ok_line refusal_line text_reply named_reply rendition_refusal is_there raw_pairs split percent_decode line is_utf8 chars encode_utf8
+worked = record { no_memory = refl; at_once = refl; later = refl; refusals = refl; last_refusals_told = refl; waiting = refl; media = refl; same_text = refl; same_ending = refl }

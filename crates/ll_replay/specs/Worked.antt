@@ -126,6 +126,22 @@ waiting_text =
     ++ part_playlist
     ++ codes "reply 2 503 Timeout\n"
 
+-- a part is waited for, its segment is there, and the next one isn't
+abbrev pub media_lines : List ℕ
+media_lines =
+    channel_line
+    ++ codes "get 1 /cam/hi/s0.0.m4s\n"
+    ++ codes "pub cam part hi 1000000 f 00ff\n"
+    ++ codes "get 2 /cam/hi/s0.m4s\n"
+    ++ codes "get 3 /cam/hi/s1.m4s\n"
+
+abbrev pub media_text : List ℕ
+media_text =
+    codes "ok 1\n"
+    ++ codes "reply 1 200 2\n00ff\n"
+    ++ codes "reply 2 200 2\n00ff\n"
+    ++ codes "reply 3 404 NotFound\n"
+
 -- the second number of a request does not rise
 abbrev pub same_number : List ℕ
 same_number = asked_at_once ++ codes "get 1 /cam/hi/live.m3u8\n" ++ codes "pub cam part hi 1000000 if\n"
@@ -154,5 +170,6 @@ pub record WorkedScript : Type 0 where
   pub refusals : script refused_lines ≡ refusals_text
   pub last_refusals_told : script last_lines ≡ last_refusals
   pub waiting : script waiting_lines ≡ waiting_text
+  pub media : script media_lines ≡ media_text
   pub same_text : script same_number ≡ codes "reply 1 200 304\n" ++ empty_playlist
   pub same_ending : (world_of same_number).ending ≡ Some (BadLine 3)

@@ -4,7 +4,7 @@
 mod act;
 mod answers;
 mod clock;
-mod hex;
+mod hexadecimal;
 mod laws;
 mod piece;
 mod reading;

@@ -12,7 +12,7 @@ ghost use Rattle.ll_script.specs.Lines as spec;
 ghost use Rattle.ll_script.specs.Reads.{IsRead};
 
 use crate::act::{Act, Acts};
-use crate::hex::{is_hex, read_hex};
+use crate::hexadecimal::{is_hex, read_hex};
 use crate::piece::Piece;
 use ll_attr::{after, cut, parse_number};
 use ll_directive::{TargetFault, named_channel, read_target};

@@ -6,21 +6,17 @@ use Rattle.std.proofs.lemmas.List.Elements.{filter-append}
 use Rattle.ll_verdict.specs.Waiting.{first_ready, is_ready, is_ready_at, settled_in, ticket_in}
 use Rattle.ll_item.specs.Settings.{Configuration}
 use Rattle.ll_item.specs.declared.item.Item.{Item}
-use Rattle.ll_page.specs.Page.{Paged}
 use Rattle.ll_verdict.specs.Events.{Event, Publish, Ask, Collect, Close, Clock, items, later, taken, time}
 use Rattle.ll_verdict.specs.State.{State, answer_of, new_slots, next, settle, slot_by, slot_of, state_of, stays, waiting_in}
-use Rattle.ll_verdict.specs.Verdict.{Request, far, is_there, page_of, reply_by, reply_with, wanted_of}
+use Rattle.ll_verdict.specs.Verdict.{Request, is_there, reply_by, reply_with, wanted_of}
 use Rattle.ll_verdict.specs.declared.entry.Slot.{Slot}
 use Rattle.ll_verdict.specs.declared.reply.Reply.{Reply}
-use Rattle.ll_verdict.specs.declared.reply.Reply.TheVariants.{Busy, TooFar}
-use Rattle.ll_verdict.specs.declared.reply.Reply.TheVariants as now
 use Rattle.ll_verdict.specs.declared.reply.Settled.{Settled}
 use Rattle.ll_verdict.specs.declared.wanted.Wanted.{Wanted}
 use Rattle.ll_verdict.proofs.HintLemmas.{awaited-missing}
 use Rattle.ll_verdict.proofs.ListLemmas.{Each, each-append}
 use Rattle.ll_verdict.proofs.StateLemmas.{state-snoc}
 use Rattle.ll_verdict.proofs.StepLemmas.{along}
-use Rattle.ll_window.specs.Segments.{own}
 use Rattle.ll_rooms.specs.World.{Channel, first_due, with_event}
 use Rattle.ll_rooms.proofs.DueLemmas.{first_is, reply_is}
 use Rattle.ll_rooms.proofs.TieLemmas.{none_some}

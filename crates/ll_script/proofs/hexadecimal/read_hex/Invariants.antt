@@ -2,7 +2,7 @@ use Rattle.std.proofs.Common.{◌≡◌, ◌+◌, ◌*◌, ◌≤◌, length}
 use Rattle.std.specs.Prelude.{vec_capacity, vec_len}
 use Rattle.std.specs.Slice.Iter.{chunks_exact_rest, chunks_exact_size}
 use Rattle.ll_script.proofs.HexLemmas.{IsReadTo}
-use Rattle.ll_script.proofs.hex.read_hex.Given as goal
+use Rattle.ll_script.proofs.hexadecimal.read_hex.Given as goal
 
 -- there is room for the bytes of the digits that are left
 abbrev pub invariant-loop-pair : goal.invariant-loop-pair

@@ -4,7 +4,7 @@ use Rattle.std.specs.Option.{unwrap_or}
 use Rattle.std.specs.Prelude.{vec_capacity, vec_len}
 use Rattle.std.specs.Slice.Iter.{chunks_exact_rest, chunks_exact_size}
 use Rattle.ll_script.proofs.HexLemmas.{IsReadTo, read-all, read-next, read-none}
-use Rattle.ll_script.proofs.hex.read_hex.Goals as goal
+use Rattle.ll_script.proofs.hexadecimal.read_hex.Goals as goal
 
 pub loop-pair-init : goal.loop-pair-init
 loop-pair-init c =

@@ -1,7 +1,7 @@
 -- A text spells bytes where it is an even number of digits.
 use Rattle.std.proofs.Common.{sym, ◌∙◌}
 use Rattle.ll_script.proofs.HexLemmas.{even-some, odd-some}
-use Rattle.ll_script.proofs.hex.is_hex.Goals as goal
+use Rattle.ll_script.proofs.hexadecimal.is_hex.Goals as goal
 
 pub returns-then-text-eq0 : goal.returns-then-text-eq0
 returns-then-text-eq0 c = c.all_digits.ensures ∙ sym (even-some c.args.text.now c.if-text-eq0.true)
