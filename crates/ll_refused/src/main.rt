@@ -34,7 +34,7 @@ enum Swept {
 }
 
 /// These calls.
-const SWEPT: [(&str, Swept); 8] = [
+const SWEPT: [(&str, Swept); 9] = [
     ("Recorder::publish", Swept::Channel(Call::Publish)),
     ("Recorder::ask, held", Swept::Channel(Call::AskHeld)),
     ("Recorder::ask, at once", Swept::Channel(Call::AskNow)),

@@ -181,11 +181,7 @@ fn shelves_keep_requests(rt: HostRuntime) -> Result<(), Fail> {
 fn number(reply: &Reply) -> Option<u64> {
     match reply {
         Reply::Text(page) => Some(page.number()),
-        Reply::Media(_)
-        | Reply::NotFound
-        | Reply::TooFar
-        | Reply::Busy
-        | Reply::Timeout => None,
+        Reply::Media(_) | Reply::NotFound | Reply::TooFar | Reply::Busy | Reply::Timeout => None,
     }
 }
 
