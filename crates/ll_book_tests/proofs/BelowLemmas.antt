@@ -1,11 +1,11 @@
 -- The next ticket stays above those that are open.
-use Rattle.std.proofs.Common.{◌≡◌, ℕ, ◌<◌, ◌+◌, List, [], ◌∷◌, ◌++◌, Bool, true, false, cond, filter, map, refl, sym, ◌∙◌, subst, arith}
+use Rattle.std.proofs.Common.{◌≡◌, ℕ, ◌<◌, ◌+◌, List, [], ◌∷◌, ◌++◌, Bool, true, false, None, cond, filter, map, refl, sym, ◌∙◌, subst, arith}
 use Rattle.ll_book.specs.Pages.{PagesOf}
-use Rattle.ll_book.specs.Release.{ReleaseLaw, expired, given_if, holders_of, is_over, over_if, released, takes}
+use Rattle.ll_book.specs.Release.{ReleaseLaw, Supply, expired, given_if, holders_of, is_over, over_if, released, takes}
 use Rattle.ll_book.specs.declared.release.Release.{Release}
-use Rattle.ll_page.specs.Page.{Paged}
 use Rattle.ll_verdict.specs.Waiting.{AreBelow}
 use Rattle.ll_verdict.specs.declared.entry.Slot.{Slot}
+use Rattle.ll_verdict.specs.declared.reply.Settled.{Settled}
 
 pub below_one : (n : ℕ) (s : Slot) (ss : List Slot) → s.entry.ticket ≡ n → AreBelow n ss → AreBelow (n + 1) (ss ++ s ∷ [])
 below_one n s [] h b = (omega (arith, h), tt)
@@ -30,10 +30,14 @@ below_expired time = below_map (expired time) (λ s. stays (is_over time s) s)
     stays true s = refl
     stays false s = refl
 
-pub below_released : ReleaseLaw → (pages : PagesOf) (which : Release) (hs : List (ℕ × Paged)) (n : ℕ) (old new : List Slot) → hs ≡ holders_of pages which old → new ≡ released which hs old → AreBelow n old → AreBelow n new
-below_released law pages which hs n old new h e b =
-    subst (AreBelow n) (sym (e ∙ (λ i. released which (h i) old) ∙ law.given pages which old)) (below_map (λ s. given_if pages (takes which s) s) (λ s. stays (takes which s) s) n old b)
+-- pages alone: no part has come
+abbrev pub alone : PagesOf → Supply
+alone pages = record { pages = pages; part = None }
+
+pub below_released : ReleaseLaw → (supply : Supply) (which : Release) (hs : List (ℕ × Settled)) (n : ℕ) (old new : List Slot) → hs ≡ holders_of supply which old → new ≡ released which hs old → AreBelow n old → AreBelow n new
+below_released law supply which hs n old new h e b =
+    subst (AreBelow n) (sym (e ∙ (λ i. released which (h i) old) ∙ law.given supply which old)) (below_map (λ s. given_if supply (takes which s) s) (λ s. stays (takes which s) s) n old b)
   where
-    stays : (c : Bool) (s : Slot) → (given_if pages c s).entry.ticket ≡ s.entry.ticket
+    stays : (c : Bool) (s : Slot) → (given_if supply c s).entry.ticket ≡ s.entry.ticket
     stays true s = refl
     stays false s = refl
