@@ -9,7 +9,7 @@ import subprocess
 import sys
 
 WORDS = {
-    "notfound": "NotFound: the channel has no such rendition",
+    "notfound": "NotFound: there is no such rendition or media",
     "bad TooFar": "TooFar: what it awaits is too far ahead",
     "busy": "Busy: as many requests wait as may wait",
     "timeout": "Timeout: what it awaits did not come in time",
