@@ -1,7 +1,8 @@
 /* follow PORT PUBLISH_PORT SCRIPT OUTPUT
 
    Does over sockets on loopback what a script of `llhls replay` says: its `pub` lines go to the publishers' port, its `bytes` lines to the players'
-   port, each connection of the script on a connection of its own, and `drop` closes it; lines that it doesn't know are passed over. OUTPUT is what
+   port, each connection of the script on a connection of its own, and `drop` closes it; lines that it doesn't know are passed over. The digits that end a
+   `pub` line of a part or a Media Initialization Section go as bytes after the line, which tells how many there are. OUTPUT is what
    `llhls replay` wrote for the script: each connection must get exactly the bytes of its `sent` lines, and be closed where it has a `shut` line, and
    each `pub` line must get its answer. All that is due by then is awaited before the next `pub` line, before the `drop` of a connection, and at the
    end; then nothing more may have come. Before a `pub` line it waits some milliseconds where requests that it will free, or a later one, were sent,
@@ -22,6 +23,8 @@
 #define PATIENCE_MS 10000
 #define HOLD_US 30000         /* and so much more for each request: */
 #define HOLD_EACH_US 100
+
+static const char media[] = "HTTP/1.1 200 OK\r\nContent-Type: video/mp4\r\n";
 
 /* What is due on a connection, from how many answers to `pub` lines on: so many bytes in all, or its end. */
 struct due {
@@ -98,6 +101,9 @@ static void read_output(FILE *output)
             c->wanted = grown(c->wanted, c->length + length);
             if (fread(c->wanted + c->length, 1, length, output) != length)
                 fail("the output is cut off");
+            /* an LF that isn't counted stands after media */
+            if (length >= sizeof media - 1 && memcmp(c->wanted + c->length, media, sizeof media - 1) == 0)
+                getc(output);
             c->length += length;
             add_due(c, 0);
         } else if (sscanf(line, "shut %ld", &number) == 1) {
@@ -212,6 +218,54 @@ static void send_all(int s, const char *bytes, size_t length, int may_fail)
     }
 }
 
+/* The bytes of so many digits. */
+static char *unhexed(const char *hex, size_t length)
+{
+    char *bytes = grown(NULL, length);
+    size_t i;
+
+    for (i = 0; i < length; i++) {
+        unsigned byte;
+        sscanf(hex + 2 * i, "%2x", &byte);
+        bytes[i] = (char)byte;
+    }
+    return bytes;
+}
+
+/* How long the digits are that end a line of a part or a Media Initialization Section, its LF not counted; 0 where it has none. */
+static size_t digits(const char *line, size_t length)
+{
+    char kind[5];
+    size_t i, words = 1, last = 0;
+
+    for (i = 0; i < length; i++)
+        if (line[i] == ' ') {
+            words++;
+            last = i + 1;
+        }
+    if (sscanf(line, "%*s %4s", kind) != 1 || words != (strcmp(kind, "part") == 0 ? 6 : strcmp(kind, "init") == 0 ? 4 : 0))
+        return 0;
+    return length - last;
+}
+
+/* Sends a line; the digits that end it as bytes after it. */
+static void send_line(int publisher, const char *line, size_t length)
+{
+    size_t hex = digits(line, length - 1);
+    char *bytes, count[32];
+
+    if (hex == 0) {
+        send_all(publisher, line, length, 0);
+        return;
+    }
+    send_all(publisher, line, length - 1 - hex, 0);
+    send_all(publisher, count, (size_t)sprintf(count, "%zu\n", hex / 2), 0);
+    bytes = unhexed(line + length - 1 - hex, hex / 2);
+    send_all(publisher, bytes, hex / 2, 0);
+    send_all(publisher, "\n", 1, 0);
+    free(bytes);
+}
+
 static void publish(int publisher, const char *line, size_t length)
 {
     char reply[200];
@@ -223,7 +277,7 @@ static void publish(int publisher, const char *line, size_t length)
     settle_all();
     if (answered == answer_count)
         fail("the output has no answer to this line");
-    send_all(publisher, line, length, 0);
+    send_line(publisher, line, length);
     do {
         if (n == sizeof reply - 1 || recv(publisher, reply + n, 1, 0) != 1)
             fail("the publisher got no whole answer");
@@ -237,7 +291,7 @@ static void publish(int publisher, const char *line, size_t length)
 static void feed(int port, long number, const char *hex)
 {
     struct connection *c = of_number(number);
-    size_t length = strspn(hex, "0123456789abcdef") / 2, i;
+    size_t length = strspn(hex, "0123456789abcdef") / 2;
     char *bytes;
     int may_shut = c->count > 0 && c->dues[c->count - 1].shut;
 
@@ -245,12 +299,7 @@ static void feed(int port, long number, const char *hex)
         return;
     if (c->socket < 0)
         c->socket = connect_to(port);
-    bytes = grown(NULL, length);
-    for (i = 0; i < length; i++) {
-        unsigned byte;
-        sscanf(hex + 2 * i, "%2x", &byte);
-        bytes[i] = (char)byte;
-    }
+    bytes = unhexed(hex, length);
     if (length == 1)
         usleep(1000);
     send_all(c->socket, bytes, length, may_shut);
