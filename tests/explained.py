@@ -29,7 +29,7 @@ def chains(lines):
             version, settings = line[-1], lines[at + 1]
         elif line == "at 0":
             found.append((settings, []))
-        elif re.match("[PACGX] ", line):
+        elif re.match("[PAMCGX] ", line):
             number += 1
             found[-1][1].append((number, version, line))
     return found
@@ -75,6 +75,9 @@ def replayed(program, settings, entries):
 
 def reply_words(told, text):
     """A reply in words; the text tells whether it is a delta update, which format 1 doesn't. A request of format 1 never got one for `v2`."""
+    media = re.fullmatch("media ([0-9]+) ([0-9]+)", told)
+    if media:
+        return f"media of {media[2]} bytes after {media[1]} items"
     count = re.fullmatch(r"text ([0-9]+)(?: .*)?", told)
     if not count:
         return WORDS[told]
@@ -93,11 +96,12 @@ def wanted(number, time, line, texts):
         event = "the clock is read"
     elif words[0] == "X":
         event = "a request that was held is given up"
-    elif words[0] == "A" and words[6] == "held":
-        event = "a request is held"
     else:
-        event = "a request gets at once " if words[0] == "A" else "a request that was held gets "
-        told = " ".join(words[6:] if words[0] == "A" else words[2:])
+        told = " ".join(words[{"A": 6, "M": 4, "G": 2}[words[0]]:])
+        event = "a request that was held gets " if words[0] == "G" else "a request gets at once "
+    if told == "held":
+        event = "a request is held"
+    elif told:
         text = texts.get(words[1], b"") if told.startswith("text ") else b""
         event += reply_words(told, text)
     head = f"entry {number}, at {time} ms: {line}\n{event}\n".encode()
