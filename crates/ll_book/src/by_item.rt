@@ -44,7 +44,7 @@ pub fn part_of(item: &Item) -> Result<Option<Media>, AllocError>
     ensures { IfOk result (λ part. part ≡ spec.part_of item.now) }
 {
     match item {
-        Item::Part { media, .. } => Ok(Some(media.copy()?)),
+        Item::Part { media, .. } => Ok(Some(media.again()?)),
         _ => Ok(None),
     }
 }

@@ -1,5 +1,5 @@
--- What a request waits for is told by the file that it is for.
-use Rattle.std.proofs.Common.{◌≡◌, Bool, true, false, refl}
+-- What a request waits for, and whether it may be for a delta update, is told by the file that it is for.
+use Rattle.std.proofs.Common.{◌≡◌, Bool, true, false, None, refl}
 use Rattle.ll_directive.specs.Files.{is_playlist}
 use Rattle.ll_directive.specs.Targets.{IsPlain, WantValue, awaited_by, awaited_in}
 
@@ -9,3 +9,6 @@ by_file w false e plain = (plain e).0
 
 pub plain_awaited : (w : WantValue) → IsPlain w → w.awaited ≡ awaited_in w
 plain_awaited w plain = by_file w (is_playlist w.what) refl plain
+
+pub plain_skip : (w : WantValue) → IsPlain w → is_playlist w.what ≡ false → w.skip ≡ None
+plain_skip w plain e = (plain e).1

@@ -1,5 +1,6 @@
 //! What a request wants.
-ghost use Rattle.std.specs.Prelude.{◌≡◌, ◌&&◌, IfOk, None, Some, if◌then◌else◌, true};
+ghost use Rattle.std.specs.Prelude.{◌≡◌, ◌&&◌, IfOk, None, Some, false, if◌then◌else◌, true};
+ghost use Rattle.ll_directive.specs.Files.{is_playlist};
 ghost use Rattle.ll_directive.specs.Targets as spec;
 ghost use Rattle.ll_directive.specs.Targets.{IsPlain, awaited_in, media_want};
 ghost use Rattle.ll_item.specs.Names.{is_name};
@@ -136,9 +137,11 @@ impl Want {
         self.awaited
     }
 
-    /// Whether the request is for a delta update.
+    /// Which delta update the request is for; none for the full playlist, and for media.
+    #[tactic(auto, using(crate::proofs::Plain::plain_skip))]
     pub fn skip(&self) -> Option<SkipKind>
-        ensures { result ≡ self.now.skip }
+        ensures value { result ≡ self.now.skip }
+        ensures by_file { is_playlist self.now.what ≡ false → result ≡ None }
     {
         self.skip
     }

@@ -63,10 +63,6 @@ pub fn ask_line(
         let place = place_text(alloc, awaited, skip, outcome)?;
         return ask_text(alloc, ask, name, place.as_str());
     };
-    // a request for media never asks for a delta update, which its line couldn't tell
-    if skip.is_some() {
-        return Err(AllocError);
-    }
     media_text(alloc, ask, name, file, outcome)
 }
 

@@ -125,11 +125,11 @@ impl Item {
                 duration: *duration,
                 independent: *independent,
                 finish: *finish,
-                media: media.copy()?,
+                media: media.again()?,
             },
             Item::Init { rendition, media } => Item::Init {
                 rendition: *rendition,
-                media: media.copy()?,
+                media: media.again()?,
             },
             Item::Break { rendition } => Item::Break {
                 rendition: *rendition,

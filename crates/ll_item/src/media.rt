@@ -150,12 +150,25 @@ impl Media {
     {
         match &self.kept {
             Kept::Shared(bytes) => Some(bytes.as_slice()),
+            Kept::Zeros(0) => Some(&[]),
             Kept::Zeros(_) => None,
         }
     }
 
+    /// The block that these bytes stand in, which has one more holder then; none where they are zeros that stand for others. It fails only where
+    /// no memory is found.
+    pub fn block(&self) -> Result<Option<Bytes>, AllocError>
+        ensures { IfOk result (λ found. IfSome found (λ block. block ≡ self.now)) }
+    {
+        match &self.kept {
+            Kept::Shared(bytes) => Ok(Some(bytes.clone()?)),
+            Kept::Zeros(0) => Ok(Some(Bytes::new())),
+            Kept::Zeros(_) => Ok(None),
+        }
+    }
+
     /// Another holder of these bytes.
-    pub fn copy(&self) -> Result<Media, AllocError>
+    pub fn again(&self) -> Result<Media, AllocError>
         ensures { IfOk result (λ media. media ≡ self.now) }
     {
         let kept = match &self.kept {

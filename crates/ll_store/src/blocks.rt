@@ -115,7 +115,7 @@ fn copies(alloc: Global, parts: &[Media]) -> Result<Vec<Media>, AllocError>
 {
     let mut copies = Vec::with_capacity(alloc, parts.len())?;
     for part in parts {
-        copies.push(part.copy()?)?;
+        copies.push(part.again()?)?;
     }
     Ok(copies)
 }

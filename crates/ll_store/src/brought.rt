@@ -33,11 +33,11 @@ impl Brought {
     {
         Ok(match item {
             Item::Part { finish, media, .. } => Brought::Part {
-                media: media.copy()?,
+                media: media.again()?,
                 finish: *finish,
             },
             Item::Init { media, .. } => Brought::Section {
-                media: media.copy()?,
+                media: media.again()?,
             },
             Item::End { .. } => Brought::End,
             Item::Break { .. } | Item::Range { .. } | Item::Unrange { .. } => Brought::Nothing,
