@@ -171,8 +171,8 @@ impl Open {
         ensures session { OnOk result (self.new.session ≡ record self.old.session { answers = [] }) }
         ensures number { self.new.number ≡ self.old.number }
     {
-        while let Some((head, body)) = self.session.first_answer() {
-            push_sent(&mut sent.text, self.number, head, body)?;
+        while let Some(answer) = self.session.first_answer() {
+            push_sent(&mut sent.text, self.number, &answer)?;
             self.session.first_sent();
             sent.replies = sent.replies.saturating_add(1);
         }

@@ -1,6 +1,6 @@
 //! A player's connection.
 ghost use Rattle.std.specs.Bool.{Decides};
-ghost use Rattle.std.specs.Prelude.{◌≡◌, ◌≢◌, [], IfErr, IfOk, IsErrOf, None, Ok, OnErr, OnOk, Some, false, is_some};
+ghost use Rattle.std.specs.Prelude.{◌≡◌, ◌≢◌, ◌<◌, [], IfErr, IfOk, IsErrOf, None, Ok, OnErr, OnOk, Some, false, is_some};
 ghost use Rattle.std.specs.Io.KnownBytes.{Appends};
 ghost use Rattle.std.specs.List.{concat};
 ghost use Rattle.ll_item.specs.Channels.{channel_of_name};
@@ -12,13 +12,14 @@ ghost use Rattle.ll_link.specs.Reads.{HasEnded, IsReadWithin, stays_or_ends};
 use crate::fault::LinkFault;
 use crate::gate::Gate;
 use crate::service::{HandedOut, Service};
-use ll_device::{Link, write_both};
+use bytes::Bytes;
+use ll_device::{Failed, Link, write_all, write_both};
 use ll_directive::{TargetFault, Want};
 use ll_hub::{Claim, Clock, HubAsked, HubFault, Ledgers, Pass, RoomFault, Sink, Waited};
 use ll_record::ReadingFault;
 use ll_room::AskFault;
 use ll_session::Session;
-use ll_wire::Answer;
+use ll_wire::{Answer, Slices};
 use std::sync::Wait;
 use std::time::{self, Duration};
 
@@ -104,7 +105,7 @@ fn answer<L: Ledgers, P: Link, C: Clock, G: Gate, K: Sink, R: Wait + time::Clock
     unreachable!()
 }
 
-/// Sends the answers that are there, each in one write where the link takes it.
+/// Sends the answers that are there, each head with the first bytes of its body in one write where the link takes it.
 fn send<L: Ledgers, P: Link, C, G: Gate, K, R>(
     service: &Service<'_, L, C, G, K, R>,
     link: &mut P,
@@ -117,13 +118,38 @@ fn send<L: Ledgers, P: Link, C, G: Gate, K, R>(
     ensures sent { OnOk result (Appends (P.written link.old) (P.written link.new) (concat session.old.answers)) }
     ensures emptied { OnOk result (session.new ≡ record session.old { answers = [] }) }
 {
-    while let Some((head, body)) = session.first_answer() {
+    while let Some(answer) = session.first_answer() {
         *answers = answers.saturating_add(1);
         service.gate.pass(*answers);
-        match write_both(link, head, body) {
+        match write_slices(link, &answer) {
             Ok(()) => session.first_sent(),
-            Err(_) => return Err(LinkFault::Write),
+            Err(Failed) => return Err(LinkFault::Write),
         }
+    }
+    Ok(())
+}
+
+/// Writes an answer.
+fn write_slices<P: Link>(link: &mut P, answer: &Slices<'_>) -> Result<(), Failed>
+    ensures whole { OnOk result (Appends (P.written link.old) (P.written link.new) answer.now) }
+    ensures steady { OnOk result (P.failures link.new ≡ P.failures link.old) }
+    ensures failed { OnErr result (P.failures link.old < P.failures link.new) }
+    ensures unread { P.inward link.new ≡ P.inward link.old }
+{
+    let (head, body, blocks) = answer.pieces();
+    write_both(link, head, body)?;
+    write_blocks(link, blocks)
+}
+
+/// Writes these blocks, one after another.
+fn write_blocks<P: Link>(link: &mut P, blocks: &[Bytes]) -> Result<(), Failed>
+    ensures whole { OnOk result (Appends (P.written link.old) (P.written link.new) (concat blocks.now)) }
+    ensures steady { OnOk result (P.failures link.new ≡ P.failures link.old) }
+    ensures failed { OnErr result (P.failures link.old < P.failures link.new) }
+    ensures unread { P.inward link.new ≡ P.inward link.old }
+{
+    for block in blocks {
+        write_all(link, block.as_slice())?;
     }
     Ok(())
 }

@@ -1,15 +1,17 @@
 //! The lines that answer the lines of a script, but for publishers' lines. Each fails only where no memory is found.
 ghost use Rattle.std.specs.Prelude.{◌≡◌, ◌++◌, IfOk, OnOk, decimal, length, string_bytes};
+ghost use Rattle.std.specs.List.{concat};
 ghost use Rattle.ll_script.specs.Answers as spec;
 
 use crate::clock::ClockRefusal;
 use hex::encode;
 use itoa::Buffer;
 use ll_directive::TargetFault;
+use ll_item::Media;
 use ll_publish::refusal_line;
 use ll_store::Blocks;
 use ll_verdict::{AskFault, Reply};
-use ll_wire::{is_media_response, push_blocks};
+use ll_wire::{Slices, is_media_response};
 use std::alloc::{AllocError, Global};
 
 /// A reading of the clock is refused.
@@ -48,30 +50,24 @@ pub fn unasked_line(alloc: Global, id: u64, fault: AskFault) -> Result<String, A
     named_reply(alloc, id, 503, fault.name())
 }
 
-/// An answer of a connection, in two pieces, after the text so far. Where no memory is found, the text may have got some of it.
-pub fn push_sent(
-    text: &mut Vec<u8>,
-    number: u64,
-    head: &[u8],
-    body: &[u8],
-) -> Result<(), AllocError>
-    ensures { OnOk result (text.new.items ≡ text.old.items ++ spec.sent_line number (head.now ++ body.now)) }
+/// An answer of a connection, after the text so far. Where no memory is found, the text may have got some of it.
+pub fn push_sent(text: &mut Vec<u8>, number: u64, answer: &Slices<'_>) -> Result<(), AllocError>
+    ensures { OnOk result (text.new.items ≡ text.old.items ++ spec.sent_line number answer.now) }
 {
     text.extend_from_slice(b"sent ")?;
     push_number(text, number)?;
     text.extend_from_slice(b" ")?;
-    push_number(text, (head.len() + body.len()) as u64)?;
+    push_number(text, answer.len() as u64)?;
     text.extend_from_slice(b"\n")?;
-    push_ended(text, head, body)
+    push_ended(text, answer)
 }
 
-/// A response in two pieces, and LF after media.
-fn push_ended(text: &mut Vec<u8>, head: &[u8], body: &[u8]) -> Result<(), AllocError>
-    ensures { OnOk result (text.new.items ≡ text.old.items ++ spec.ended (head.now ++ body.now)) }
+/// A response, and LF after media.
+fn push_ended(text: &mut Vec<u8>, answer: &Slices<'_>) -> Result<(), AllocError>
+    ensures { OnOk result (text.new.items ≡ text.old.items ++ spec.ended answer.now) }
 {
     let start = text.len();
-    text.extend_from_slice(head)?;
-    text.extend_from_slice(body)?;
+    answer.copy_to(text)?;
     if !is_media_response(&text[start..]) {
         return Ok(());
     }
@@ -109,10 +105,23 @@ fn media_text(alloc: Global, media: &Blocks) -> Result<String, AllocError>
     ensures { IfOk result (λ t. string_bytes t ≡ spec.media_text media.now) }
 {
     let mut bytes = Vec::new(alloc);
-    push_blocks(&mut bytes, media)?;
+    push_parts(&mut bytes, media.parts())?;
     let mut text = encode(alloc, &bytes)?;
     text.push_str("\n")?;
     Ok(text)
+}
+
+/// Adds the bytes of these parts. It fails too where only the number of these bytes is known.
+fn push_parts(bytes: &mut Vec<u8>, parts: &[Media]) -> Result<(), AllocError>
+    ensures { OnOk result (bytes.new.items ≡ bytes.old.items ++ concat parts.now) }
+{
+    for part in parts {
+        match part.bytes() {
+            Some(own) => bytes.extend_from_slice(own)?,
+            None => return Err(AllocError),
+        }
+    }
+    Ok(())
 }
 
 /// A request gets something of this length, which this text tells.

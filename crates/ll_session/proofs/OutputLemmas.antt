@@ -1,23 +1,7 @@
 -- What is left of one answer, and of all of them.
-use Rattle.std.proofs.Common.{◌≡◌, ℕ, suc, ◌+◌, ◌-◌, ◌<◌, ◌≤◌, List, [], ◌∷◌, ◌++◌, Bool, true, false, Option, Some, None, MatchOption, nat_le, ap, ◌∙◌, sym, arith, append_assoc, length, take, drop}
+use Rattle.std.proofs.Common.{◌≡◌, ℕ, suc, ◌+◌, ◌-◌, ◌<◌, ◌≤◌, List, [], ◌∷◌, Bool, true, false, Option, Some, None, MatchOption, nat_le, ap, arith, length, drop}
 use Rattle.std.specs.Prelude.{if◌then◌else◌}
-use Rattle.std.specs.List.{concat}
-use Rattle.std.proofs.lemmas.List.{take_rest}
-use Rattle.std.proofs.Math.Seq.{drop-append-add}
 use Rattle.ll_session.specs.Output.{unsent}
-
--- what is left lies in the body, once the head was sent
-pub body_left : (head body x : List ℕ) (sent k : ℕ) → x ≡ body → length head + k ≡ sent → take (length x - k) (drop k x) ≡ drop sent (head ++ body)
-body_left head body x sent k is e = take_rest x k ∙ ap (drop k) is ∙ sym (drop-append-add head body k) ∙ ap (λ n. drop n (head ++ body)) e
-
--- one more answer is copied
-pub copied : (bytes head body answer all : List ℕ) (answers rest : List (List ℕ)) → bytes ++ concat answers ≡ all → answers ≡ answer ∷ rest → head ++ body ≡ answer
-    → ((bytes ++ head) ++ body) ++ concat rest ≡ all
-copied bytes head body answer all answers rest so_far front is =
-    append_assoc (bytes ++ head) body (concat rest)
-    ∙ append_assoc bytes head (body ++ concat rest)
-    ∙ ap (λ t. bytes ++ t) (sym (append_assoc head body (concat rest)) ∙ ap (λ t. t ++ concat rest) is ∙ sym (ap concat front))
-    ∙ so_far
 
 -- ---- answers are dropped one by one
 

@@ -1,8 +1,8 @@
 //! A response of which some bytes were sent.
-ghost use Rattle.std.specs.Prelude.{◌≡◌, ◌≤◌, ◌++◌, drop, length};
+ghost use Rattle.std.specs.Prelude.{◌≡◌, ◌≤◌, drop, length};
 ghost use Rattle.ll_wire.specs.Parts.{bytes_of};
 
-use ll_wire::Message;
+use ll_wire::{Message, Slices};
 use std::marker::Model;
 
 /// What is left of a response without the bytes that were sent.
@@ -31,24 +31,18 @@ impl Left {
         Left { response, sent: 0 }
     }
 
-    /// Its bytes: those left of the head, and those left of the body.
-    pub(crate) fn pieces(&self) -> (&[u8], &[u8])
-        ensures { result.0.now ++ result.1.now ≡ self.now }
+    /// Its bytes.
+    pub(crate) fn slices(&self) -> Slices<'_>
+        ensures { result ≡ self.now }
     {
-        let head = self.response.head.as_slice();
-        let body = self.response.body.bytes();
-        match self.sent.checked_sub(head.len()) {
-            None => (&head[self.sent..], body),
-            Some(sent) => (&[], &body[sent..]),
-        }
+        self.response.after(self.sent)
     }
 
     /// How many bytes are left.
     pub(crate) fn len(&self) -> usize
         ensures { result ≡ length self.now }
     {
-        let (head, body) = self.pieces();
-        head.len() + body.len()
+        self.response.len() - self.sent
     }
 
     /// So many bytes more were sent.
@@ -56,7 +50,7 @@ impl Left {
         requires { n ≤ length self.old }
         ensures { self.new ≡ drop n self.old }
     {
-        let whole = self.response.head.len() + self.response.body.bytes().len();
+        let whole = self.response.len();
         prove!(self.sent <= whole && n <= whole - self.sent);
         self.sent += n;
     }

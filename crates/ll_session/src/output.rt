@@ -5,7 +5,7 @@ ghost use Rattle.ll_session.specs.Output.{unsent};
 ghost use Rattle.ll_wire.specs.Parts.{bytes_of};
 
 use crate::left::Left;
-use ll_wire::Message;
+use ll_wire::{Message, Slices};
 use std::alloc::{AllocError, Global};
 use std::collections::VecDeque;
 use std::marker::Model;
@@ -51,12 +51,12 @@ impl Output {
         self.answers.append(&mut more.answers)
     }
 
-    /// The bytes of the first one that are left: those of its head, and those of its body.
-    pub(crate) fn first(&self) -> Option<(&[u8], &[u8])>
-        ensures { MatchOption result (self.now ≡ []) (λ first. self.now ≡ (first.0.now ++ first.1.now) ∷ drop 1 self.now) }
+    /// The bytes of the first one that are left.
+    pub(crate) fn first(&self) -> Option<Slices<'_>>
+        ensures { MatchOption result (self.now ≡ []) (λ first. self.now ≡ first ∷ drop 1 self.now) }
     {
         match self.answers.front() {
-            Some(first) => Some(first.pieces()),
+            Some(first) => Some(first.slices()),
             None => None,
         }
     }
@@ -67,9 +67,7 @@ impl Output {
     {
         let mut bytes = Vec::new(alloc);
         for answer in &self.answers {
-            let (head, body) = answer.pieces();
-            bytes.extend_from_slice(head)?;
-            bytes.extend_from_slice(body)?;
+            answer.slices().copy_to(&mut bytes)?;
         }
         Ok(bytes)
     }

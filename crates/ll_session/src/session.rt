@@ -8,7 +8,7 @@ ghost use Rattle.ll_session.specs.Talk as talk;
 use crate::output::Output;
 use crate::taken::{Taken, is_unfinished, take_front};
 use ll_directive::Want;
-use ll_wire::{Answer, HeadFault, response};
+use ll_wire::{Answer, HeadFault, Slices, response};
 use std::alloc::{AllocError, Global};
 use std::marker::Model;
 
@@ -153,9 +153,9 @@ impl Session {
         self.output.copy(self.alloc)
     }
 
-    /// What is left of the first answer that was put out and not sent, in two pieces that lie apart; nothing, where all is sent.
-    pub fn first_answer(&self) -> Option<(&[u8], &[u8])>
-        ensures { MatchOption result (self.now.answers ≡ []) (λ first. self.now.answers ≡ (first.0.now ++ first.1.now) ∷ drop 1 self.now.answers) }
+    /// What is left of the first answer that was put out and not sent; nothing, where all is sent.
+    pub fn first_answer(&self) -> Option<Slices<'_>>
+        ensures { MatchOption result (self.now.answers ≡ []) (λ first. self.now.answers ≡ first ∷ drop 1 self.now.answers) }
     {
         self.output.first()
     }

@@ -1,4 +1,5 @@
 pub mod SpelledLemmas
+pub mod BlockLemmas
 pub mod FrontLemmas
 pub mod HeadLemmas
 pub mod PlaceLemmas

@@ -1,7 +1,11 @@
 //! A response in two parts: one of its own, and one that others may share.
-ghost use Rattle.std.specs.Prelude.{◌≡◌};
-ghost use Rattle.ll_wire.specs.Parts.{shared_bytes};
+ghost use Rattle.std.specs.Prelude.{◌≡◌, ◌≤◌, ◌<◌, ◌^◌, ◌++◌, drop, length};
+ghost use Rattle.std.specs.List.{concat};
+ghost use Rattle.ll_wire.specs.Parts.{bytes_of, shared_bytes};
 
+use crate::media::MediaBody;
+use crate::slices::Slices;
+use bytes::Bytes;
 use ll_page::Page;
 
 /// The end of a response that others may share, so that it is never copied.
@@ -11,6 +15,8 @@ pub enum Body {
     Nothing,
     /// A playlist.
     Playlist(Page),
+    /// Media.
+    Media(MediaBody),
 }
 
 /// A response: the head, which was written for it alone, and right after it the body.
@@ -23,13 +29,64 @@ pub struct Message {
 }
 
 impl Body {
-    /// Its bytes.
-    pub fn bytes(&self) -> &[u8]
-        ensures { result.now ≡ shared_bytes self.now }
+    /// How many bytes it has.
+    pub fn len(&self) -> usize
+        ensures length { result ≡ length (shared_bytes self.now) }
+        ensures few { result < 2 ^ 63 }
     {
         match self {
-            Body::Nothing => &[],
-            Body::Playlist(page) => page.text().as_bytes(),
+            Body::Nothing => 0,
+            Body::Playlist(page) => page.text().len(),
+            Body::Media(media) => media.len(),
+        }
+    }
+
+    /// What follows its first bytes, of which there are so many: bytes that lie together, and then blocks.
+    fn after(&self, n: usize) -> (&[u8], &[Bytes])
+        requires { n ≤ length (shared_bytes self.now) }
+        ensures { result.0.now ++ concat result.1.now ≡ drop n (shared_bytes self.now) }
+    {
+        match self {
+            Body::Nothing => (&[], &[]),
+            Body::Playlist(page) => (&page.text().as_bytes()[n..], &[]),
+            Body::Media(media) => media.after(n),
+        }
+    }
+}
+
+impl Message {
+    /// How many bytes it has.
+    pub fn len(&self) -> usize
+        ensures { result ≡ length (bytes_of self.now) }
+    {
+        self.head.len() + self.body.len()
+    }
+
+    /// What follows its first bytes, of which there are so many. Nothing is copied.
+    pub fn after(&self, n: usize) -> Slices<'_>
+        requires { n ≤ length (bytes_of self.now) }
+        ensures { result ≡ drop n (bytes_of self.now) }
+    {
+        let size = self.len() - n;
+        let (head, sent) = self.head_after(n);
+        let (body, blocks) = self.body.after(sent);
+        Slices {
+            head,
+            body,
+            blocks,
+            size,
+        }
+    }
+
+    /// What follows so many bytes in the head, and how many of them are in the body.
+    fn head_after(&self, n: usize) -> (&[u8], usize)
+        requires { n ≤ length (bytes_of self.now) }
+        ensures within { result.1 ≤ length (shared_bytes self.now.body) }
+        ensures rest { result.0.now ++ drop result.1 (shared_bytes self.now.body) ≡ drop n (bytes_of self.now) }
+    {
+        match n.checked_sub(self.head.len()) {
+            None => (&self.head[n..], 0),
+            Some(sent) => (&[], sent),
         }
     }
 }

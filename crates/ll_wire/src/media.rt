@@ -1,30 +1,91 @@
 //! Media in responses.
-ghost use Rattle.std.specs.Prelude.{◌≡◌, ◌++◌, IfOk, OnOk};
+ghost use Rattle.std.specs.Prelude.{◌≡◌, ◌++◌, ◌<◌, ◌^◌, IfOk, OnOk, drop, length};
+ghost use Rattle.std.specs.List.{concat};
 ghost use Rattle.ll_wire.specs.Response as spec;
 
+use bytes::Bytes;
 use ll_item::Media;
 use ll_store::Blocks;
-use std::alloc::AllocError;
+use std::alloc::{AllocError, Global};
+use std::marker::Model;
 
-/// Adds these bytes, part by part. It fails only where no memory is found, or where the bytes of a part aren't known; then some of the others
-/// may have been added.
-pub fn push_blocks(text: &mut Vec<u8>, blocks: &Blocks) -> Result<(), AllocError>
-    ensures { OnOk result (text.new.items ≡ text.old.items ++ blocks.now) }
-{
-    let parts = blocks.parts();
-    for part in parts {
-        text.extend_from_slice(known_bytes(part)?)?;
-    }
-    Ok(())
+/// No memory holds as many bytes.
+const TOO_MANY: u64 = 1 << 63;
+
+/// The bytes of media that follow a head. They stand in blocks that are shared with all others who hold them.
+#[derive(Drop)]
+pub struct MediaBody {
+    blocks: Vec<Bytes>,
+    size: u64,
 }
 
-/// The bytes of a part. It fails where only their number is known.
-fn known_bytes(part: &Media) -> Result<&[u8], AllocError>
-    ensures { IfOk result (λ bytes. bytes.now ≡ part.now) }
+impl Model for MediaBody {
+    ghost use Rattle.std.specs.Prelude.{◌≡◌, ◌<◌, ◌^◌, ℕ, List, length};
+    ghost use Rattle.std.specs.List.{concat};
+
+    ghost Value = { List ℕ };
+
+    ghost view = { λ b. concat b.blocks.items };
+
+    ghost invariant = { λ b. (b.size ≡ length (concat b.blocks.items)) × (b.size < 2 ^ 63) };
+}
+
+impl MediaBody {
+    /// Another holder of these bytes. It fails only where no memory is found, or where the bytes of a part aren't known.
+    pub(crate) fn new(alloc: Global, media: &Blocks) -> Result<MediaBody, AllocError>
+        ensures { IfOk result (λ body. body ≡ media.now) }
+    {
+        let size = media.len();
+        if size >= TOO_MANY {
+            return Err(AllocError);
+        }
+        let blocks = blocks_of(alloc, media.parts())?;
+        Ok(MediaBody { blocks, size })
+    }
+
+    /// How many bytes there are.
+    pub(crate) fn len(&self) -> usize
+        ensures length { result ≡ length self.now }
+        ensures few { result < 2 ^ 63 }
+    {
+        self.size as usize
+    }
+
+    /// What follows the first bytes, of which there are so many: bytes that lie together, and then blocks.
+    #[tactic(auto, using(crate::proofs::BlockLemmas::in_block, crate::proofs::BlockLemmas::after_block))]
+    pub(crate) fn after(&self, n: usize) -> (&[u8], &[Bytes])
+        ensures { result.0.now ++ concat result.1.now ≡ drop n self.now }
+    {
+        let mut left = n;
+        let mut blocks = self.blocks.as_slice();
+        while let Some((block, more)) = blocks.split_first() {
+            if left < block.len() {
+                return (&block.as_slice()[left..], more);
+            }
+            left -= block.len();
+            blocks = more;
+        }
+        (&[], &[])
+    }
+}
+
+/// The block of each part.
+fn blocks_of(alloc: Global, parts: &[Media]) -> Result<Vec<Bytes>, AllocError>
+    ensures { IfOk result (λ blocks. blocks.items ≡ parts.now) }
 {
-    match part.bytes() {
-        Some(bytes) => Ok(bytes),
-        None if part.len() == 0 => Ok(&[]),
+    let mut blocks = Vec::with_capacity(alloc, parts.len())?;
+    for part in parts {
+        blocks.push(block_of(part)?)?;
+    }
+    Ok(blocks)
+}
+
+/// The block of a part. It fails where only the number of its bytes is known, too.
+fn block_of(part: &Media) -> Result<Bytes, AllocError>
+    ensures { IfOk result (λ block. block ≡ part.now) }
+{
+    match part.block()? {
+        Some(block) => Ok(block),
         None => Err(AllocError),
     }
 }

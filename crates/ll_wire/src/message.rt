@@ -6,14 +6,14 @@ ghost use Rattle.ll_wire.specs.Response as spec;
 
 use crate::answer::Answer;
 use crate::body::{Body, Message};
-use crate::media::push_blocks;
+use crate::media::MediaBody;
 use ll_page::Page;
 use ll_store::Blocks;
 use ll_verdict::Reply;
 use std::alloc::{AllocError, Global};
 
-/// The response with this answer (RFC 9112, section 4), which tells whether the connection is kept. Its body is the playlist, which
-/// it shares with the answer, the media, or the name of the refusal and LF. It fails only where no memory is found, or where the bytes
+/// The response with this answer (RFC 9112, section 4), which tells whether the connection is kept. Its body is the playlist or the media, which
+/// it shares with the answer, or the name of the refusal and LF. It fails only where no memory is found, or where the bytes
 /// of media aren't known.
 pub fn response(alloc: Global, answer: &Answer, keep: bool) -> Result<Message, AllocError>
     ensures { IfOk result (λ message. bytes_of message ≡ spec.response_bytes answer.now keep) }
@@ -51,15 +51,14 @@ fn playlist(alloc: Global, page: &Page, keep: bool) -> Result<Message, AllocErro
     })
 }
 
-/// The response with media, of which it has a copy.
+/// The response with media, whose blocks it shares.
 fn media(alloc: Global, bytes: &Blocks, keep: bool) -> Result<Message, AllocError>
     ensures { IfOk result (λ message. bytes_of message ≡ spec.media_message bytes.now keep) }
 {
-    let mut head = media_head(alloc, bytes.len(), keep)?.into_bytes();
-    push_blocks(&mut head, bytes)?;
+    let head = media_head(alloc, bytes.len(), keep)?;
     Ok(Message {
-        head,
-        body: Body::Nothing,
+        head: head.into_bytes(),
+        body: Body::Media(MediaBody::new(alloc, bytes)?),
     })
 }
 

@@ -37,11 +37,12 @@ fn answer_wants(session: &mut Session, notes: &mut String) -> Result<(), AllocEr
 /// Sends one answer after another, and notes the status of each and whether the connection is kept after it.
 fn send_answers(session: &mut Session, notes: &mut String) -> Result<(), AllocError> {
     for _ in 0..9 {
-        let Some((head, body)) = session.first_answer() else {
+        let Some(answer) = session.first_answer() else {
             return Ok(());
         };
+        let (head, _, _) = answer.pieces();
         note_answer(head, notes)?;
-        let n = head.len() + body.len();
+        let n = answer.len();
         session.sent(n);
     }
     Ok(())
@@ -186,13 +187,13 @@ fn feed_count(alloc: Global, session: &mut Session, count: usize) -> Result<(), 
 fn sent_by(alloc: Global, session: &mut Session, step: usize) -> Result<Vec<u8>, AllocError> {
     let mut text = Vec::new(alloc);
     for _ in 0..999 {
-        let Some((head, body)) = session.first_answer() else {
+        let Some(answer) = session.first_answer() else {
             return Ok(text);
         };
-        let n = step.min(head.len() + body.len());
-        let front = n.min(head.len());
-        text.extend_from_slice(&head[..front])?;
-        text.extend_from_slice(&body[..n - front])?;
+        let n = step.min(answer.len());
+        let whole = text.len() + n;
+        answer.copy_to(&mut text)?;
+        text.truncate(whole);
         session.sent(n);
     }
     Ok(text)

@@ -147,7 +147,7 @@ fn add_length(alloc: Global, told: &mut String, input: &str) -> Result<(), Alloc
         told,
         "{} {}",
         message.head.len(),
-        message.body.bytes().len()
+        message.body.len()
     )
 }
 
@@ -181,6 +181,7 @@ fn add_playlist_of(alloc: Global, told: &mut String, page: &Page) -> Result<(), 
     let message = response(alloc, &Answer::Reply(Reply::Text(page.again()?)), true)?;
     let text = page.text().as_bytes();
     let is_head = message.head.as_slice() == PLAYLIST.as_bytes();
-    let is_body = message.body.bytes() == text;
+    let (_, body, _) = message.after(message.head.len()).pieces();
+    let is_body = body == text;
     write!(told, "{is_head} {} {is_body}", text.len())
 }

@@ -1,0 +1,62 @@
+//! Bytes that lie apart.
+ghost use Rattle.std.specs.Prelude.{◌≡◌, ◌++◌, OnOk, length};
+ghost use Rattle.std.specs.List.{concat};
+
+use bytes::Bytes;
+use std::alloc::AllocError;
+use std::marker::Model;
+
+/// Bytes of a response, in pieces that lie apart.
+#[derive(Drop)]
+pub struct Slices<'a> {
+    pub(crate) head: &'a [u8],
+    pub(crate) body: &'a [u8],
+    pub(crate) blocks: &'a [Bytes],
+    pub(crate) size: usize,
+}
+
+impl<'a> Model for Slices<'a> {
+    ghost use Rattle.std.specs.Prelude.{◌≡◌, ◌++◌, ℕ, List, length};
+    ghost use Rattle.std.specs.List.{concat};
+
+    ghost Value = { List ℕ };
+
+    ghost view = { λ s. s.head.now ++ (s.body.now ++ concat s.blocks.now) };
+
+    ghost invariant = { λ s. s.size ≡ length (s.head.now ++ (s.body.now ++ concat s.blocks.now)) };
+}
+
+impl<'a> Slices<'a> {
+    /// How many bytes there are.
+    pub fn len(&self) -> usize
+        ensures { result ≡ length self.now }
+    {
+        self.size
+    }
+
+    /// The pieces: of the head, of the body, and the blocks of the body after these, one after another.
+    pub fn pieces(&self) -> (&'a [u8], &'a [u8], &'a [Bytes])
+        ensures { result.0.now ++ (result.1.now ++ concat result.2.now) ≡ self.now }
+    {
+        (self.head, self.body, self.blocks)
+    }
+
+    /// Adds a copy of the bytes.
+    pub fn copy_to(&self, text: &mut Vec<u8>) -> Result<(), AllocError>
+        ensures { OnOk result (text.new.items ≡ text.old.items ++ self.now) }
+    {
+        text.extend_from_slice(self.head)?;
+        text.extend_from_slice(self.body)?;
+        push_blocks(text, self.blocks)
+    }
+}
+
+/// Adds these blocks.
+fn push_blocks(text: &mut Vec<u8>, blocks: &[Bytes]) -> Result<(), AllocError>
+    ensures { OnOk result (text.new.items ≡ text.old.items ++ concat blocks.now) }
+{
+    for block in blocks {
+        text.extend_from_slice(block.as_slice())?;
+    }
+    Ok(())
+}
