@@ -40,7 +40,7 @@ finish() {
 
 start tests/try_rows.sh
 show rt ci
-for name in mutated_playlists mutated_records upgrades explained connections dropped mutated_heads short_devices large rows; do
+for name in log mutated_playlists mutated_records upgrades explained connections dropped mutated_heads short_devices large rows; do
     start "tests/$name.sh" "$program"
 done
 if [ -e "$by_rattle" ]; then

@@ -384,6 +384,12 @@ done <<END
 5 ${three}record a\nrecord b\n$cam\n
 5 ${three}$cam\nrecord a\n
 5 ${three}record a\n
+4 ${three}log\n$cam\n
+4 ${three}log \n$cam\n
+4 ${three}log \\xff\n$cam\n
+5 ${three}log a\nrecord b\n$cam\n
+6 ${three}record a\nlog b\nlog c\n$cam\n
+6 ${three}record a\nlog b\n
 4 ${three}channel cam target=4 part=1000000 skip=23 window=36 renditions=hi first=0 start=0\n
 4 ${three}channel CAM target=4 part=1000000 skip=24 window=36 renditions=hi first=0 start=0\n
 4 ${three}\\xff\n

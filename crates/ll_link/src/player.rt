@@ -156,7 +156,7 @@ fn write_blocks<P: Link>(link: &mut P, blocks: &[Bytes]) -> Result<(), Failed>
 
 /// What a request is answered; nothing, where its player hung up while it was held. Where the record of its channel is full, that is
 /// handed out and the request made once more.
-fn ask<L: Ledgers, P: Link, C: Clock, G, K: Sink, R: Wait + time::Clock>(
+fn ask<L: Ledgers, P: Link, C: Clock, G: Gate, K: Sink, R: Wait + time::Clock>(
     service: &Service<'_, L, C, G, K, R>,
     link: &mut P,
     pass: &mut Pass<L>,
@@ -176,14 +176,19 @@ fn ask<L: Ledgers, P: Link, C: Clock, G, K: Sink, R: Wait + time::Clock>(
         return Ok(Some(Answer::Unavailable(AskFault::Memory)));
     };
     match ask_in(service, link, pass, session, channel, want, again) {
-        Ok((answer, _)) => Ok(answer),
+        Ok((answer, _)) => {
+            if let Some(answer) = &answer {
+                service.gate.answered(channel, answer);
+            }
+            Ok(answer)
+        }
         Err(fault) => Err(fault),
     }
 }
 
 /// What a request of the channel at this place is answered, where the second is a copy of it. Where the record of the channel is full,
 /// that is handed out and the copy made in its place: the last answer, and whether it was handed out.
-fn ask_in<L: Ledgers, P: Link, C: Clock, G, K: Sink, R: Wait + time::Clock>(
+fn ask_in<L: Ledgers, P: Link, C: Clock, G: Gate, K: Sink, R: Wait + time::Clock>(
     service: &Service<'_, L, C, G, K, R>,
     link: &mut P,
     pass: &mut Pass<L>,
@@ -205,7 +210,7 @@ fn ask_in<L: Ledgers, P: Link, C: Clock, G, K: Sink, R: Wait + time::Clock>(
 }
 
 /// What a request comes to that was answered so at first: this answer, unless the record of the channel was full.
-fn ask_again<L: Ledgers, P: Link, C: Clock, G, K: Sink, R: Wait + time::Clock>(
+fn ask_again<L: Ledgers, P: Link, C: Clock, G: Gate, K: Sink, R: Wait + time::Clock>(
     service: &Service<'_, L, C, G, K, R>,
     link: &mut P,
     pass: &mut Pass<L>,
@@ -237,7 +242,7 @@ fn is_full(answer: &Answer) -> bool
 }
 
 /// What a request of the channel at this place is answered. Where it has to wait, its reply is waited for.
-fn ask_once<L: Ledgers, P: Link, C: Clock, G, K: Sink, R: Wait + time::Clock>(
+fn ask_once<L: Ledgers, P: Link, C: Clock, G: Gate, K: Sink, R: Wait + time::Clock>(
     service: &Service<'_, L, C, G, K, R>,
     link: &mut P,
     pass: &mut Pass<L>,
@@ -255,7 +260,12 @@ fn ask_once<L: Ledgers, P: Link, C: Clock, G, K: Sink, R: Wait + time::Clock>(
         .ask(service.rt, service.clock, pass, channel, want)
     {
         Ok(HubAsked::Now(reply)) => Ok(Some(Answer::Reply(reply.into_inner()))),
-        Ok(HubAsked::Held(claim)) => hold(service, link, pass, session, claim),
+        Ok(HubAsked::Held(claim)) => {
+            service.gate.held(channel);
+            let answer = hold(service, link, pass, session, claim);
+            service.gate.freed(channel);
+            answer
+        }
         Err(fault) => Ok(Some(unavailable(fault)?)),
     }
 }

@@ -109,7 +109,7 @@ fn tell<L: Ledgers, P: Link, C, G, K, R>(
 }
 
 /// Publishes what a line announces: how many items its channel has accepted with it, or why it is refused.
-fn publish<L: Ledgers, C, G, K: Sink, R: Wait>(
+fn publish<L: Ledgers, C, G: Gate, K: Sink, R: Wait>(
     service: &Service<'_, L, C, G, K, R>,
     pass: &mut Pass<L>,
     line: Line<'_>,
@@ -131,7 +131,7 @@ fn publish<L: Ledgers, C, G, K: Sink, R: Wait>(
 
 /// Publishes an item that is spelled so and has these bytes, in the channel of this name: how many items that has accepted with it, or why it
 /// is refused.
-fn publish_item<L: Ledgers, C, G, K: Sink, R: Wait>(
+fn publish_item<L: Ledgers, C, G: Gate, K: Sink, R: Wait>(
     service: &Service<'_, L, C, G, K, R>,
     pass: &mut Pass<L>,
     name: &str,
@@ -146,14 +146,17 @@ fn publish_item<L: Ledgers, C, G, K: Sink, R: Wait>(
         return Ok(Err(Refusal::UnknownChannel));
     };
     match publish_to(service, pass, channel, settings, text, payload) {
-        Ok((answer, _)) => Ok(answer),
+        Ok((answer, _)) => {
+            service.gate.published(channel, refusal_in(&answer));
+            Ok(answer)
+        }
         Err(fault) => Err(fault),
     }
 }
 
 /// Publishes an item that is spelled so and has these bytes, in the channel at this place. Where the record of the channel is full, that is handed out and the
 /// item published once more: the last answer, and whether it was handed out.
-fn publish_to<L: Ledgers, C, G, K: Sink, R: Wait>(
+fn publish_to<L: Ledgers, C, G: Gate, K: Sink, R: Wait>(
     service: &Service<'_, L, C, G, K, R>,
     pass: &mut Pass<L>,
     channel: usize,
@@ -171,7 +174,7 @@ fn publish_to<L: Ledgers, C, G, K: Sink, R: Wait>(
 }
 
 /// What publishing an item comes to that was answered so at first: this answer, unless the record of the channel was full.
-fn publish_again<L: Ledgers, C, G, K: Sink, R: Wait>(
+fn publish_again<L: Ledgers, C, G: Gate, K: Sink, R: Wait>(
     service: &Service<'_, L, C, G, K, R>,
     pass: &mut Pass<L>,
     channel: usize,
@@ -192,6 +195,14 @@ fn publish_again<L: Ledgers, C, G, K: Sink, R: Wait>(
     let handed = service.hand_out(channel)?;
     let second = publish_once(service, pass, channel, settings, text, payload)?;
     Ok((second, Some(handed)))
+}
+
+/// Why an item is refused; nothing, where it was accepted.
+fn refusal_in(answer: &Published) -> Option<Refusal> {
+    match answer {
+        Ok(_) => None,
+        Err(reason) => Some(*reason),
+    }
 }
 
 /// Whether an item was refused since the record of its channel is full.

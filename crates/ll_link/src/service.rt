@@ -2,6 +2,7 @@ ghost use Rattle.std.specs.Prelude.{◌≡◌, IfOk};
 ghost use Rattle.ll_link.specs.Faults.{IsOwn};
 
 use crate::fault::LinkFault;
+use crate::gate::Gate;
 use ll_hub::{Hub, Ledgers, Sink};
 use std::alloc::Global;
 use std::marker::Model;
@@ -33,12 +34,13 @@ impl Model for HandedOut {
     ghost view = { λ h. h.channel };
 }
 
-impl<L: Ledgers, C, G, K: Sink, R: Wait> Service<'_, L, C, G, K, R> {
-    /// Hands the record of the channel at this place to the sink.
+impl<L: Ledgers, C, G: Gate, K: Sink, R: Wait> Service<'_, L, C, G, K, R> {
+    /// Hands the record of the channel at this place, which is full, to the sink.
     pub(crate) fn hand_out(&self, channel: usize) -> Result<HandedOut, LinkFault>
         ensures own { IsOwn result }
         ensures place { IfOk result (λ handed. handed ≡ channel) }
     {
+        self.gate.filled(channel);
         match self.hub.rotate_to(self.rt, channel, self.sink) {
             Ok(()) => Ok(HandedOut { channel }),
             Err(_) => Err(LinkFault::Hub),

@@ -36,6 +36,8 @@ pub struct Config {
     pub workers: Workers,
     /// `record PATH`, which may be left out: the path that the names of the records' files begin with.
     pub record: Option<Text>,
+    /// `log PATH`, which may be left out: the file that each channel's numbers go to.
+    pub log: Option<Text>,
     /// One or more settings lines of channels with distinct names.
     pub channels: Vec<Settings>,
     ghost some_channel: { 1 ≤ vec_len channels },
@@ -60,13 +62,15 @@ impl Config {
         let players = lines.address("listen ")?;
         let publishers = lines.address("publish ")?;
         let workers = lines.workers()?;
-        let record = lines.record(alloc)?;
+        let record = lines.path(alloc, "record ")?;
+        let log = lines.path(alloc, "log ")?;
         let channels = lines.channels(alloc)?;
         Ok(Config {
             players,
             publishers,
             workers,
             record,
+            log,
             channels,
         })
     }
@@ -135,12 +139,12 @@ impl<'a> Lines<'a> {
         }
     }
 
-    /// The path in the next line, where that is a `record` line; any other line is left for later.
-    fn record(&mut self, alloc: Global) -> Result<Option<Text>, ConfigFault> {
-        if !self.rest.starts_with(b"record ") {
+    /// The path in the next line, where that begins with this keyword; any other line is left for later.
+    fn path(&mut self, alloc: Global, keyword: &str) -> Result<Option<Text>, ConfigFault> {
+        if !self.rest.starts_with(keyword.as_bytes()) {
             return Ok(None);
         }
-        let path = self.value("record ")?;
+        let path = self.value(keyword)?;
         if path.is_empty() {
             return Err(self.bad());
         }

@@ -1,29 +1,20 @@
 //! The files that the records of channels go to.
+use crate::journal::Journal;
 use ll_attr::Text;
 use ll_hub::Sink;
 use ll_item::Settings;
 use ll_record::Chunk;
 use std::alloc::{AllocError, Global};
-use std::fs::{File, OpenOptions};
-use std::io::Write;
+use std::fs::File;
 use std::rt::Files;
-use std::sync::atomic::{AtomicBool, Ordering};
 
-/// Takes the chunks of channels: each goes to the end of its channel's file, or nowhere.
+/// Takes the chunks of channels: each goes to the end of its channel's file, or nowhere. A record ends with the first chunk that isn't written whole: a part of that
+/// chunk may then stand at the file's end, where `check` finds the line that is missing.
 #[derive(Drop)]
 pub struct Records<'a, R> {
     rt: &'a R,
     /// The record of each channel, in their order; none, where no records are kept.
-    kept: Vec<Record>,
-}
-
-/// One channel's record. It ends with the first chunk that isn't written whole: a part of that chunk may then stand at the file's end,
-/// where `check` finds the line that is missing.
-#[derive(Drop)]
-struct Record {
-    channel: Text,
-    file: Option<File>,
-    ended: AtomicBool,
+    kept: Vec<Journal>,
 }
 
 impl<'a, R: Files<File = File> + Eprint> Records<'a, R> {
@@ -39,7 +30,7 @@ impl<'a, R: Files<File = File> + Eprint> Records<'a, R> {
         let mut kept = Vec::new(alloc);
         if let Some(path) = path {
             for settings in channels {
-                kept.push(Record::open(rt, alloc, path, settings.channel())?)?;
+                kept.push(record_of(rt, alloc, path, settings.channel())?)?;
             }
         }
         Ok(Records { rt, kept })
@@ -61,42 +52,14 @@ impl<R: Eprint> Sink for Records<'_, R> {
     }
 }
 
-impl Record {
-    /// The record of the channel of this name, in the file `<path>.<name>`.
-    fn open<R: Files<File = File> + Eprint>(
-        rt: &R,
-        alloc: Global,
-        path: &Text,
-        channel: &str,
-    ) -> Result<Record, AllocError> {
-        let path = format!(in alloc; "{path}.{channel}")?;
-        let file = match OpenOptions::new().append(true).create(true).open(rt, path) {
-            Ok(file) => Some(file),
-            Err(error) => {
-                let _ = eprintln!(rt; "llhls: record: {channel}: {error}");
-                None
-            }
-        };
-        Ok(Record {
-            channel: Text::from_str(alloc, channel)?,
-            file,
-            ended: AtomicBool::new(false),
-        })
-    }
-
-    /// Writes a chunk at the file's end. Where that fails, standard error is told why, and nothing more is written.
-    fn append<R: Eprint>(&self, rt: &R, chunk: &[u8]) {
-        let Some(file) = &self.file else {
-            return;
-        };
-        if self.ended.load(Ordering::SeqCst) {
-            return;
-        }
-        let mut file = file;
-        if let Err(error) = file.write_all(chunk) {
-            self.ended.store(true, Ordering::SeqCst);
-            let channel = &self.channel;
-            let _ = eprintln!(rt; "llhls: record: {channel}: {error}");
-        }
-    }
+/// The record of the channel of this name, in the file `<path>.<name>`.
+fn record_of<R: Files<File = File> + Eprint>(
+    rt: &R,
+    alloc: Global,
+    path: &Text,
+    channel: &str,
+) -> Result<Journal, AllocError> {
+    let path = format!(in alloc; "{path}.{channel}")?;
+    let what = format!(in alloc; "record: {channel}")?;
+    Ok(Journal::open(rt, path, Text::from_string(what)))
 }

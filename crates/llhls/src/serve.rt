@@ -4,9 +4,11 @@ ghost use Rattle.std.specs.Prelude.{◌≡◌, ◌≤◌, ◌^◌, length};
 use ll_command::Fault;
 use ll_hub::{Blanks, Clock, Hub, HubFault, Ledgers, Pass, Sink};
 use ll_item::Settings;
-use ll_link::{Gate, Role, serve_links};
-use ll_server::{Config, ConfigFault, Records, Workers};
+use ll_link::{Role, serve_links};
+use ll_numbers::Numbers;
+use ll_server::{Config, ConfigFault, Log, Records, Workers};
 use ll_socket::Door;
+use ll_time::UtcTime;
 use std::alloc::Global;
 use std::fs::File;
 use std::marker::Brand;
@@ -14,7 +16,7 @@ use std::net::{Net, TcpListener, TcpStream};
 use std::rt::Files;
 use std::sync::Wait;
 use std::thread::Threads;
-use std::time::{Duration, Instant};
+use std::time::{Duration, Instant, SystemTime, UNIX_EPOCH};
 use std::{thread, time};
 
 /// How often the channels are told the time, in milliseconds.
@@ -23,6 +25,9 @@ const TICK: u64 = 250;
 /// After so many times the records are handed out, where they are kept: every 10 seconds. What wasn't handed out when the server is
 /// stopped is lost.
 const TICKS: u64 = 40;
+
+/// After records were handed out so often the numbers of the channels are written, where they are kept: every minute.
+const ROUNDS: u64 = 6;
 
 /// The most channels of a server.
 const CHANNELS: usize = 1_024;
@@ -46,14 +51,6 @@ impl<R: time::Clock> Clock for Watch<'_, R> {
     }
 }
 
-/// A gate that is open.
-#[derive(Clone, Copy)]
-struct Open;
-
-impl Gate for Open {
-    fn pass(&self, _call: u64) {}
-}
-
 /// A server without its channels.
 #[derive(Drop)]
 struct Server<'a, R> {
@@ -61,6 +58,8 @@ struct Server<'a, R> {
     alloc: Global,
     watch: Watch<'a, R>,
     records: Records<'a, R>,
+    numbers: Numbers,
+    log: Log<'a, R>,
     workers: Workers,
 }
 
@@ -91,11 +90,19 @@ pub(crate) fn serve<
     let Ok(records) = Records::open(rt, alloc, config.record.as_ref(), &config.channels) else {
         return Err(Fault::Memory);
     };
+    let Ok(log) = Log::open(rt, alloc, config.log.as_ref()) else {
+        return Err(Fault::Memory);
+    };
+    let Ok(numbers) = Numbers::new(alloc, &config.channels) else {
+        return Err(Fault::Memory);
+    };
     let server = Server {
         rt,
         alloc,
         watch: Watch { rt, start },
         records,
+        numbers,
+        log,
         workers: config.workers,
     };
     host::<Brand, R>(
@@ -182,7 +189,7 @@ impl<
             door,
             workers,
             &self.watch,
-            &Open,
+            &self.numbers,
             &self.records,
             hub,
         ) {
@@ -201,9 +208,32 @@ impl<
     /// Tells the channels the time, again and again, and hands their records out from time to time, where they are kept.
     fn keep_time<L: Ledgers>(&self, hub: &Hub<L>) {
         for _ in self.rt.forever() {
-            self.tick(hub);
-            self.hand_out(hub);
+            for _ in 0..ROUNDS {
+                self.tick(hub);
+                self.hand_out(hub);
+            }
+            self.write_numbers();
         }
+    }
+
+    /// Writes the numbers of all channels, where they are kept; where no memory is found for them, they are left out.
+    fn write_numbers(&self) {
+        let Some(time) = self.time() else {
+            return;
+        };
+        if let Ok(lines) = self.numbers.lines(self.alloc, time) {
+            self.log.add(lines.as_str());
+        }
+    }
+
+    /// The time of day, where numbers are kept and the clock can be read.
+    fn time(&self) -> Option<UtcTime> {
+        if !self.log.is_kept() {
+            return None;
+        }
+        let now = SystemTime::now(self.rt).ok()?;
+        let since = now.duration_since(UNIX_EPOCH).ok()?;
+        UtcTime::at(since.as_millis().min(u64::MAX as u128) as u64)
     }
 
     /// Tells the channels the time, as often as it is told between two records.
