@@ -2,7 +2,7 @@
 HERE := $(dir $(lastword $(MAKEFILE_LIST)))
 PREFIX ?= /usr/local
 
-.PHONY: help run build install test edits refused-memory bench
+.PHONY: help run build install test edits refused-memory bench demo
 
 help:
 	@echo 'make run              runs the program on examples/first.script, and as a server, in a minute or two and before anything is proved'
@@ -12,6 +12,7 @@ help:
 	@echo 'make edits            tries all deliberate bugs that the prover must refuse (CRATES="NAME .." those of some crates)'
 	@echo 'make refused-memory   refuses each allocation of the program in turn'
 	@echo 'make bench            measures speed and memory'
+	@echo 'make demo             builds the program where it is not built, and shows a picture: ffmpeg, push and serve'
 
 run: kit
 	@$(HERE)tests/run.sh
@@ -43,6 +44,9 @@ bench: kit
 	@$(HERE)bench/media.sh
 	@$(HERE)bench/rotate.sh
 	@$(HERE)bench/soak.sh
+
+demo: kit
+	@exec $(HERE)examples/demo.sh "$$($(HERE)tests/program.sh)"
 
 .PHONY: kit
 kit:
