@@ -1,4 +1,5 @@
 /* load present PORT CONNECTIONS SECONDS
+   load media PORT CONNECTIONS SECONDS FILE LENGTH
    load held PORT PUBLISH_PORT WAITING ROUNDS
 
    A load for `llhls serve` and for bench/yardstick.c, on loopback: channel `cam`, rendition `hi`, parts of a second, four to a segment.
@@ -7,11 +8,13 @@
    and the 50th and the 99th percentile of the time from request to whole answer in microseconds. What comes before each connection has had an
    answer doesn't count.
 
+   media: the same with this file in the playlist's folder, whose answer has so many bytes: 0, 1, 2 .. 250, and from 0 on again.
+
    held: in each round so many kept connections ask for the next part. When all requests are written, and some milliseconds after, it publishes the
    part. It prints the milliseconds from there to the first, the median and the last whole answer, and at the end, after the word `median`, the
    medians of the rounds.
 
-   Each answer is looked at: status 200, as many bytes as it tells, a playlist; of a held one also that it lists the part, and that all are equal.
+   Each answer is looked at: status 200, as many bytes as it tells, a playlist, or each byte of the media; of a held one also that it lists the part, and that all are equal.
    The first wrong one ends the program with a message and status 1; so do 20 seconds in which nothing comes. */
 #include <arpa/inet.h>
 #include <errno.h>
@@ -28,7 +31,10 @@
 #include <time.h>
 #include <unistd.h>
 
-#define PATH "/cam/hi/live.m3u8"
+#define FOLDER "/cam/hi/"
+#define PATH FOLDER "live.m3u8"
+#define PERIOD 251      /* of the bytes of media */
+#define PIECE (1 << 18) /* the largest read of these */
 #define PARTS_OF_A_SEGMENT 4
 #define PATIENCE_MS 20000
 
@@ -45,6 +51,8 @@ struct peer {
 static int events_of_all;   /* the epoll */
 static char request[200];
 static size_t request_length;
+static size_t media_length;
+static char media[PIECE + PERIOD];
 
 static void fail(const char *form, ...)
 {
@@ -157,18 +165,11 @@ static void read_head(struct peer *p)
     p->body = strtoul(length + sizeof field - 1, NULL, 10);
 }
 
-/* Takes what came; tells whether the answer is whole now. */
-static int take(struct peer *p)
+/* Reads what came of an answer, at most so much; how many bytes that is. */
+static size_t receive(struct peer *p, char *to, size_t most)
 {
-    ssize_t n;
+    ssize_t n = recv(p->socket, to, most, MSG_DONTWAIT);
 
-    if (p->room - p->length < 4096) {
-        p->room = 2 * p->room + 8192;
-        p->text = realloc(p->text, p->room);
-        if (!p->text)
-            fail("no memory");
-    }
-    n = recv(p->socket, p->text + p->length, p->room - p->length - 1, MSG_DONTWAIT);
     if (n < 0 && (errno == EAGAIN || errno == EINTR))
         return 0;
     if (n < 0)
@@ -177,7 +178,30 @@ static int take(struct peer *p)
         fail("a connection was closed after %zu bytes of an answer", p->length);
     if (!p->waits)
         fail("an answer without a request");
-    p->length += (size_t)n;
+    return (size_t)n;
+}
+
+/* Room for more of its text. */
+static void make_room(struct peer *p)
+{
+    if (p->room - p->length < 4096) {
+        p->room = 2 * p->room + 8192;
+        p->text = realloc(p->text, p->room);
+        if (!p->text)
+            fail("no memory");
+    }
+}
+
+/* Takes what came; tells whether the answer is whole now. */
+static int take(struct peer *p)
+{
+    size_t n;
+
+    make_room(p);
+    n = receive(p, p->text + p->length, p->room - p->length - 1);
+    if (n == 0)
+        return 0;
+    p->length += n;
     p->text[p->length] = 0;
     if (p->head == 0)
         read_head(p);
@@ -187,6 +211,45 @@ static int take(struct peer *p)
         fail("%zu bytes too many", p->length - p->head - p->body);
     if (strncmp(p->text + p->head, "#EXTM3U\n", 8) != 0 || p->text[p->length - 1] != '\n')
         fail("a body that is no playlist");
+    p->waits = 0;
+    return 1;
+}
+
+/* These bytes are those of the media from a place on. */
+static void compare_media(const char *bytes, size_t length, size_t from)
+{
+    if (from + length > media_length || memcmp(bytes, media + from % PERIOD, length) != 0)
+        fail("other media in the %zu bytes from %zu on", length, from);
+}
+
+/* The same of an answer with media, of which the head alone is kept, and what came with it. */
+static int take_media(struct peer *p)
+{
+    static char bytes[PIECE];
+    size_t n;
+
+    if (p->head == 0) {
+        make_room(p);
+        n = receive(p, p->text + p->length, 4095);
+        if (n == 0)
+            return 0;
+        p->length += n;
+        p->text[p->length] = 0;
+        read_head(p);
+        if (p->head == 0)
+            return 0;
+        if (p->body != media_length)
+            fail("%zu bytes, and %zu are wanted", p->body, media_length);
+        compare_media(p->text + p->head, p->length - p->head, 0);
+    } else {
+        n = receive(p, bytes, sizeof bytes);
+        if (n == 0)
+            return 0;
+        compare_media(bytes, n, p->length - p->head);
+        p->length += n;
+    }
+    if (p->length < p->head + p->body)
+        return 0;
     p->waits = 0;
     return 1;
 }
@@ -204,7 +267,8 @@ static int some_events(struct epoll_event *events, int most)
     return count;
 }
 
-static void present(int port, int connections, double seconds)
+/* Has all connections ask, and again, for so long; `taken` takes what came of an answer. */
+static void ask_on(int port, int connections, double seconds, int (*taken)(struct peer *))
 {
     struct epoll_event events[512];
     struct peer *peers = connect_all(port, connections);
@@ -218,7 +282,7 @@ static void present(int port, int connections, double seconds)
         found = some_events(events, 512);
         for (i = 0; i < found; i++) {
             struct peer *p = events[i].data.ptr;
-            if (!take(p))
+            if (!taken(p))
                 continue;
             at = now();
             if (begin == 0 && ++had >= connections)
@@ -238,6 +302,16 @@ static void present(int port, int connections, double seconds)
         fail("no answer in %g seconds", seconds);
     qsort(times, count, sizeof *times, in_order);
     printf("%.0f %.0f %.0f\n", (double)count * 1e6 / (at - begin), percentile(times, count, 0.5), percentile(times, count, 0.99));
+}
+
+static void set_media(const char *file, size_t length)
+{
+    size_t i;
+
+    for (i = 0; i < sizeof media; i++)
+        media[i] = (char)(i % PERIOD);
+    media_length = length;
+    request_length = (size_t)snprintf(request, sizeof request, "GET " FOLDER "%.60s HTTP/1.1\r\nHost: a\r\n\r\n", file);
 }
 
 /* The next part, as the hint of the present playlist has it. */
@@ -364,11 +438,14 @@ int main(int count, char **words)
     signal(SIGPIPE, SIG_IGN);
     request_length = (size_t)snprintf(request, sizeof request, "GET " PATH " HTTP/1.1\r\nHost: a\r\n\r\n");
     if (count == 5 && strcmp(words[1], "present") == 0 && atoi(words[3]) > 0)
-        present(atoi(words[2]), atoi(words[3]), atof(words[4]));
-    else if (count == 6 && strcmp(words[1], "held") == 0 && atoi(words[4]) > 0 && atoi(words[5]) > 0)
+        ask_on(atoi(words[2]), atoi(words[3]), atof(words[4]), take);
+    else if (count == 7 && strcmp(words[1], "media") == 0 && atoi(words[3]) > 0) {
+        set_media(words[5], strtoul(words[6], NULL, 10));
+        ask_on(atoi(words[2]), atoi(words[3]), atof(words[4]), take_media);
+    } else if (count == 6 && strcmp(words[1], "held") == 0 && atoi(words[4]) > 0 && atoi(words[5]) > 0)
         held(atoi(words[2]), atoi(words[3]), atoi(words[4]), atoi(words[5]));
     else {
-        fputs("load present PORT CONNECTIONS SECONDS | load held PORT PUBLISH_PORT WAITING ROUNDS\n", stderr);
+        fputs("load present PORT CONNECTIONS SECONDS | load media PORT CONNECTIONS SECONDS FILE LENGTH | load held PORT PUBLISH_PORT WAITING ROUNDS\n", stderr);
         return 2;
     }
     return 0;

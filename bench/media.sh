@@ -1,8 +1,65 @@
 #!/usr/bin/env bash
-# media.sh [COUNT [SIZE [PROGRAM]]]: so many parts (10,000) of so many bytes (100,000) are published to `llhls serve` (or `PROGRAM serve`) on loopback, one after another.
-# After each tenth it prints the server's resident memory and the bytes that it took in a second, and at the end whether that memory still grows: of the parts, those of the
-# window are kept, some 40 of a second each. It judges nothing.
+# media.sh [COUNT [SIZE [PROGRAM]]]: media, published to `llhls serve` (or `PROGRAM serve`) and asked for on loopback. It prints
+# - where so many parts (10,000) of so many bytes (100,000) are published one after another, after each tenth the server's resident memory and the bytes that it took in a
+#   second; at the end how much more memory it has than at its start beside the media of its window, some 40 parts of a second each, and whether it still grows;
+# - the same of 400 parts of 1,048,576 bytes, the most that a part may have, without the tenths;
+# - of the program, of bench/yardstick.c, which has the same media in its memory and sends each answer by one writev, and as a ratio: the bytes that they send in a second where 1
+#   and 64 kept connections ask for a part of 300,000 bytes, one of 1,000,000, and a segment of four parts with as many; and the processor time, the kernel's part too, that a
+#   gigabyte takes the server. They are asked in turn. Numbers are the median of RUNS runs (5 where it isn't set) of LENGTH seconds (1); after it stand the smaller and the larger
+#   quartile. Where the quartiles of one server are further apart than half its median, it prints "too short to tell" in place of the ratio.
+# It judges nothing. At least 0.8 of the yardstick is wanted.
 . "$(dirname "${BASH_SOURCE[0]}")/common.sh" || exit 2
 take_program_or_proved "${3-}"
-serve "$program" 'workers 64' 'channel cam target=4 part=1000000 skip=24 window=36 renditions=hi first=0 start=0' >&2
-python3 "$here/media.py" "$publish_port" "$server" "${1:-10000}" "${2:-100000}"
+runs=${RUNS:-5}
+length=${LENGTH:-1}
+names=(program yardstick)
+declare -A player_port
+compile "$here/load.c"
+compile "$here/yardstick.c" -pthread
+channel='channel cam target=4 part=1000000 skip=24 window=36 renditions=hi first=0 start=0'
+
+# grow COUNT SIZE: such parts to a server of its own.
+grow() {
+    serve "$program" 'workers 64' "$channel" >&2
+    python3 "$here/media.py" grow "$publish_port" "$server" "$@"
+    stop
+}
+
+# start NAME FILE: starts a server, and publishes what it is asked for.
+start() {
+    log=$room/$1.log
+    serve "$2" 'workers 64' "$channel" >&2
+    player_port[$1]=$port process[$1]=$server
+    python3 "$here/media.py" fill "$publish_port" if:300000 if:1000000 i:250000 -:250000 -:250000 f:250000
+}
+
+# sent NAME CONNECTIONS FILE BYTES: one run; the megabytes in a second, and the seconds of processor time for a gigabyte.
+sent() {
+    local before line
+    before=$(ticks "$1")
+    line=$(load media "${player_port[$1]}" "$2" "$length" "$3" "$4")
+    echo "$line" | awk -v ticks=$(($(ticks "$1") - before)) -v hertz="$(getconf CLK_TCK)" -v length_s="$length" -v bytes="$4" '{
+        print $1 * bytes / 1e6, ticks * 1e9 / hertz / ($1 * length_s * bytes) }'
+}
+
+grow "${1:-10000}" "${2:-100000}"
+grow 400 1048576 | tail -n 3
+start program "$program"
+start yardstick "$room/yardstick"
+echo "$runs runs each: the program, and the yardstick beside it"
+while read -r file bytes told; do
+    for connections in 1 64; do
+        rm -f "$room"/*.runs
+        for ((run = 0; run < runs; run++)); do
+            for name in "${names[@]}"; do
+                sent "$name" "$connections" "$file" "$bytes" >>"$room/$name.runs"
+            done
+        done
+        compare "$told, $connections connections" MB/s 1 0
+        compare '    processor time for a gigabyte' s 2 3
+    done
+done <<END
+s0.0.m4s 300000 a part of 300,000 bytes
+s1.0.m4s 1000000 a part of 1,000,000 bytes
+s2.m4s 1000000 a segment of 1,000,000 bytes
+END

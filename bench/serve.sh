@@ -17,7 +17,7 @@ length=${LENGTH:-1}
 parts=44
 names=(program yardstick)
 asked=("${names[@]}")
-declare -A player_port publisher_port process
+declare -A player_port publisher_port
 compile "$here/load.c"
 compile "$here/yardstick.c" -pthread
 ulimit -S -n "$(ulimit -H -n)"
@@ -74,39 +74,6 @@ END
         fi
     done
     echo "nginx doesn't start: $(tail -n 1 "$room/nginx.log")"
-}
-
-# load WORDS..: one run; its last line.
-load() {
-    timeout 120 "$room/load" "$@" | tail -n 1
-}
-
-# compare NAME UNIT COLUMN DIGITS [OTHER]: prints the medians of a column of the program's measured runs and of the yardstick's, or another server's, their
-# quartiles, and the ratio.
-compare() {
-    local server=${5:-yardstick} mine other
-    mine=$(spread "$3" <"$room/program.runs")
-    other=$(spread "$3" <"$room/$server.runs")
-    awk -v name="$1" -v unit="$2" -v digits="$4" -v server="$server" -v mine="$mine" -v other="$other" '
-        function told(of,    form) {
-            form = "%." digits "f (%." digits "f to %." digits "f)"
-            return sprintf(form, of[1], of[2], of[3])
-        }
-        BEGIN {
-            split(mine, a); split(other, b)
-            printf "%s: %s %s, %s %s, ", name, told(a), unit, server, told(b)
-            if (a[3] - a[2] > a[1] / 2 || b[3] - b[2] > b[1] / 2) print "too short to tell"
-            else printf "ratio %.2f\n", a[1] / b[1]
-        }'
-}
-
-# ticks NAME: the processor time of a server and its workers so far.
-ticks() {
-    local each=("${process[$1]}") pid
-    for pid in $(pgrep -P "${process[$1]}"); do
-        each+=("$pid")
-    done
-    cat $(printf '/proc/%s/stat ' "${each[@]}") | awk '{ all += $14 + $15 } END { print all }'
 }
 
 # present NAME CONNECTIONS: one run; its line, and the microseconds of processor time for an answer.

@@ -5,6 +5,9 @@
    rendition; it takes `part` lines and nothing else, and of a request it looks at the path, `_HLS_msn` and `_HLS_part`. It has no limits, no
    time-outs, no delta updates, and believes what it is sent. The playlists of such items are those of `llhls`, byte for byte.
 
+   A part's bytes may follow its line. It keeps them for good, and never waits for any: an answer with the bytes of a part or of a finished segment is
+   its head and these bytes where they lie, in one writev.
+
    The answer with the present playlist is made once a part. A thread takes the mutex, waits on the condition until the part that it wants is
    there, takes a holder of that answer, leaves the mutex and writes. */
 #include <arpa/inet.h>
@@ -17,6 +20,7 @@
 #include <string.h>
 #include <sys/resource.h>
 #include <sys/socket.h>
+#include <sys/uio.h>
 #include <time.h>
 #include <unistd.h>
 
@@ -28,7 +32,12 @@ struct segment {
 struct part {
     long long duration;
     int independent;
+    char *media;
+    size_t length;
 };
+
+/* How many parts of a segment an answer has at most. */
+#define PIECES 64
 
 /* A whole answer; the last holder frees it. */
 struct answer {
@@ -174,8 +183,8 @@ static void make_present(void)
     present = made;
 }
 
-/* Adds a part; how many there are then. */
-static size_t add_part(long long duration, int independent, int is_last)
+/* Adds a part with these bytes; how many there are then. */
+static size_t add_part(long long duration, int independent, int is_last, char *media, size_t media_length)
 {
     size_t count;
     struct segment *s;
@@ -193,7 +202,7 @@ static size_t add_part(long long duration, int independent, int is_last)
     s = &segments[segment_count - 1];
     s->duration += duration;
     s->parts++;
-    parts[part_count++] = (struct part){ duration, independent };
+    parts[part_count++] = (struct part){ duration, independent, media, media_length };
     is_open = !is_last;
     make_present();
     count = part_count;
@@ -237,17 +246,79 @@ static int write_all(int s, const char *text, size_t length)
     return 1;
 }
 
+/* The bytes of a segment's part, or of all its parts where the index is below 0, after a first piece; how many pieces there are then. 1 where they aren't there. */
+static int media_of(long long segment, long index, struct iovec *pieces)
+{
+    long long n = segment - first;
+    size_t i;
+    int count = 1;
+
+    pthread_mutex_lock(&mutex);
+    if (n >= 0 && n < (long long)segment_count - (index < 0 && is_open))
+        for (i = 0; i < segments[n].parts && count <= PIECES; i++)
+            if (index < 0 || (size_t)index == i) {
+                const struct part *p = &parts[segments[n].part + i];
+                pieces[count++] = (struct iovec){ p->media, p->length };
+            }
+    pthread_mutex_unlock(&mutex);
+    return count;
+}
+
+static int write_pieces(int s, struct iovec *pieces, int count)
+{
+    while (count > 0) {
+        ssize_t n = writev(s, pieces, count);
+        if (n <= 0)
+            return 0;
+        for (; count > 0 && (size_t)n >= pieces->iov_len; pieces++, count--)
+            n -= (ssize_t)pieces->iov_len;
+        if (count > 0) {
+            pieces->iov_base = (char *)pieces->iov_base + n;
+            pieces->iov_len -= (size_t)n;
+        }
+    }
+    return 1;
+}
+
+/* Answers a request for media by the name of its file; -1 where this isn't there. */
+static int answer_media(int s, const char *file)
+{
+    struct iovec pieces[1 + PIECES];
+    long long segment;
+    long index;
+    char head[200];
+    size_t length = 0;
+    int count, i;
+
+    if (sscanf(file, "s%lld.%ld.m4s", &segment, &index) != 2) {
+        index = -1;
+        if (sscanf(file, "s%lld.m4s", &segment) != 1)
+            return -1;
+    }
+    count = media_of(segment, index, pieces);
+    if (count == 1)
+        return -1;
+    for (i = 1; i < count; i++)
+        length += pieces[i].iov_len;
+    pieces[0].iov_base = head;
+    pieces[0].iov_len = (size_t)snprintf(head, sizeof head, "HTTP/1.1 200 OK\r\nContent-Type: video/mp4\r\nContent-Length: %zu\r\n"
+        "Cache-Control: max-age=60\r\nConnection: keep-alive\r\n\r\n", length);
+    return write_pieces(s, pieces, count);
+}
+
 /* Answers the request whose head is this text; tells whether the connection goes on. */
 static int answer_request(int s, const char *head)
 {
     static const char lost[] = "HTTP/1.1 404 Not Found\r\nContent-Type: text/plain\r\nContent-Length: 9\r\n"
         "Cache-Control: no-cache\r\nConnection: keep-alive\r\n\r\nNotFound\n";
     struct answer *a;
-    size_t length = strlen(path);
+    size_t length = strlen(path), folder = length - strlen("live.m3u8");
     int written;
 
-    if (strncmp(head, "GET ", 4) != 0 || strncmp(head + 4, path, length) != 0)
-        return write_all(s, lost, sizeof lost - 1);
+    if (strncmp(head, "GET ", 4) != 0 || strncmp(head + 4, path, length) != 0) {
+        written = strncmp(head, "GET ", 4) == 0 && strncmp(head + 4, path, folder) == 0 ? answer_media(s, head + 4 + folder) : -1;
+        return written < 0 ? write_all(s, lost, sizeof lost - 1) : written;
+    }
     a = answer_of(head + 4 + length);
     written = write_all(s, a->text, a->length);
     pthread_mutex_lock(&mutex);
@@ -256,14 +327,38 @@ static int answer_request(int s, const char *head)
     return written;
 }
 
-static int answer_line(int s, char *line)
+/* So many bytes and an LF, of which `count` bytes at `bytes` may have the first; how many of these they are. NULL where the connection ended. */
+static char *read_media(int s, const char *bytes, size_t count, size_t length, size_t *taken)
 {
-    char of[33], in[33], flags[3], reply[40];
-    long long duration;
-    int length;
+    char *media = malloc(length + 1);
+    ssize_t n = 1;
+    size_t at;
 
-    if (sscanf(line, "%32s part %32s %lld %2s", of, in, &duration, flags) == 4 && strcmp(of, channel) == 0 && strcmp(in, rendition) == 0)
-        length = snprintf(reply, sizeof reply, "ok %zu\n", add_part(duration, flags[0] == 'i', strchr(flags, 'f') != NULL));
+    if (!media)
+        fail("Memory", 4);
+    at = *taken = count < length + 1 ? count : length + 1;
+    memcpy(media, bytes, at);
+    for (; at < length + 1 && n > 0; at += n > 0 ? (size_t)n : 0)
+        n = recv(s, media + at, length + 1 - at, 0);
+    if (n > 0)
+        return media;
+    free(media);
+    return NULL;
+}
+
+/* Answers a line, after which so many bytes came; `taken` tells how many of these are its part's. */
+static int answer_line(int s, char *line, const char *bytes, size_t count, size_t *taken)
+{
+    char of[33], in[33], flags[3], reply[40], *media = NULL;
+    long long duration;
+    size_t media_length = 0;
+    int length, words;
+
+    words = sscanf(line, "%32s part %32s %lld %2s %zu", of, in, &duration, flags, &media_length);
+    if (words == 5 && !(media = read_media(s, bytes, count, media_length, taken)))
+        return 0;
+    if (words >= 4 && strcmp(of, channel) == 0 && strcmp(in, rendition) == 0)
+        length = snprintf(reply, sizeof reply, "ok %zu\n", add_part(duration, flags[0] == 'i', strchr(flags, 'f') != NULL, media, media_length));
     else
         length = snprintf(reply, sizeof reply, "no 13 BadLine\n");
     return write_all(s, reply, (size_t)length);
@@ -279,7 +374,7 @@ static void *serve_link(void *given)
     struct link link = *(struct link *)given;
     const char *end_mark = link.is_publisher ? "\n" : "\r\n\r\n";
     char bytes[8193], *end;
-    size_t count = 0, taken;
+    size_t count = 0, taken, media;
     ssize_t n;
     int goes_on = 1;
 
@@ -289,8 +384,10 @@ static void *serve_link(void *given)
         bytes[count] = 0;
         while (goes_on && (end = strstr(bytes, end_mark))) {
             *end = 0;
-            goes_on = link.is_publisher ? answer_line(link.socket, bytes) : answer_request(link.socket, bytes);
             taken = (size_t)(end - bytes) + strlen(end_mark);
+            media = 0;
+            goes_on = link.is_publisher ? answer_line(link.socket, bytes, bytes + taken, count - taken, &media) : answer_request(link.socket, bytes);
+            taken += media;
             memmove(bytes, bytes + taken, count - taken + 1);
             count -= taken;
         }

@@ -1,6 +1,6 @@
 #!/usr/bin/env bash
 # serve.sh PROGRAM: `llhls serve` with real sockets on loopback. The same events go to it and, as a script, to `llhls replay`: tests/follow.c demands
-# the same bytes on each connection. Then come crowds, peers that are slow, silent, cut off or gone, ports and files that can't be had, and each fault
+# the same bytes on each connection. Then come crowds, peers that are slow, silent, cut off or gone, large media (tests/bodies.py), ports and files that can't be had, and each fault
 # of a settings file. With SLOW=1 also what takes the 30 seconds of a silent peer. The last line is `N passed, M failed`.
 . "$(dirname "${BASH_SOURCE[0]}")/server.sh" || exit 2
 take_program "$1"
@@ -243,6 +243,28 @@ ok 5' ] || { echo "$answers"; return 1; }
     publish "$short" 'ok 6'
 }
 
+# Two hundred players have two requests each, for the playlist with the next part and for that part; one line of a publisher answers them all.
+playlists_and_hinted_parts() {
+    local number
+    start 420 "$cam" || return 1
+    {
+        echo "$cam"
+        for ((number = 1; number <= 400; number += 2)); do
+            say "$number" "$next"
+            say $((number + 1)) /cam/hi/s0.0.m4s
+        done
+        echo "pub $part $(seq 10000 | head -c 30000 | od -An -v -tx1 | tr -d ' \n')"
+    } >"$room/say"
+    follow whole && [ "$(grep -ac '^sent ' "$room/wanted")" = 400 ]
+}
+
+# bodies WORKERS KB WHAT: large media (tests/bodies.py); the server's memory was never so many KB, and then it serves others.
+bodies() {
+    start "$1" "$cam" || return 1
+    timeout 60 python3 "$here/bodies.py" "$3" "$port" "$publish_port" || { echo "tests/bodies.py ended with status $?"; return 1; }
+    held_less_than "$2" && is_served
+}
+
 # Many connections while the server may open no more files: it says so once, and serves others afterwards.
 files_run_out() {
     local number answer
@@ -338,9 +360,18 @@ done
 try five_hundred_at_once 600
 try five_hundred_at_once 16 'Connection: close'
 for name in thousand_held most_channels drips_its_head sends_nothing hangs_up_while_held gives_workers_back reads_slowly publisher_cut_off \
-    lines_of_publishers bytes_of_publishers files_run_out stops_while_requests_are_held taken_ports; do
+    lines_of_publishers bytes_of_publishers playlists_and_hinted_parts files_run_out stops_while_requests_are_held taken_ports; do
     try "$name"
 done
+# Players that get the same bytes have them in common: a copy for each of a thousand would be 1 GB.
+while read -r words; do
+    try bodies $words
+done <<END
+4 40000 largest
+1100 40000 slow_readers
+4 40000 hang_ups
+4 40000 little_by_little
+END
 
 listen='listen 127.0.0.1:0\n'
 both=$listen'publish 127.0.0.1:0\n'

@@ -1,0 +1,86 @@
+#!/usr/bin/env bash
+# watch.sh PROGRAM: `llhls serve` with examples/media.settings, to which examples/publish.py publishes examples/pattern.mp4 in real time, once on a channel of its own and over and over
+# on another. ffmpeg plays the first from its first segment on, and has to see each frame of the file at its time, without a warning; the files of the playlist, one after another, are
+# the file. On the other one a break, a section of another name and the same bytes again follow the first eight seconds. Where ffmpeg isn't installed, it says so and tests
+# nothing. The last line is `N passed, M failed`.
+. "$(dirname "${BASH_SOURCE[0]}")/server.sh" || exit 2
+take_program "$1"
+file=$root/examples/pattern.mp4
+once=$(sed -n 's/^channel /&/p' "$root/examples/media.settings")
+[ -n "$once" ] || give_up 'examples/media.settings has no channel'
+again=${once/ pattern / again }
+
+# file_of CHANNEL NAME..: these files of its rendition, one after another.
+file_of() {
+    local name
+    for name in "${@:2}"; do
+        ask "/$1/video/$name" | sed $'1,/^\r$/d'
+    done
+}
+
+# published CHANNEL [--loop]: starts a publisher.
+published() {
+    timeout 60 python3 "$root/examples/publish.py" "${@:2}" "127.0.0.1:$publish_port" "$1" video "$file" >"$room/$1" 2>&1 &
+    publishers+=($!)
+}
+
+# has COUNT CHANNEL: waits until its publisher has had so many answers.
+has() {
+    local tries
+    for ((tries = 0; tries < 300; tries++)); do
+        if [ "$(grep -c ': ok ' "$room/$2")" -ge "$1" ]; then
+            return 0
+        fi
+        sleep 0.1
+    done
+    cat "$room/$2"
+    return 1
+}
+
+# The frames that ffmpeg sees, each with its time. (It reads the section anew after each playlist, and says so.)
+frames() {
+    timeout 60 ffmpeg -nostdin -v warning -i "$1" -f framemd5 - 2>"$room/warnings" | grep -v '^#'
+    [ "${PIPESTATUS[0]}" = 0 ] && ! grep -v 'Found duplicated MOOV Atom\|^ *Last message repeated' "$room/warnings" >&2
+}
+
+plays() {
+    frames "$file" >"$room/wanted" && frames "http://127.0.0.1:$port/pattern/video/live.m3u8" >"$room/frames" || return 1
+    cmp "$room/wanted" "$room/frames" && [ "$(wc -l <"$room/frames")" = 192 ]
+}
+
+is_the_file() {
+    has 18 pattern && file_of pattern init0.mp4 s0.m4s s1.m4s s2.m4s s3.m4s | cmp - "$file" || return 1
+    file_of pattern live.m3u8 | grep -qx '#EXT-X-ENDLIST'
+}
+
+goes_on_after_a_break() {
+    has 18 again && file_of again s4.0.m4s | cmp - <(file_of again s0.0.m4s) || return 1
+    file_of again init1.mp4 | cmp - <(file_of again init0.mp4) || return 1
+    file_of again live.m3u8 | grep -A 1 -x '#EXT-X-DISCONTINUITY' | grep -qx '#EXT-X-MAP:URI="init1.mp4"'
+}
+
+# watched NAME: runs a test; where it failed, what it says is shown.
+watched() {
+    if "$1" >"$room/said" 2>&1; then
+        pass
+    else
+        fail "$1: $(head -c 2000 "$room/said")"
+    fi
+}
+
+if ! command -v ffmpeg >/dev/null; then
+    echo 'ffmpeg is not installed: nothing is watched'
+    told_all
+    exit
+fi
+publishers=()
+serve "$program" 'workers 64' "$once" "$again" || give_up "the server isn't up"
+published pattern
+published again --loop
+# (a section and four parts: the first segment)
+has 5 pattern || give_up 'nothing is published'
+for name in plays is_the_file goes_on_after_a_break; do
+    watched "$name"
+done
+kill "${publishers[@]}" 2>/dev/null
+told_all
