@@ -74,6 +74,10 @@ openssl req -x509 -newkey rsa:2048 -nodes -days 2 -subj /CN=localhost -keyout "$
 sed -e "s/listen 443 /listen 127.0.0.1:$plain; listen 127.0.0.1:$tls /" -e "s/127\.0\.0\.1:6081/127.0.0.1:$varnish/" -e "s|/etc/ssl/|$room/|" \
     -e "s|/srv/live|$room/live|" -e "s|/run/|$room/|" -e "s|/var/log/nginx/|$room/|" \
     -e "s|^http {|& client_body_temp_path $room/t1; proxy_temp_path $room/t2; fastcgi_temp_path $room/t3; uwsgi_temp_path $room/t4; scgi_temp_path $room/t5;|" "$edge/nginx.conf" >"$room/nginx.conf"
+# (nobody else is to reach it)
+if grep -w listen "$room/nginx.conf" | grep -qv 'listen 127\.0\.0\.1:[0-9]*; listen 127\.0\.0\.1:[0-9]* ssl http2;$'; then
+    give_up "nginx would listen elsewhere: $(grep -w listen "$room/nginx.conf")"
+fi
 begins "$plain" nginx -p "$room" -c "$room/nginx.conf" -e "$room/error.log" -g "daemon off; user $(id -un) $(id -gn);"
 
 if timeout 120 python3 "$here/edge.py" "$plain" "$publish_port" >"$room/said" 2>&1; then
