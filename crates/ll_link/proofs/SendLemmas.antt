@@ -1,24 +1,35 @@
--- Answers that are sent one by one.
-use Rattle.std.proofs.Common.{◌≡◌, ℕ, List, ◌∷◌, ◌++◌, Option, drop, sym, ap, ◌∙◌, append_assoc}
+-- Answers, and the blocks of one, that are sent one by one.
+use Rattle.std.proofs.Common.{◌≡◌, ℕ, ◌+◌, ◌<◌, List, ◌∷◌, ◌++◌, Option, add-one, drop, drop-cons, get_or, length, subst, sym, ap, ◌∙◌, append_assoc, Result, Ok, Err, OnOk}
 use Rattle.std.proofs.KnownBytes.{Appends-trans}
 use Rattle.std.specs.Io.KnownBytes.{Appends}
 use Rattle.std.specs.List.{concat}
 use Rattle.ll_session.specs.Talk.{SessionValue}
 
--- of these answers, all but those that are left were written since base
-pub record IsSent (base written : Option (List ℕ)) (answers left : List (List ℕ)) : Type 0 where
+-- of these texts, all but those that are left were written since base
+pub record IsSent (base written : Option (List ℕ)) (all left : List (List ℕ)) : Type 0 where
   pub gone : List ℕ
-  pub whole : concat answers ≡ gone ++ concat left
+  pub whole : concat all ≡ gone ++ concat left
   pub wrote : Appends base written gone
 
--- the first answer of those that are left is written
-pub IsSent-first : (base mid after : Option (List ℕ)) (answers left : List (List ℕ)) (first : List ℕ) → IsSent base mid answers left
-    → left ≡ first ∷ drop 1 left → Appends mid after first → IsSent base after answers (drop 1 left)
-IsSent-first base mid after answers left first s is w = record {
+-- the first of those that are left is written
+pub sent_next : (base mid after : Option (List ℕ)) (all : List (List ℕ)) (first : List ℕ) (left rest : List (List ℕ)) → IsSent base mid all left → left ≡ first ∷ rest
+    → Appends mid after first → IsSent base after all rest
+sent_next base mid after all first left rest s is w = record {
   gone = s.gone ++ first;
-  whole = s.whole ∙ ap (λ l. s.gone ++ concat l) is ∙ sym (append_assoc s.gone first (concat (drop 1 left)));
+  whole = s.whole ∙ ap (λ l. s.gone ++ concat l) is ∙ sym (append_assoc s.gone first (concat rest));
   wrote = Appends-trans base mid after s.gone first s.wrote w;
 }
+
+-- which is that one, where so many have gone
+pub next_left : (all : List (List ℕ)) (i : ℕ) (x text : List ℕ) → text ≡ x → x ≡ get_or all i x → i < length all → drop i all ≡ text ∷ drop (i + 1) all
+next_left all i x text same at lt = rw add-one (drop-cons all i x lt) ∙ ap (λ t. t ∷ drop (i + 1) all) (sym at ∙ sym same)
+
+-- two pieces that lie apart are written, and then others
+pub wrote_both : {T E : Type 0} (r : Result T E) (base mid after : Option (List ℕ)) (head body rest : List ℕ) → Appends base mid (head ++ body)
+    → OnOk r (Appends mid after rest) → OnOk r (Appends base after (head ++ (body ++ rest)))
+wrote_both (Err e) base mid after head body rest w q = tt
+wrote_both (Ok x) base mid after head body rest w q =
+    subst (Appends base after) (append_assoc head body rest) (Appends-trans base mid after (head ++ body) rest w q)
 
 -- a session that only lost answers before, and loses its first one, only lost answers
 pub lost-first : (s before after : SessionValue) → before ≡ record s { answers = before.answers } → after ≡ record before { answers = drop 1 before.answers }

@@ -130,6 +130,7 @@ fn send<L: Ledgers, P: Link, C, G: Gate, K, R>(
 }
 
 /// Writes an answer.
+#[tactic(auto, using(crate::proofs::SendLemmas::wrote_both))]
 fn write_slices<P: Link>(link: &mut P, answer: &Slices<'_>) -> Result<(), Failed>
     ensures whole { OnOk result (Appends (P.written link.old) (P.written link.new) answer.now) }
     ensures steady { OnOk result (P.failures link.new ≡ P.failures link.old) }

@@ -1,6 +1,6 @@
 -- Each answer that is written is the first of those that were left.
 use Rattle.std.proofs.Common.{◌≡◌, ◌++◌, ◌∙◌, ap, drop}
-use Rattle.ll_link.proofs.SendLemmas.{IsSent-first, lost-first}
+use Rattle.ll_link.proofs.SendLemmas.{lost-first, sent_next}
 use Rattle.ll_link.proofs.player.send.Goals as goal
 
 pub loop-answer-preserved : goal.loop-answer-preserved
@@ -9,7 +9,7 @@ loop-answer-preserved g c =
     record {
       steady = c.in-Ok.ensures.steady ∙ c.loop-answer.invariant.steady;
       unread = c.in-Ok.ensures.unread ∙ c.loop-answer.invariant.unread;
-      sent = rw less (IsSent-first _ _ _ c.args.session.now.answers c.loop-answer.session.answers c.in-Some.answer
+      sent = rw less (sent_next _ _ _ c.args.session.now.answers c.in-Some.answer c.loop-answer.session.answers (drop 1 c.loop-answer.session.answers)
           c.loop-answer.invariant.sent c.in-Some.ensures c.in-Ok.ensures.whole);
       rest = lost-first c.args.session.now c.loop-answer.session c.first_sent.new.self c.loop-answer.invariant.rest c.first_sent.ensures;
     }
