@@ -143,12 +143,7 @@ RecordFull | shut => 137 0";
 fn add_length(alloc: Global, told: &mut String, input: &str) -> Result<(), AllocError> {
     let keep = column(input, 1) == "kept";
     let message = response(alloc, &answer(column(input, 0)), keep)?;
-    write!(
-        told,
-        "{} {}",
-        message.head.len(),
-        message.body.len()
-    )
+    write!(told, "{} {}", message.head.len(), message.body.len())
 }
 
 const METHOD: &str =
