@@ -1,0 +1,24 @@
+/// What a message announces.
+#[derive(Clone, Copy, Debug, PartialEq, Eq)]
+pub enum Said {
+    /// An initialization section.
+    Init,
+    /// A part.
+    Part {
+        /// How long it is, in microseconds.
+        duration: u64,
+        /// Whether it is the last of its segment.
+        finishes: bool,
+    },
+    /// The end of the rendition.
+    End,
+}
+
+/// Who watches how publishing goes on.
+pub trait Watch {
+    /// The origin has accepted a message that announces this, of so many bytes.
+    fn accepted(&mut self, said: Said, bytes: usize);
+
+    /// The connection is lost, and another one is tried.
+    fn lost(&mut self);
+}
