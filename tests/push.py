@@ -7,12 +7,16 @@ push.py slowly NAME             writes the input with a pause before each fragme
 push.py damaged SEED            writes the input `many` with some bytes changed, or cut off
 push.py peer FILE RECORD PLAN   is an origin: writes its port to FILE, and to RECORD what it took. PLAN has for each connection, separated by `/`, what becomes of each
                                 message, separated by `,`: `ok`; `drop` takes it and hangs up; `half` takes some of it and hangs up; `close` hangs up before it; else the answer
+push.py terminal WORD..         runs a program of these words with a terminal as its standard error, and writes what that shows
 push.py play PORT CHANNEL FILE  gets all that the playlist of hi names, whose bytes are to be those of FILE; what is left of FILE may be whole boxes
 """
+import os
+import pty
 import random
 import re
 import socket
 import struct
+import subprocess
 import sys
 import time
 import urllib.request
@@ -116,8 +120,7 @@ def damaged(seed):
 def slowly(name):
     for piece in pieces(name):
         time.sleep(0.4)
-        sys.stdout.buffer.write(piece)
-        sys.stdout.buffer.flush()
+        os.write(1, piece)
 
 
 def take(stream):
@@ -159,6 +162,20 @@ def peer(file, name, plan):
             record.flush()
 
 
+def terminal(words):
+    ours, its = pty.openpty()
+    program = subprocess.Popen(words, stderr=its)
+    os.close(its)
+    shown = b''
+    while True:
+        try:
+            shown += os.read(ours, 1000)
+        except OSError:
+            break
+    program.wait()
+    sys.stdout.buffer.write(shown)
+
+
 def get(port, channel, name):
     with urllib.request.urlopen(f'http://127.0.0.1:{port}/{channel}/hi/{name}', timeout=10) as answer:
         return answer.read()
@@ -196,10 +213,16 @@ if command == 'input':
 elif command == 'messages':
     sys.stdout.buffer.write(messages(*words))
 elif command == 'slowly':
-    slowly(*words)
+    try:
+        slowly(*words)
+    except BrokenPipeError:
+        # (the program has ended before its input)
+        sys.exit(1)
 elif command == 'damaged':
     sys.stdout.buffer.write(damaged(int(words[0])))
 elif command == 'peer':
     peer(*words)
+elif command == 'terminal':
+    terminal(words)
 elif command == 'play':
     play(*words)

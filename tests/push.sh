@@ -9,14 +9,17 @@ make() {
     python3 "$here/push.py" "$@"
 }
 
-# pushes STATUS FAULT ADDRESS WORD..: the program publishes standard input, as part=500000 and segment=2000000 where these words say nothing else, and ends so; the last line of what it tells
-# is the fault, where there is one.
+# push ADDRESS [CHANNEL]: the program publishes standard input.
+push() {
+    timeout 60 "$program" push "$1" "${2-cam}" hi part=500000 segment=2000000 >"$room/stdout" 2>"$room/stderr"
+}
+
+# pushes STATUS FAULT ADDRESS: it does so and ends with this status, and the last line that it tells is this fault, where there is one.
 pushes() {
-    local wanted=$1 fault=$2 address=$3 status
-    shift 3
-    timeout 60 "$program" push "$address" "${@:-cam}" hi part=500000 segment=2000000 >"$room/stdout" 2>"$room/stderr"
+    local status
+    push "$3"
     status=$?
-    if [ "$status" != "$wanted" ] || [ "$(tail -n 1 "$room/stderr")" != "${fault:+llhls: $fault}" ] || [ -s "$room/stdout" ]; then
+    if [ "$status" != "$1" ] || [ "$(tail -n 1 "$room/stderr")" != "${2:+llhls: $2}" ] || [ -s "$room/stdout" ]; then
         echo "status $status: $(<"$room/stderr")"
         return 1
     fi
@@ -38,7 +41,7 @@ is_served_whole() {
 peer() {
     local tries
     rm -f "$room/port"
-    make peer "$room/port" "$room/taken" "$1" &
+    python3 "$here/push.py" peer "$room/port" "$room/taken" "$1" &
     servers+=($!)
     for ((tries = 0; tries < 200; tries++)); do
         [ -s "$room/port" ] && peer=127.0.0.1:$(<"$room/port") && return 0
@@ -47,40 +50,31 @@ peer() {
     return 1
 }
 
-# to_peer PLAN NAME STATUS FAULT: an input goes to such an origin, at once or a fragment at a time.
+# to_peer PLAN NAME STATUS FAULT: an input goes to such an origin.
 to_peer() {
     peer "$1" || return 1
     make input "$2" | pushes "$3" "$4" "$peer"
 }
 
-slowly_to_peer() {
-    peer "$1" || return 1
-    make slowly "$2" | pushes "$3" "$4" "$peer"
-}
-
-# took NAME COUNT: what the origin took are the messages of an input, or only the first so many bytes of them.
+# took NAME: what the origin took are the messages of an input.
 took() {
-    make messages "$1" | head -c "${2--0}" | cmp - "$room/taken"
+    make messages "$1" | cmp - "$room/taken"
 }
 
 sends_its_messages() {
     to_peer "$2" "$1" 0 '' && took "$1"
 }
 
-# It goes on where the origin has hung up before a message, and says so once each time.
-goes_on() {
-    slowly_to_peer "$1" two 0 '' 2>/dev/null || slowly_said "$2" || return 1
-    took two
-}
-
-slowly_said() {
+# said_lost COUNT: the program has told so often that the connection is lost.
+said_lost() {
     [ "$(grep -c 'the connection is lost' "$room/stderr")" = "$1" ]
 }
 
+# hangs_up PLAN COUNT: the origin hangs up before messages, so often. Each is told, and the program goes on.
 hangs_up() {
     peer "$1" || return 1
-    make slowly two | timeout 60 "$program" push "$peer" cam hi part=500000 segment=2000000 2>"$room/stderr" || { cat "$room/stderr"; return 1; }
-    slowly_said "$2" && took two
+    make slowly two | push "$peer" || { cat "$room/stderr"; return 1; }
+    said_lost "$2" && took two
 }
 
 # No byte is sent after a refusal, and no message twice.
@@ -117,11 +111,20 @@ reads_fail() {
     pushes 4 Read "$peer" <"$room"
 }
 
+# Where standard error is a terminal, it has a line of what was published so far, once a second at most, and one of its own for each fault.
+tells_how_it_goes() {
+    peer 'ok,ok,ok,ok,no 4 TooLong\n' || return 1
+    make slowly many | python3 "$here/push.py" terminal "$program" push "$peer" cam hi part=500000 segment=2000000 >"$room/shown"
+    tr -d '\r' <"$room/shown" >"$room/plain"
+    head -n 1 "$room/plain" | grep -qxE 'llhls: [1-9] parts, 0 segments, [01]\.[05]00 s, [0-9]+ kB/s  ' &&
+        [ "$(tail -n +2 "$room/plain")" = 'llhls: no 4 TooLong' ] || { cat "$room/plain"; return 1; }
+}
+
 # A damaged input is published whole, or ends in a fault that has a name.
 damaged() {
     local status
     make damaged "$1" >"$room/input"
-    timeout 20 "$program" push "127.0.0.1:$publish_port" "c$1" hi part=500000 segment=2000000 <"$room/input" >"$room/stdout" 2>"$room/stderr"
+    push "127.0.0.1:$publish_port" "c$1" <"$room/input"
     status=$?
     if [ "$status" = 0 ]; then
         make play "$port" "c$1" "$room/input"
@@ -216,9 +219,9 @@ no 4 \x1b[2J\n
 ok 1\nok 2\n
 \xff\n
 ok 1                                                            \n
-HTTP/1.1 400 Bad Request                                           
+HTTP/1.1 400 Bad Request, and more than an answer has, and no end of it
 END
-for name in no_server server_goes_away reads_fail all_damaged; do
+for name in no_server server_goes_away reads_fail tells_how_it_goes all_damaged; do
     try "$name"
 done
 

@@ -1,9 +1,9 @@
 -- What a line of an origin says, without its end.
-use Rattle.std.specs.Prelude.{ℕ, ◌&&◌, Bool, true, false, List, [], ◌∷◌, Option, Some, None, codes, is_some, not, length, ◌==◌}
-use Rattle.std.specs.List.{list_all}
+use Rattle.std.specs.Prelude.{ℕ, ◌&&◌, ◌==◌, Bool, true, false, List, Option, Some, None, codes, is_some, length, nat_le, if◌then◌else◌}
+use Rattle.std.specs.List.{list_all, list_any, before_first, after_first}
 use Rattle.std.specs.Char.{is_ascii_alphabetic}
 use Rattle.ll_attr.specs.Numbers.{number_in}
-use Rattle.ll_attr.specs.Words.{after, pieces_at}
+use Rattle.ll_attr.specs.Words.{after}
 
 abbrev pub counts : Option (List ℕ) → Bool
 counts (Some count) = is_some (number_in 20 count)
@@ -15,15 +15,22 @@ accepts line = counts (after (codes "ok ") line)
 
 -- one or more letters
 abbrev pub is_word : List ℕ → Bool
-is_word text = not (length text == 0) && list_all is_ascii_alphabetic text
+is_word text = nat_le 1 (length text) && list_all is_ascii_alphabetic text
 
-abbrev pub is_code_and_name : List (List ℕ) → Bool
-is_code_and_name (code ∷ name ∷ []) = is_some (number_in 20 code) && is_word name
-is_code_and_name other = false
+abbrev pub is_space : ℕ → Bool
+is_space b = b == 32
+
+-- what stands before the first space, and what stands after it, where there is one
+abbrev pub halves : List ℕ → Option (List ℕ × List ℕ)
+halves text = if list_any is_space text then Some (before_first is_space text, after_first is_space text) else None
+
+abbrev pub is_code_and_name : Option (List ℕ × List ℕ) → Bool
+is_code_and_name (Some halves) = is_some (number_in 20 halves.0) && is_word halves.1
+is_code_and_name None = false
 
 -- a number and a name
 abbrev pub is_reason : List ℕ → Bool
-is_reason text = is_code_and_name (pieces_at 32 text)
+is_reason text = is_code_and_name (halves text)
 
 abbrev pub gives : Option (List ℕ) → Bool
 gives (Some reason) = is_reason reason

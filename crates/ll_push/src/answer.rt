@@ -1,9 +1,9 @@
 //! The lines that an origin answers.
-ghost use Rattle.std.specs.Prelude.{◌≡◌};
+ghost use Rattle.std.specs.Prelude.{◌≡◌, MatchOption, None, Some};
 ghost use Rattle.ll_push.specs.Answers as spec;
 
 use crate::fault::PushFault;
-use ll_attr::{Text, after, cut, parse_number};
+use ll_attr::{Text, after, parse_number};
 use ll_device::Link;
 use std::alloc::Global;
 use std::str;
@@ -76,10 +76,17 @@ fn refuses(line: &str) -> bool
 fn is_reason(text: &str) -> bool
     ensures { result ≡ spec.is_reason text.now }
 {
-    match cut(text, ' ') {
+    match halves(text) {
         Some((code, name)) => parse_number(code, 20).is_some() && is_word(name),
         None => false,
     }
+}
+
+/// What stands before the first space and what stands after it, where there is one.
+fn halves(text: &str) -> Option<(&str, &str)>
+    ensures { MatchOption result (spec.halves text.now ≡ None) (λ p. spec.halves text.now ≡ Some (p.0.now, p.1.now)) }
+{
+    text.split_once(' ')
 }
 
 /// Whether a text is one or more letters.

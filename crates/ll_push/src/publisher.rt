@@ -66,7 +66,7 @@ impl<'a> Model for Publisher<'a> {
 impl<'a> Publisher<'a> {
     /// Nothing was read so far.
     pub fn new(alloc: Global, place: Place<'a>, pace: Pace) -> Publisher<'a>
-        ensures { result ≡ at_start (named place) pace }
+        ensures { result ≡ at_start (named place.entry) pace }
     {
         Publisher {
             alloc,
