@@ -1,10 +1,12 @@
 -- The next message of an encoder's bytes.
-use Rattle.std.proofs.Common.{◌≡◌, ◌⊎◌, ℕ, true, List, [], ◌∷◌, ◌++◌, Option, Some, None, Result, Ok, Err, IsOk, refl, ap, sym, subst, ◌∙◌, inl, inr, append_assoc, append-nil, take}
+use Rattle.std.proofs.Common.{◌≡◌, ◌⊎◌, ℕ, true, false, Bool, List, [], ◌∷◌, ◌++◌, Option, Some, None, Result, Ok, Err, IsOk, refl, ap, sym, subst, ◌∙◌, inl, inr, append_assoc, append-nil, take}
 use Rattle.std.specs.Io.KnownBytes.{Consumes, IsAtEnd, Keeps}
 use Rattle.ll_mp4.specs.Units.{Unit, Open, Refused, Closed, unit_of}
 use Rattle.ll_mp4.specs.declared.fault.Fault.{Fault}
 use Rattle.ll_push.specs.Messages.{MessageValue, Names, end_message, end_text, piece_message, piece_text, pieces_text}
-use Rattle.ll_push.specs.Next.{FrontGives, IsFaultNext, IsFed, IsFirst, IsNext, message_in}
+use Rattle.ll_push.specs.Next.{FrontGives, IsFaultNext, IsFed, IsFirst, IsFrontFault, IsNext, message_in}
+use Rattle.ll_push.specs.declared.fault.PushFault.{PushFault}
+use Rattle.ll_push.specs.declared.fault.PushFault.TheVariants.{Input}
 use Rattle.ll_push.specs.Publishing.{after_message, fault_after, messages}
 use Rattle.ll_split.specs.Pieces.{Piece, Init, Media}
 use Rattle.ll_split.specs.Laws.{after_given}
@@ -25,9 +27,12 @@ same-first s input left e = (input, e, refl)
 fed-by : (before : SplitterValue) (input : List ℕ) (s : SplitterValue) (rest bytes : List ℕ) (left : Option (List ℕ)) → Consumes (Some rest) left bytes
     → told_in (with_bytes before input) ≡ told_in (with_bytes s rest) → Same before input (with_bytes s bytes) left
 fed-by before input s rest bytes None c e = absurd c
-fed-by before input s rest bytes (Some ys) c e =
-    (ys, refl, e ∙ ap (λ l. told_in (with_bytes s l)) c
-    ∙ ap (λ u. told_in (record { pace = s.pace; known = s.known; unread = u })) (sym (append_assoc s.unread bytes ys)))
+fed-by before input s rest bytes (Some ys) c e = (
+  ys,
+  refl,
+  e ∙ ap (λ l. told_in (with_bytes s l)) c
+      ∙ ap (λ u. told_in (record { pace = s.pace; known = s.known; unread = u })) (sym (append_assoc s.unread bytes ys)),
+)
 
 pub same-fed : (before : SplitterValue) (input : List ℕ) (s after : SplitterValue) (left then : Option (List ℕ)) → Same before input s left
     → IsFed s left after then true → Same before input after then
@@ -54,7 +59,7 @@ front-none s e = unit-none s (unit_of s.unread) e
 none-by : (names : Names) (r : Result (Option Piece) Fault) → IsOk r → None ≡ message_in names r → r ≡ Ok None
 none-by names (Ok None) ok e = refl
 none-by names (Ok (Some piece)) ok e = absurd (cc)
-none-by names (Err fault) ok e = absurd ok
+none-by names (Err fault) ok e = absurd (cc)
 
 pub none-found : (names : Names) (s after : SplitterValue) → FrontGives names s after None → ((front s).0 ≡ Ok None) × (after ≡ s)
 none-found names s after gives =
@@ -76,9 +81,11 @@ fault-piece names (Init bytes) later = refl
 fault-piece names (Media part) later = refl
 
 first-piece : (names : Names) (piece : Piece) (later : Told) → IsFirst names (after_given (piece ∷ []) later) later (piece_message names piece)
-first-piece names piece later =
-    (append_assoc (piece_text names piece) (pieces_text names later.pieces) (end_text names)
-    ∙ ap (λ l. piece_text names piece ++ l) (sym (after-piece names piece later)), sym (fault-piece names piece later))
+first-piece names piece later = (
+  append_assoc (piece_text names piece) (pieces_text names later.pieces) (end_text names)
+      ∙ ap (λ l. piece_text names piece ++ l) (sym (after-piece names piece later)),
+  sym (fault-piece names piece later),
+)
 
 piece-by : (names : Names) (r : Result (Option Piece) Fault) (after : SplitterValue) (rest : List ℕ) (message : MessageValue) → IsOk r
     → Some message ≡ message_in names r → IsFirst names (given_then rest (r, after)) (told_in (with_bytes after rest)) message
@@ -87,15 +94,18 @@ piece-by names (Ok (Some piece)) after rest message ok e =
     let is : message ≡ piece_message names piece = cc in
     subst (λ m. IsFirst names (after_given (piece ∷ []) (told_in (with_bytes after rest))) (told_in (with_bytes after rest)) m) (sym is)
     (first-piece names piece (told_in (with_bytes after rest)))
-piece-by names (Err fault) after rest message ok e = absurd ok
+piece-by names (Err fault) after rest message ok e = absurd (cc)
 
 pub next-piece : (names : Names) (before : SplitterValue) (input : List ℕ) (s after : SplitterValue) (left : Option (List ℕ)) (message : MessageValue)
     → Same before input s left → FrontGives names s after (Some message) → IsNext names before input after left message
 next-piece names before input s after left message same gives =
     let first = piece-by names (front s).0 (front s).1 same.0 message gives.0 gives.2 in
-    let there : told_in (with_bytes before input) ≡ given_then same.0 (front s) = same.2 ∙ front-goes s same.0 in
-    (same.0, same.1, subst (λ x. IsFirst names (told_in (with_bytes before input)) (told_in (with_bytes x same.0)) message) (sym gives.1)
-    (subst (λ t. IsFirst names t (told_in (with_bytes (front s).1 same.0)) message) (sym there) first))
+    let there : told_in (with_bytes before input) ≡ given_then same.0 (front s) = same.2 ∙ front-goes s same.0 in (
+      same.0,
+      same.1,
+      subst (λ x. IsFirst names (told_in (with_bytes before input)) (told_in (with_bytes x same.0)) message) (sym gives.1)
+          (subst (λ t. IsFirst names t (told_in (with_bytes (front s).1 same.0)) message) (sym there) first),
+    )
 
 -- ---- the end
 
@@ -125,9 +135,12 @@ pub next-end : (names : Names) (before : SplitterValue) (input : List ℕ) (s mi
     → Same before input s left → FrontGives names s mid None → IsFed mid left after then false → message ≡ end_message names
     → IsNext names before input after then message
 next-end names before input s mid after left then message same gives fed e =
-    let end = at-end names before input s mid after left then same gives fed in
-    ([], end.0, subst (λ m. IsFirst names (told_in (with_bytes before input)) (told_in (with_bytes after [])) m) (sym e)
-    (subst (λ t. IsFirst names t (told_in (with_bytes after [])) (end_message names)) (sym end.1) (sym (append-nil (end_text names)), refl)))
+    let end = at-end names before input s mid after left then same gives fed in (
+      [],
+      end.0,
+      subst (λ m. IsFirst names (told_in (with_bytes before input)) (told_in (with_bytes after [])) m) (sym e)
+          (subst (λ t. IsFirst names t (told_in (with_bytes after [])) (end_message names)) (sym end.1) (sym (append-nil (end_text names)), refl)),
+    )
 
 -- ---- faults
 
@@ -141,3 +154,19 @@ pub fault-end : (names : Names) (before : SplitterValue) (input : List ℕ) (s m
     → IsFaultNext before input after fault
 fault-end names before input s mid after left then fault same gives fed e =
     inr (ap (λ (t : Told). t.fault) (at-end names before input s mid after left then same gives fed).1, e)
+
+-- ---- as the code finds it
+
+pub next-found : (names : Names) (before : SplitterValue) (input : List ℕ) (s after : SplitterValue) (left : Option (List ℕ)) (found : Option MessageValue)
+    (message : MessageValue) → Same before input s left → FrontGives names s after found → found ≡ Some message → IsNext names before input after left message
+next-found names before input s after left found message same gives e =
+    next-piece names before input s after left message same (subst (FrontGives names s after) e gives)
+
+pub same-more : (names : Names) (before : SplitterValue) (input : List ℕ) (s mid after : SplitterValue) (left then : Option (List ℕ)) (found : Option MessageValue) (more : Bool)
+    → Same before input s left → FrontGives names s mid found → found ≡ None → IsFed mid left after then more → more ≡ true → Same before input after then
+same-more names before input s mid after left then found more same gives none fed e =
+    same-fed before input mid after left then (same-none names before input s mid left same (subst (FrontGives names s mid) none gives)) (subst (IsFed mid left after then) e fed)
+
+pub fault-found : (before : SplitterValue) (input : List ℕ) (s after : SplitterValue) (left : Option (List ℕ)) (e : PushFault) (fault : Fault) → Same before input s left
+    → IsFrontFault s after e → e ≡ Input fault → IsFaultNext before input after fault
+fault-found before input s after left e fault same h is = fault-front before input s after left fault same (subst (IsFrontFault s after) is h).0

@@ -56,6 +56,12 @@ abbrev pub said_of : Piece → Said
 said_of (Init bytes) = said.Init
 said_of (Media part) = said.Part part.duration part.finishes
 
+-- whether nothing comes after it
+abbrev pub ends : Said → Bool
+ends said.Init = false
+ends (said.Part duration finishes) = false
+ends said.End = true
+
 -- a message's bytes, and what it announces
 pub record MessageValue : Type 0 where
   pub bytes : List ℕ

@@ -1,6 +1,9 @@
 //! The lines that an origin answers.
-ghost use Rattle.std.specs.Prelude.{◌≡◌, MatchOption, None, Some};
+ghost use Rattle.std.specs.Prelude.{◌≡◌, IfErr, MatchOption, None, Some};
+ghost use Rattle.std.specs.Char.{is_ascii_alphabetic};
+ghost use Rattle.std.specs.List.{list_all};
 ghost use Rattle.ll_push.specs.Answers as spec;
+ghost use Rattle.ll_push.specs.Next.{IsOwn};
 
 use crate::fault::PushFault;
 use ll_attr::{Text, after, parse_number};
@@ -23,6 +26,7 @@ pub(crate) enum Answer {
 /// Reads the line that answers a message. Where the connection ends before its end, it is lost.
 pub(crate) fn read_answer<P: Link>(alloc: Global, link: &mut P) -> Result<Answer, PushFault>
     ensures unwritten { P.written link.new ≡ P.written link.old }
+    ensures own { IfErr result IsOwn }
 {
     let mut line = [0; LIMIT];
     let mut len = 0;
@@ -39,7 +43,9 @@ pub(crate) fn read_answer<P: Link>(alloc: Global, link: &mut P) -> Result<Answer
 }
 
 /// What a line without its end answers.
-fn answer_of(alloc: Global, line: &[u8]) -> Result<Answer, PushFault> {
+fn answer_of(alloc: Global, line: &[u8]) -> Result<Answer, PushFault>
+    ensures { IfErr result IsOwn }
+{
     let Ok(text) = str::from_utf8(line) else {
         return Err(PushFault::BadAnswer);
     };
@@ -93,5 +99,12 @@ fn halves(text: &str) -> Option<(&str, &str)>
 fn is_word(text: &str) -> bool
     ensures { result ≡ spec.is_word text.now }
 {
-    !text.is_empty() && text.bytes().all(|b| b.is_ascii_alphabetic())
+    !text.is_empty() && all_letters(text)
+}
+
+/// Whether a text has only letters, as the empty one.
+fn all_letters(text: &str) -> bool
+    ensures { result ≡ list_all is_ascii_alphabetic text.now }
+{
+    text.bytes().all(|b| b.is_ascii_alphabetic())
 }

@@ -12,7 +12,7 @@ use crate::answer::{Answer, read_answer};
 use crate::fault::PushFault;
 use crate::message::Message;
 use crate::place::Place;
-use crate::watch::{Said, Watch};
+use crate::watch::Watch;
 use ll_attr::Text;
 use ll_device::{Link, Reader, write_all};
 use ll_split::{Pace, Splitter};
@@ -103,7 +103,7 @@ impl<'a> Publisher<'a> {
                     return Ok(Step::Gone { accepted });
                 }
             }
-            if said == Said::End {
+            if said.ends() {
                 return Ok(Step::Whole);
             }
             accepted = true;

@@ -1,3 +1,6 @@
+ghost use Rattle.std.specs.Prelude.{◌≡◌};
+ghost use Rattle.ll_push.specs.Messages.{ends};
+
 /// What a message announces.
 #[derive(Clone, Copy, Debug, PartialEq, Eq)]
 pub enum Said {
@@ -12,6 +15,18 @@ pub enum Said {
     },
     /// The end of the rendition.
     End,
+}
+
+impl Said {
+    /// Whether nothing comes after it.
+    pub(crate) fn ends(self) -> bool
+        ensures { result ≡ ends self }
+    {
+        match self {
+            Said::Init | Said::Part { .. } => false,
+            Said::End => true,
+        }
+    }
 }
 
 /// Who watches how publishing goes on.

@@ -106,7 +106,14 @@ pub(crate) fn publish<L: Ledger>(
     let mut source: CountedReader<io::Stdin, L> = CountedReader::new(rt.stdin(), reads);
     let mut origin = Dial::new(rt, address);
     let mut meter = Meter::new(rt, rt.stderr().is_terminal());
-    let done = push(rt.alloc(), place, pace, &mut source, &mut origin, &mut meter);
+    let done = push(
+        rt.alloc(),
+        place,
+        pace,
+        &mut source,
+        &mut origin,
+        &mut meter,
+    );
     meter.end_line();
     match done {
         Ok(ending) => Ok(ending),
