@@ -1,9 +1,15 @@
 -- What a line of an origin says, without its end.
-use Rattle.std.specs.Prelude.{ℕ, ◌&&◌, ◌==◌, Bool, true, false, List, Option, Some, None, codes, is_some, length, nat_le, if◌then◌else◌}
+use Rattle.std.specs.Prelude.{◌≡◌, ⊤, ℕ, ◌&&◌, ◌==◌, Bool, true, false, List, Option, Some, None, codes, is_some, length, nat_le, if◌then◌else◌}
 use Rattle.std.specs.List.{list_all, list_any, before_first, after_first}
 use Rattle.std.specs.Char.{is_ascii_alphabetic}
 use Rattle.ll_attr.specs.Numbers.{number_in}
 use Rattle.ll_attr.specs.Words.{after}
+use Rattle.ll_push.specs.declared.answer.Answer.{Answer}
+use Rattle.ll_push.specs.declared.answer.Answer.TheVariants.{Accepted, Refused}
+use Rattle.ll_push.specs.declared.connections.Ending.{Ending}
+use Rattle.ll_push.specs.declared.connections.Ending.TheVariants as ending
+use Rattle.ll_push.specs.declared.publisher.Step.{Step}
+use Rattle.ll_push.specs.declared.publisher.Step.TheVariants as step
 
 abbrev pub counts : Option (List ℕ) → Bool
 counts (Some count) = is_some (number_in 20 count)
@@ -39,3 +45,17 @@ gives None = false
 -- a message is refused
 abbrev pub refuses : List ℕ → Bool
 refuses line = gives (after (codes "no ") line)
+
+-- an answer that refuses is such a line
+abbrev pub IsAnswer : Answer → Type 0
+IsAnswer Accepted = ⊤
+IsAnswer (Refused line) = refuses line ≡ true
+
+abbrev pub EndsByAnswer : Ending → Type 0
+EndsByAnswer ending.Whole = ⊤
+EndsByAnswer (ending.Refused line) = refuses line ≡ true
+
+abbrev pub StepsByAnswer : Step → Type 0
+StepsByAnswer step.Whole = ⊤
+StepsByAnswer (step.Refused line) = refuses line ≡ true
+StepsByAnswer (step.Gone accepted) = ⊤

@@ -2,6 +2,7 @@
 use Rattle.std.specs.Prelude.{◌≡◌, ◌⊎◌, ℕ, List, [], ◌++◌, Bool, true, false, Option, Some, None, Result, Ok, Err, IsOk, ⊤}
 use Rattle.std.specs.Io.KnownBytes.{Appends, Consumes, IsAtEnd, Keeps}
 use Rattle.ll_mp4.specs.declared.fault.Fault.{Fault}
+use Rattle.ll_push.specs.Answers.{IsAnswer}
 use Rattle.ll_push.specs.Messages.{MessageValue, Names, piece_message}
 use Rattle.ll_push.specs.Publishing.{PublisherValue, after_message, fault_after, fault_to_come, messages, text_to_come}
 use Rattle.ll_push.specs.declared.answer.Answer.TheVariants.{Accepted, Refused}
@@ -58,6 +59,11 @@ abbrev pub is_refusal : Sent → Bool
 is_refusal (Answered Accepted) = false
 is_refusal (Answered (Refused line)) = true
 is_refusal (Not message) = false
+
+-- an answer that refuses is a line that does
+abbrev pub IsTold : Sent → Type 0
+IsTold (Answered answer) = IsAnswer answer
+IsTold (Not message) = ⊤
 
 -- a fault of a connection on which a message was sent, or of memory
 abbrev pub IsOwn : PushFault → Type 0

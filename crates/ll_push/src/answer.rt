@@ -1,5 +1,5 @@
 //! The lines that an origin answers.
-ghost use Rattle.std.specs.Prelude.{◌≡◌, IfErr, MatchOption, None, Some};
+ghost use Rattle.std.specs.Prelude.{◌≡◌, IfErr, IfOk, MatchOption, None, Ok, Some, true};
 ghost use Rattle.std.specs.Char.{is_ascii_alphabetic};
 ghost use Rattle.std.specs.List.{list_all};
 ghost use Rattle.ll_push.specs.Answers as spec;
@@ -25,6 +25,7 @@ pub(crate) enum Answer {
 
 /// Reads the line that answers a message. Where the connection ends before its end, it is lost.
 pub(crate) fn read_answer<P: Link>(alloc: Global, link: &mut P) -> Result<Answer, PushFault>
+    ensures told { IfOk result spec.IsAnswer }
     ensures unwritten { P.written link.new ≡ P.written link.old }
     ensures own { IfErr result IsOwn }
 {
@@ -44,7 +45,9 @@ pub(crate) fn read_answer<P: Link>(alloc: Global, link: &mut P) -> Result<Answer
 
 /// What a line without its end answers.
 fn answer_of(alloc: Global, line: &[u8]) -> Result<Answer, PushFault>
-    ensures { IfErr result IsOwn }
+    ensures told { IfOk result spec.IsAnswer }
+    ensures accepted { result ≡ Ok Answer.Accepted → spec.accepts line.now ≡ true }
+    ensures own { IfErr result IsOwn }
 {
     let Ok(text) = str::from_utf8(line) else {
         return Err(PushFault::BadAnswer);

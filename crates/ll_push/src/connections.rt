@@ -1,4 +1,7 @@
 //! An encoder's bytes, published on as many connections as it takes.
+ghost use Rattle.std.specs.Prelude.{◌≡◌, ◌<◌, IfOk, IsErrOf, OnOk};
+ghost use Rattle.ll_push.specs.Answers.{EndsByAnswer};
+
 use crate::fault::PushFault;
 use crate::place::Place;
 use crate::publisher::{Publisher, Step};
@@ -29,7 +32,11 @@ pub fn push<R: Reader, S: Source, W: Watch>(
     source: &mut R,
     origin: &mut S,
     watch: &mut W,
-) -> Result<Ending, PushFault> {
+) -> Result<Ending, PushFault>
+    ensures told { IfOk result EndsByAnswer }
+    ensures read_failed { IsErrOf result PushFault.Read → R.failures source.old < R.failures source.new }
+    ensures steady { OnOk result (R.failures source.new ≡ R.failures source.old) }
+{
     let mut publisher = Publisher::new(alloc, place, pace);
     let mut idle = 0;
     for _ in 0..u64::MAX {

@@ -3,9 +3,10 @@ ghost use Rattle.std.specs.Prelude.{◌≡◌, ◌≢◌, ◌<◌, ℕ, List, So
 ghost use Rattle.std.specs.Io.KnownBytes.{Appends, Keeps};
 ghost use Rattle.ll_device.specs.Written.{AppendsPrefix};
 ghost use Rattle.ll_mp4.specs.declared.fault.Fault.{Fault};
+ghost use Rattle.ll_push.specs.Answers.{StepsByAnswer};
 ghost use Rattle.ll_push.specs.Messages as spec;
 ghost use Rattle.ll_push.specs.Meaning.{named};
-ghost use Rattle.ll_push.specs.Next.{FrontGives, IsFaultNext, IsFed, IsFrontFault, IsNext, IsOwn, IsSent, IsTaken, is_refusal};
+ghost use Rattle.ll_push.specs.Next.{FrontGives, IsFaultNext, IsFed, IsFrontFault, IsNext, IsOwn, IsSent, IsTaken, IsTold, is_refusal};
 ghost use Rattle.ll_push.specs.Publishing.{IsFirstFault, IsStep, at_start, text_to_come};
 
 use crate::answer::{Answer, read_answer};
@@ -89,6 +90,8 @@ impl<'a> Publisher<'a> {
         ensures cut { (input : List ℕ) → R.left source.old ≡ Some input → OnErr result (AppendsPrefix (P.written link.old) (P.written link.new) (text_to_come self.old input)) }
         ensures refused { (input : List ℕ) (fault : Fault) → R.left source.old ≡ Some input → IsErrOf result (PushFault.Input fault) → IsFirstFault self.old input self.new fault }
         ensures read_failed { IsErrOf result PushFault.Read → R.failures source.old < R.failures source.new }
+        ensures steady { OnOk result (R.failures source.new ≡ R.failures source.old) }
+        ensures told { IfOk result StepsByAnswer }
         ensures connected { IfErr result (λ fault. fault ≢ PushFault.Connect) }
     {
         let (mut accepted, mut refused) = (false, false);
@@ -191,6 +194,7 @@ fn exchange<P: Link>(
     ensures sent { IfOk result (IsSent (P.written link.old) (P.written link.new) message) }
     ensures cut { OnErr result (AppendsPrefix (P.written link.old) (P.written link.new) message.bytes) }
     ensures refused { IfOk result (λ sent. refused.new ≡ is_refusal sent) }
+    ensures told { IfOk result IsTold }
     ensures own { IfErr result IsOwn }
 {
     if !send(link, message.bytes())? {
