@@ -190,7 +190,7 @@ try to_server 3 'no 1 NoRendition' one "${cam/hi,lo/lo}"
 # A connection that is hung up before a message, at once or after some; in the midst of one, before its answer.
 try hangs_up close/ok,ok,ok,ok 1
 try hangs_up ok,close/ok,ok,ok 1
-try hangs_up ok,ok,close/close/ok,ok 2
+try hangs_up ok,close/ok,close/ok,ok 2
 try hangs_up ok,ok,ok,close/ok 1
 try stops_after half 4 Lost 1
 try stops_after ok,half 4 Lost 2
@@ -219,7 +219,7 @@ no 4 \x1b[2J\n
 ok 1\nok 2\n
 \xff\n
 ok 1                                                            \n
-HTTP/1.1 400 Bad Request, and more than an answer has, and no end of it
+This is no answer but a text that goes on and on and has no end whatever is read of it
 END
 for name in no_server server_goes_away reads_fail tells_how_it_goes all_damaged; do
     try "$name"
