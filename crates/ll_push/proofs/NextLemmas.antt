@@ -1,5 +1,5 @@
 -- The next message of an encoder's bytes.
-use Rattle.std.proofs.Common.{◌≡◌, ◌⊎◌, ℕ, true, false, Bool, List, [], ◌∷◌, ◌++◌, Option, Some, None, Result, Ok, Err, IsOk, refl, ap, sym, subst, ◌∙◌, inl, inr, append_assoc, append-nil, take}
+use Rattle.std.proofs.Common.{◌≡◌, ℕ, true, false, Bool, List, [], ◌∷◌, ◌++◌, Option, Some, None, Result, Ok, Err, IsOk, refl, ap, sym, subst, ◌∙◌, inl, inr, append_assoc, append-nil, take}
 use Rattle.std.specs.Io.KnownBytes.{Consumes, IsAtEnd, Keeps}
 use Rattle.ll_mp4.specs.Units.{Unit, Open, Refused, Closed, unit_of}
 use Rattle.ll_mp4.specs.declared.fault.Fault.{Fault}

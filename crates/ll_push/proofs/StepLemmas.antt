@@ -1,5 +1,5 @@
 -- Messages, one after another.
-use Rattle.std.proofs.Common.{◌≡◌, ◌⊎◌, inl, inr, OnErr, IfOk, IsErrAnd, Result, Ok, Err, Bool, true, false, ℕ, ◌-◌, List, [], ◌++◌, Option, Some, None, refl, ap, sym, subst, ◌∙◌, append_assoc, append-nil, drop, length, take, take-append-drop}
+use Rattle.std.proofs.Common.{◌≡◌, inl, inr, OnErr, IfOk, IsErrAnd, Result, Ok, Err, Bool, true, false, ℕ, ◌-◌, List, [], ◌++◌, Option, Some, None, refl, ap, sym, subst, ◌∙◌, append_assoc, append-nil, drop, length, take, take-append-drop}
 use Rattle.std.proofs.KnownBytes.{Appends-kept, Appends-nil, Appends-trans}
 use Rattle.std.proofs.lemmas.List.{take_rest}
 use Rattle.std.specs.Io.KnownBytes.{Appends, Keeps}

@@ -4,6 +4,7 @@
 mod answer;
 mod connections;
 mod fault;
+mod laws;
 mod message;
 mod place;
 mod publisher;
@@ -11,6 +12,7 @@ mod watch;
 
 pub use connections::{Ending, push};
 pub use fault::PushFault;
+pub use laws::{publisher_law, worked_messages};
 pub use place::Place;
 pub use publisher::{Publisher, Step};
 pub use watch::{Said, Watch};

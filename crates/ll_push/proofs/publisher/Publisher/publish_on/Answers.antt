@@ -1,5 +1,5 @@
 -- Each message adds to those that were sent.
-use Rattle.std.proofs.Common.{◌≡◌, ◌∙◌, Err, ap, refl, sym}
+use Rattle.std.proofs.Common.{◌∙◌, Err, ap, refl, sym}
 use Rattle.ll_push.specs.Messages.{ends}
 use Rattle.ll_push.specs.declared.fault.PushFault.TheVariants.{Input}
 use Rattle.ll_push.proofs.StepLemmas.{calm-of, first-fault, goes-first, message-cut, message-more, message-refused, on-err, same-fault, sent-of}
