@@ -1,9 +1,12 @@
 -- What the program's words ask it to do.
-use Rattle.std.specs.Prelude.{ℕ, List, [], ◌∷◌, Option, Some, None, Result, Ok, Err, bytes_eq, codes, if◌then◌else◌}
+use Rattle.std.specs.Prelude.{ℕ, ◌&&◌, List, [], ◌∷◌, Option, Some, None, Result, Ok, Err, bytes_eq, codes, option_and_then, if◌then◌else◌}
+use Rattle.ll_attr.specs.Words.{after}
 use Rattle.ll_command.specs.declared.command.Command.{Command}
 use Rattle.ll_command.specs.declared.command.Command.TheVariants as command
 use Rattle.ll_command.specs.declared.fault.Fault.{Fault}
 use Rattle.ll_entry.specs.Replies.{count}
+use Rattle.ll_item.specs.Names.{is_name}
+use Rattle.ll_split.specs.declared.pace.Pace.{Pace}
 use Rattle.ll_command.specs.declared.fault.Fault.TheVariants.{Usage}
 
 pub data Call : Type 0 where
@@ -21,6 +24,8 @@ pub data Call : Type 0 where
   Explain : List ℕ → ℕ → Call
   -- serve the channels that a settings file tells
   Serve : List ℕ → Call
+  -- publish at an address, in a channel and a rendition, what an encoder writes to standard input
+  Push : List ℕ → List ℕ → List ℕ → Pace → Call
 
 -- the command of this name that names no file
 abbrev pub alone : List ℕ → Result Call Fault
@@ -46,11 +51,37 @@ with_two name file other =
     else if bytes_eq name (codes "explain") then explain_by file (count.read other)
     else Err Usage
 
+-- the number that stands in a word after this key
+abbrev pub setting : List ℕ → List ℕ → Option ℕ
+setting key word = option_and_then count.read (after key word)
+
+abbrev pub pace_by : Option ℕ → Option ℕ → Option Pace
+pace_by (Some part) (Some segment) = Some (record { part = part; segment = segment })
+pace_by (Some part) None = None
+pace_by None segment = None
+
+abbrev pub push_by : List ℕ → List ℕ → List ℕ → Option Pace → Result Call Fault
+push_by address channel rendition (Some pace) = Ok (Push address channel rendition pace)
+push_by address channel rendition None = Err Usage
+
+-- publishing at an address, where the channel and the rendition are names
+abbrev pub push : List ℕ → List ℕ → List ℕ → Option Pace → Result Call Fault
+push address channel rendition pace =
+    if is_name channel && is_name rendition then push_by address channel rendition pace else Err Usage
+
+-- the command of this name that names an address, a channel and a rendition, and how long parts and segments are
+abbrev pub with_five : List ℕ → List ℕ → List ℕ → List ℕ → List ℕ → List ℕ → Result Call Fault
+with_five name address channel rendition part segment =
+    if bytes_eq name (codes "push")
+    then push address channel rendition (pace_by (setting (codes "part=") part) (setting (codes "segment=") segment))
+    else Err Usage
+
 -- the first word names the program; words of no such form are wrong usage
 abbrev pub command_of : List (List ℕ) → Result Call Fault
 command_of (program ∷ name ∷ []) = alone name
 command_of (program ∷ name ∷ file ∷ []) = with_file name file
 command_of (program ∷ name ∷ file ∷ other ∷ []) = with_two name file other
+command_of (program ∷ name ∷ address ∷ channel ∷ rendition ∷ part ∷ segment ∷ []) = with_five name address channel rendition part segment
 command_of other = Err Usage
 
 abbrev pub call_of : Command → Call
@@ -61,3 +92,4 @@ call_of (command.Upgrade chunks) = Upgrade chunks.now
 call_of (command.Summarize chunks) = Summarize chunks.now
 call_of (command.Explain chunks entry) = Explain chunks.now entry
 call_of (command.Serve settings) = Serve settings.now
+call_of (command.Push address channel rendition pace) = Push address.now channel.now rendition.now pace

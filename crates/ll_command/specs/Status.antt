@@ -2,10 +2,12 @@
 use Rattle.std.specs.Prelude.{ℕ}
 use Rattle.ll_apply.specs.declared.fault.ApplyFault.{ApplyFault}
 use Rattle.ll_apply.specs.declared.fault.ApplyFault.TheVariants as apply
+use Rattle.ll_push.specs.declared.fault.PushFault.{PushFault}
+use Rattle.ll_push.specs.declared.fault.PushFault.TheVariants as push
 use Rattle.ll_replay.specs.declared.outcome.RunFault.{RunFault}
 use Rattle.ll_replay.specs.declared.outcome.RunFault.TheVariants as run
 use Rattle.ll_command.specs.declared.fault.Fault.{Fault}
-use Rattle.ll_command.specs.declared.fault.Fault.TheVariants.{Usage, Read, Write, Memory, Replay, BadLine, NoEntry, Listen, Clock, Apply}
+use Rattle.ll_command.specs.declared.fault.Fault.TheVariants.{Usage, Read, Write, Memory, Replay, BadLine, NoEntry, Listen, Clock, Apply, Push}
 
 -- of a script
 abbrev pub replay_status : RunFault → ℕ
@@ -23,6 +25,16 @@ apply_status apply.BadDelta = 3
 apply_status (apply.NotRecent number) = 3
 apply_status apply.Memory = 4
 
+-- of publishing
+abbrev pub push_status : PushFault → ℕ
+push_status (push.Input fault) = 3
+push_status push.Read = 4
+push_status push.Connect = 4
+push_status push.Lost = 4
+push_status push.BadAnswer = 4
+push_status push.Memory = 4
+push_status push.Endless = 4
+
 abbrev pub status_of : Fault → ℕ
 status_of Usage = 2
 status_of Read = 4
@@ -34,3 +46,4 @@ status_of Listen = 4
 status_of Clock = 4
 status_of (Replay fault) = replay_status fault
 status_of (Apply fault) = apply_status fault
+status_of (Push fault) = push_status fault

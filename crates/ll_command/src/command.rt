@@ -1,11 +1,13 @@
 //! The commands that the program obeys.
-ghost use Rattle.std.specs.Prelude.{◌≡◌, MatchResult, Ok, Err};
+ghost use Rattle.std.specs.Prelude.{◌≡◌, MatchResult, Ok, Err, codes};
 ghost use Rattle.ll_command.specs.Commands as spec;
 ghost use Rattle.ll_command.specs.Commands.{call_of, command_of};
 
 use crate::fault::Fault;
-use ll_attr::Text;
+use ll_attr::{Text, after};
 use ll_format::number;
+use ll_item::is_name;
+use ll_split::Pace;
 
 /// What the program was called to do.
 pub enum Command<'a> {
@@ -33,6 +35,17 @@ pub enum Command<'a> {
     },
     /// The name of a file: the settings.
     Serve(&'a Text),
+    /// What an encoder writes to standard input is to be published.
+    Push {
+        /// Where publishers come.
+        address: &'a Text,
+        /// The name of a channel.
+        channel: &'a Text,
+        /// The name of one of its renditions.
+        rendition: &'a Text,
+        /// How long parts and segments are.
+        pace: Pace,
+    },
 }
 
 impl<'a> Command<'a> {
@@ -44,7 +57,51 @@ impl<'a> Command<'a> {
             [_program, name] => Command::alone(name),
             [_program, name, file] => Command::with_file(name, file),
             [_program, name, file, other] => Command::with_two(name, file, other),
+            [_program, name, address, channel, rendition, part, segment] => {
+                Command::with_five(name, address, channel, rendition, part, segment)
+            }
             _ => Err(Fault::Usage),
+        }
+    }
+
+    /// The command of this name that names an address, a channel and a rendition, and how long parts and segments are.
+    fn with_five(
+        name: &Text,
+        address: &'a Text,
+        channel: &'a Text,
+        rendition: &'a Text,
+        part: &Text,
+        segment: &Text,
+    ) -> Result<Command<'a>, Fault>
+        ensures { MatchResult result (λ c. spec.with_five name.now address.now channel.now rendition.now part.now segment.now ≡ Ok (call_of c)) (λ f. spec.with_five name.now address.now channel.now rendition.now part.now segment.now ≡ Err f) }
+    {
+        if name.as_str() == "push" {
+            Command::push(address, channel, rendition, pace(part, segment))
+        } else {
+            Err(Fault::Usage)
+        }
+    }
+
+    /// Publishing at an address, where the channel and the rendition are names.
+    fn push(
+        address: &'a Text,
+        channel: &'a Text,
+        rendition: &'a Text,
+        pace: Option<Pace>,
+    ) -> Result<Command<'a>, Fault>
+        ensures { MatchResult result (λ c. spec.push address.now channel.now rendition.now pace ≡ Ok (call_of c)) (λ f. spec.push address.now channel.now rendition.now pace ≡ Err f) }
+    {
+        if !is_name(channel.as_str()) || !is_name(rendition.as_str()) {
+            return Err(Fault::Usage);
+        }
+        match pace {
+            Some(pace) => Ok(Command::Push {
+                address,
+                channel,
+                rendition,
+                pace,
+            }),
+            None => Err(Fault::Usage),
         }
     }
 
@@ -97,4 +154,20 @@ impl<'a> Command<'a> {
             None => Err(Fault::Usage),
         }
     }
+}
+
+/// How long parts and segments are, as two words say.
+fn pace(part: &Text, segment: &Text) -> Option<Pace>
+    ensures { result ≡ spec.pace_by (spec.setting (codes "part=") part.now) (spec.setting (codes "segment=") segment.now) }
+{
+    let part = setting("part=", part.as_str())?;
+    let segment = setting("segment=", segment.as_str())?;
+    Some(Pace { part, segment })
+}
+
+/// The number that stands in a word after this key.
+fn setting(key: &str, word: &str) -> Option<u64>
+    ensures { result ≡ spec.setting key.now word.now }
+{
+    number(after(word, key)?, u64::MAX)
 }

@@ -3,6 +3,7 @@ ghost use Rattle.ll_command.specs.Status.{status_of};
 ghost use Rattle.ll_command.specs.Status as spec;
 
 use ll_apply::ApplyFault;
+use ll_push::PushFault;
 use ll_replay::RunFault;
 use std::io::ErrorKind;
 use thiserror::Error;
@@ -40,6 +41,9 @@ pub enum Fault {
     /// There is no full playlist.
     #[error("{0}")]
     Apply(ApplyFault),
+    /// What an encoder wrote isn't published, or not all of it.
+    #[error("{0}")]
+    Push(PushFault),
 }
 
 impl Fault {
@@ -53,6 +57,7 @@ impl Fault {
             Fault::Read | Fault::Write | Fault::Memory | Fault::Listen | Fault::Clock => 4,
             Fault::Replay(fault) => replay_status(fault),
             Fault::Apply(fault) => apply_status(fault),
+            Fault::Push(fault) => push_status(fault),
         }
     }
 }
@@ -86,5 +91,20 @@ fn apply_status(fault: ApplyFault) -> u8
     match fault {
         ApplyFault::BadBase | ApplyFault::BadDelta | ApplyFault::NotRecent { .. } => 3,
         ApplyFault::Memory => 4,
+    }
+}
+
+/// The exit status of publishing: 3 for an encoder's bytes to blame, 4 for any other fault.
+fn push_status(fault: PushFault) -> u8
+    ensures { result ≡ spec.push_status fault }
+{
+    match fault {
+        PushFault::Input(_) => 3,
+        PushFault::Read
+        | PushFault::Connect
+        | PushFault::Lost
+        | PushFault::BadAnswer
+        | PushFault::Memory
+        | PushFault::Endless => 4,
     }
 }

@@ -23,6 +23,16 @@ pub struct Socket {
     failed: bool,
 }
 
+impl Socket {
+    /// The connection of a stream.
+    pub(crate) fn new(stream: TcpStream) -> Socket {
+        Socket {
+            stream,
+            failed: false,
+        }
+    }
+}
+
 impl Writer for Socket {
     ghost use Rattle.std.specs.Prelude.{None, if◌then◌else◌};
 
@@ -143,10 +153,7 @@ impl<'a, R: Net<Listener = TcpListener, Stream = TcpStream>> Door<'a, R> {
             }
             Role::Publisher => keep_alive(&stream),
         }
-        Ok(Socket {
-            stream,
-            failed: false,
-        })
+        Ok(Socket::new(stream))
     }
 }
 

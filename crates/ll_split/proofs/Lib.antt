@@ -1,5 +1,5 @@
 mod GivenLaws
 mod JudgeLemmas
 mod StepLemmas
-mod StreamLaws
+pub mod StreamLaws
 mod WorkedExamples

@@ -51,7 +51,7 @@ front_is_first s =
 
 -- ---- more bytes after the front unit
 
-abbrev given_then : List ℕ → Result (Option Piece) Fault × SplitterValue → Told
+abbrev pub given_then : List ℕ → Result (Option Piece) Fault × SplitterValue → Told
 given_then more ((Err fault), s) = record { pieces = []; fault = Some fault }
 given_then more ((Ok None), s) = told_in (with_bytes s more)
 given_then more ((Ok (Some piece)), s) = after_given (piece ∷ []) (told_in (with_bytes s more))
@@ -75,7 +75,7 @@ unit-goes s more (Closed size) stays =
     ∙ given-goes s size more (judged s.pace s.known (take size s.unread)) (omega (arith, stays.2))
 
 -- the front unit is the first that there is, whatever bytes are still to come
-front-goes : (s : SplitterValue) (more : List ℕ) → told_in (with_bytes s more) ≡ given_then more (front s)
+pub front-goes : (s : SplitterValue) (more : List ℕ) → told_in (with_bytes s more) ≡ given_then more (front s)
 front-goes s more = unit-goes s more (unit_of s.unread) (unit_stays s.unread more)
 
 -- ---- whole streams

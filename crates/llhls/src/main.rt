@@ -1,22 +1,27 @@
 //! `llhls`: an origin for Low-Latency HLS. `llhls serve SETTINGS` serves publishers and players over TCP, `llhls replay` replays a
 //! script, `llhls check FILE` checks the record of a channel, `llhls upgrade FILE` writes it in format 2, `llhls explain FILE` tells what it holds, `llhls apply BASE DELTA` applies a
-//! delta update to a playlist.
+//! delta update to a playlist, `llhls push ADDRESS CHANNEL RENDITION part=US segment=US` publishes what an encoder writes.
 #![tactic(auto)]
 
 ghost use Rattle.std.specs.Prelude.{◌≡◌, IfErr};
 ghost use Rattle.ll_replay.specs.declared.outcome.RunFault.{RunFault};
 
+mod push;
 mod serve;
 mod words;
 
+use crate::push::publish;
 use crate::serve::serve;
 use crate::words::words;
+use ll_attr::Text;
 use ll_command::{
     Command, Fault, fault_of, run_script, write_applied, write_checked, write_explained,
     write_summary, write_upgraded,
 };
 use ll_device::{CountedReader, CountedWriter};
+use ll_push::{Ending as Published, Place};
 use std::marker::Brand;
+use std::net::SocketAddrV4;
 use std::process::ExitCode;
 use std::sync::ledger::{Blank, Ledger};
 use std::{fs, io};
@@ -25,6 +30,10 @@ fn main(rt: HostRuntime) -> ExitCode {
     let done = match called(&rt) {
         Ok(Ending::Done) => Ok(ExitCode::SUCCESS),
         Ok(Ending::BadRecord) => Ok(ExitCode::from(BAD_RECORD)),
+        Ok(Ending::Refused(answer)) => {
+            let _ = eprintln!(rt; "llhls: {answer}");
+            Ok(ExitCode::from(REFUSED))
+        }
         Ok(Ending::Serve(settings)) => match serve(&rt, rt.alloc(), &settings) {
             Ok(()) => Ok(ExitCode::SUCCESS),
             Err(fault) => Err(fault),
@@ -43,11 +52,16 @@ fn main(rt: HostRuntime) -> ExitCode {
 /// The exit status where a record isn't right.
 const BAD_RECORD: u8 = 3;
 
+/// The exit status where an origin refuses what was to be published.
+const REFUSED: u8 = 3;
+
 /// What comes of what the program was called to do.
 enum Ending {
     Done,
     /// What the program writes to standard output tells how a record isn't right.
     BadRecord,
+    /// What was to be published was refused: the origin's answer.
+    Refused(Text),
     /// A server is to run with these settings: `main` alone has the handle that starts threads.
     Serve(Vec<u8>),
 }
@@ -89,6 +103,24 @@ fn called(rt: &HostRuntime) -> Result<Ending, Fault> {
         Command::Serve(settings) => {
             let settings = read_file(rt, settings.as_str())?;
             return Ok(Ending::Serve(settings));
+        }
+        Command::Push {
+            address,
+            channel,
+            rendition,
+            pace,
+        } => {
+            let Ok(address) = address.as_str().parse::<SocketAddrV4>() else {
+                return Err(Fault::Usage);
+            };
+            let place = Place {
+                channel: channel.as_str(),
+                rendition: rendition.as_str(),
+            };
+            match publish::<Brand>(rt, address, place, pace, Blank::new(2))? {
+                Published::Whole => {}
+                Published::Refused(answer) => return Ok(Ending::Refused(answer)),
+            }
         }
     }
     Ok(Ending::Done)

@@ -1,0 +1,3 @@
+mod AnswerLemmas
+mod NextLemmas
+mod StepLemmas

@@ -1,0 +1,61 @@
+-- What a line of an origin says, without its end.
+use Rattle.std.specs.Prelude.{◌≡◌, ⊤, ℕ, ◌&&◌, ◌==◌, Bool, true, false, List, Option, Some, None, codes, is_some, length, nat_le, if◌then◌else◌}
+use Rattle.std.specs.List.{list_all, list_any, before_first, after_first}
+use Rattle.std.specs.Char.{is_ascii_alphabetic}
+use Rattle.ll_attr.specs.Numbers.{number_in}
+use Rattle.ll_attr.specs.Words.{after}
+use Rattle.ll_push.specs.declared.answer.Answer.{Answer}
+use Rattle.ll_push.specs.declared.answer.Answer.TheVariants.{Accepted, Refused}
+use Rattle.ll_push.specs.declared.connections.Ending.{Ending}
+use Rattle.ll_push.specs.declared.connections.Ending.TheVariants as ending
+use Rattle.ll_push.specs.declared.publisher.Step.{Step}
+use Rattle.ll_push.specs.declared.publisher.Step.TheVariants as step
+
+abbrev pub counts : Option (List ℕ) → Bool
+counts (Some count) = is_some (number_in 20 count)
+counts None = false
+
+-- a message is accepted, with which the channel has so many
+abbrev pub accepts : List ℕ → Bool
+accepts line = counts (after (codes "ok ") line)
+
+-- one or more letters
+abbrev pub is_word : List ℕ → Bool
+is_word text = nat_le 1 (length text) && list_all is_ascii_alphabetic text
+
+abbrev pub is_space : ℕ → Bool
+is_space b = b == 32
+
+-- what stands before the first space, and what stands after it, where there is one
+abbrev pub halves : List ℕ → Option (List ℕ × List ℕ)
+halves text = if list_any is_space text then Some (before_first is_space text, after_first is_space text) else None
+
+abbrev pub is_code_and_name : Option (List ℕ × List ℕ) → Bool
+is_code_and_name (Some halves) = is_some (number_in 20 halves.0) && is_word halves.1
+is_code_and_name None = false
+
+-- a number and a name
+abbrev pub is_reason : List ℕ → Bool
+is_reason text = is_code_and_name (halves text)
+
+abbrev pub gives : Option (List ℕ) → Bool
+gives (Some reason) = is_reason reason
+gives None = false
+
+-- a message is refused
+abbrev pub refuses : List ℕ → Bool
+refuses line = gives (after (codes "no ") line)
+
+-- an answer that refuses is such a line
+abbrev pub IsAnswer : Answer → Type 0
+IsAnswer Accepted = ⊤
+IsAnswer (Refused line) = refuses line ≡ true
+
+abbrev pub EndsByAnswer : Ending → Type 0
+EndsByAnswer ending.Whole = ⊤
+EndsByAnswer (ending.Refused line) = refuses line ≡ true
+
+abbrev pub StepsByAnswer : Step → Type 0
+StepsByAnswer step.Whole = ⊤
+StepsByAnswer (step.Refused line) = refuses line ≡ true
+StepsByAnswer (step.Gone accepted) = ⊤

@@ -1,0 +1,58 @@
+//! An encoder's bytes, published on as many connections as it takes.
+ghost use Rattle.std.specs.Prelude.{◌≡◌, ◌<◌, IfOk, IsErrOf, OnOk};
+ghost use Rattle.ll_push.specs.Answers.{EndsByAnswer};
+
+use crate::fault::PushFault;
+use crate::place::Place;
+use crate::publisher::{Publisher, Step};
+use crate::watch::Watch;
+use ll_attr::Text;
+use ll_device::{Reader, Source};
+use ll_split::Pace;
+use std::alloc::Global;
+
+/// How many connections, one after another, may take nothing.
+const TRIES: u64 = 20;
+
+/// How publishing ended.
+#[derive(Drop)]
+pub enum Ending {
+    /// All is published, and the origin has accepted it.
+    Whole,
+    /// The origin refuses what was sent last: its answer, without its end.
+    Refused(Text),
+}
+
+/// Publishes what an encoder writes, on the connections that an origin gives: on the next one where the last is gone and all that was
+/// sent on it was accepted.
+pub fn push<R: Reader, S: Source, W: Watch>(
+    alloc: Global,
+    place: Place<'_>,
+    pace: Pace,
+    source: &mut R,
+    origin: &mut S,
+    watch: &mut W,
+) -> Result<Ending, PushFault>
+    ensures told { IfOk result EndsByAnswer }
+    ensures read_failed { IsErrOf result PushFault.Read → R.failures source.old < R.failures source.new }
+    ensures steady { OnOk result (R.failures source.new ≡ R.failures source.old) }
+{
+    let mut publisher = Publisher::new(alloc, place, pace);
+    let mut idle = 0;
+    for _ in 0..u64::MAX {
+        let Some(mut link) = origin.next() else {
+            return Err(PushFault::Connect);
+        };
+        match publisher.publish_on(source, &mut link, watch)? {
+            Step::Whole => return Ok(Ending::Whole),
+            Step::Refused(line) => return Ok(Ending::Refused(line)),
+            Step::Gone { accepted: true } => idle = 0,
+            Step::Gone { accepted: false } => idle += 1,
+        }
+        if idle == TRIES {
+            return Err(PushFault::Connect);
+        }
+        watch.lost();
+    }
+    Err(PushFault::Endless)
+}

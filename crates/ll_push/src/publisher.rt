@@ -1,0 +1,226 @@
+//! An encoder's bytes, published on one connection as far as it goes.
+ghost use Rattle.std.specs.Prelude.{◌≡◌, ◌≢◌, ◌<◌, ℕ, List, Some, None, IfErr, IfOk, IsErrOf, MatchResult, OnErr, OnOk, false, true};
+ghost use Rattle.std.specs.Io.KnownBytes.{Appends, Keeps};
+ghost use Rattle.ll_device.specs.Written.{AppendsPrefix};
+ghost use Rattle.ll_mp4.specs.declared.fault.Fault.{Fault};
+ghost use Rattle.ll_push.specs.Answers.{StepsByAnswer};
+ghost use Rattle.ll_push.specs.Messages as spec;
+ghost use Rattle.ll_push.specs.Meaning.{named};
+ghost use Rattle.ll_push.specs.Next.{FrontGives, IsFaultNext, IsFed, IsFrontFault, IsNext, IsOwn, IsSent, IsTaken, IsTold, is_refusal};
+ghost use Rattle.ll_push.specs.Publishing.{IsFirstFault, IsStep, at_start, text_to_come};
+
+use crate::answer::{Answer, read_answer};
+use crate::fault::PushFault;
+use crate::message::Message;
+use crate::place::Place;
+use crate::watch::Watch;
+use ll_attr::Text;
+use ll_device::{Link, Reader, write_all};
+use ll_split::{Pace, Splitter};
+use std::alloc::Global;
+use std::marker::Model;
+
+/// How many bytes of an encoder a read takes at most.
+const PIECE: usize = 65_536;
+
+/// What an encoder wrote and no origin was sent so far.
+#[derive(Drop)]
+pub struct Publisher<'a> {
+    alloc: Global,
+    place: Place<'a>,
+    splitter: Splitter,
+    /// A message that the last connection took nothing of.
+    unsent: Option<Message>,
+}
+
+/// How far a connection went.
+#[derive(Drop)]
+pub enum Step {
+    /// All is published, and the origin has accepted it.
+    Whole,
+    /// The origin refuses what was sent last: its answer, without its end.
+    Refused(Text),
+    /// The other end is gone, and nothing was sent that it didn't accept.
+    Gone {
+        /// Whether it accepted any message.
+        accepted: bool,
+    },
+}
+
+/// What became of a message.
+#[derive(Drop)]
+enum Sent {
+    Answered(Answer),
+    /// Nothing was taken of it.
+    Not(Message),
+}
+
+impl<'a> Model for Publisher<'a> {
+    ghost use Rattle.ll_push.specs.Meaning.{named};
+    ghost use Rattle.ll_push.specs.Publishing.{PublisherValue};
+
+    ghost Value = { PublisherValue };
+
+    ghost view = { λ p. record { names = named p.place; splitter = p.splitter; unsent = p.unsent } };
+}
+
+impl<'a> Publisher<'a> {
+    /// Nothing was read so far.
+    pub fn new(alloc: Global, place: Place<'a>, pace: Pace) -> Publisher<'a>
+        ensures { result ≡ at_start (named place.entry) pace }
+    {
+        Publisher {
+            alloc,
+            place,
+            splitter: Splitter::new(alloc, pace),
+            unsent: None,
+        }
+    }
+
+    /// Publishes what an encoder writes, until all is published, the origin refuses some of it, or the other end of the connection is
+    /// gone.
+    pub fn publish_on<R: Reader, P: Link, W: Watch>(
+        &mut self,
+        source: &mut R,
+        link: &mut P,
+        watch: &mut W,
+    ) -> Result<Step, PushFault>
+        ensures step { (input : List ℕ) → R.left source.old ≡ Some input
+            → IfOk result (IsStep self.old input (P.written link.old) self.new (R.left source.new) (P.written link.new)) }
+        ensures cut { (input : List ℕ) → R.left source.old ≡ Some input → OnErr result (AppendsPrefix (P.written link.old) (P.written link.new) (text_to_come self.old input)) }
+        ensures refused { (input : List ℕ) (fault : Fault) → R.left source.old ≡ Some input → IsErrOf result (PushFault.Input fault) → IsFirstFault self.old input self.new fault }
+        ensures read_failed { IsErrOf result PushFault.Read → R.failures source.old < R.failures source.new }
+        ensures steady { OnOk result (R.failures source.new ≡ R.failures source.old) }
+        ensures told { IfOk result StepsByAnswer }
+        ensures connected { IfErr result (λ fault. fault ≢ PushFault.Connect) }
+    {
+        let (mut accepted, mut refused) = (false, false);
+        for _ in 0..u64::MAX {
+            let message = self.message(source)?;
+            let (said, len) = (message.said(), message.bytes().len());
+            match exchange(self.alloc, link, message, &mut refused)? {
+                Sent::Answered(Answer::Accepted) => watch.accepted(said, len),
+                Sent::Answered(Answer::Refused(line)) => return Ok(Step::Refused(line)),
+                Sent::Not(message) => {
+                    self.unsent = Some(message);
+                    return Ok(Step::Gone { accepted });
+                }
+            }
+            if said.ends() {
+                return Ok(Step::Whole);
+            }
+            accepted = true;
+        }
+        Err(PushFault::Endless)
+    }
+
+    /// The next message: the one that is unsent, that of the encoder's next piece, or, after the last one, the end.
+    fn message<R: Reader>(&mut self, source: &mut R) -> Result<Message, PushFault>
+        ensures next { (input : List ℕ) → R.left source.old ≡ Some input → IfOk result (IsTaken self.old input self.new (R.left source.new)) }
+        ensures refused { (input : List ℕ) (fault : Fault) → R.left source.old ≡ Some input → IsErrOf result (PushFault.Input fault) → IsFirstFault self.old input self.new fault }
+        ensures read_failed { IsErrOf result PushFault.Read → R.failures source.old < R.failures source.new }
+        ensures steady { OnOk result (R.failures source.new ≡ R.failures source.old) }
+        ensures connected { IfErr result (λ fault. fault ≢ PushFault.Connect) }
+    {
+        match self.unsent.take() {
+            Some(message) => Ok(message),
+            None => next_message(self.alloc, &self.place, source, &mut self.splitter),
+        }
+    }
+}
+
+/// The message of an encoder's next piece, or, after its last one, the end.
+fn next_message<R: Reader>(
+    alloc: Global,
+    place: &Place<'_>,
+    source: &mut R,
+    splitter: &mut Splitter,
+) -> Result<Message, PushFault>
+    ensures next { (input : List ℕ) → R.left source.old ≡ Some input → IfOk result (IsNext (named place.now) splitter.old input splitter.new (R.left source.new)) }
+    ensures refused { (input : List ℕ) (fault : Fault) → R.left source.old ≡ Some input → IsErrOf result (PushFault.Input fault) → IsFaultNext splitter.old input splitter.new fault }
+    ensures read_failed { IsErrOf result PushFault.Read → R.failures source.old < R.failures source.new }
+    ensures steady { OnOk result (R.failures source.new ≡ R.failures source.old) }
+    ensures connected { IfErr result (λ fault. fault ≢ PushFault.Connect) }
+{
+    for _ in 0..u64::MAX {
+        if let Some(message) = front_message(alloc, place, splitter)? {
+            return Ok(message);
+        }
+        if !read_more(source, splitter)? {
+            splitter.finish()?;
+            return Ok(Message::end(alloc, place)?);
+        }
+    }
+    Err(PushFault::Endless)
+}
+
+/// The message of the piece at the front, where all of it was read.
+fn front_message(
+    alloc: Global,
+    place: &Place<'_>,
+    splitter: &mut Splitter,
+) -> Result<Option<Message>, PushFault>
+    ensures piece { IfOk result (λ message. FrontGives (named place.now) splitter.old splitter.new message) }
+    ensures fault { IfErr result (λ fault. IsFrontFault splitter.old splitter.new fault) }
+{
+    match splitter.next()? {
+        Some(piece) => Ok(Some(Message::of(alloc, place, &piece)?)),
+        None => Ok(None),
+    }
+}
+
+/// Reads once more, and answers whether that gave anything.
+fn read_more<R: Reader>(source: &mut R, splitter: &mut Splitter) -> Result<bool, PushFault>
+    ensures fed { IfOk result (IsFed splitter.old (R.left source.old) splitter.new (R.left source.new)) }
+    ensures faults { IfErr result (λ fault. fault ≢ PushFault.Memory → (fault ≡ PushFault.Read) × (R.failures source.old < R.failures source.new)) }
+    ensures steady { OnOk result (R.failures source.new ≡ R.failures source.old) }
+{
+    let mut piece = [0; PIECE];
+    let Ok(count) = source.read(&mut piece) else {
+        return Err(PushFault::Read);
+    };
+    splitter.feed(&piece[..count])?;
+    Ok(count > 0)
+}
+
+/// Sends a message, unless the other end is gone, and reads its answer. After one that is refused nothing is sent.
+fn exchange<P: Link>(
+    alloc: Global,
+    link: &mut P,
+    message: Message,
+    refused: &mut bool,
+) -> Result<Sent, PushFault>
+    requires { refused.old ≡ false }
+    ensures sent { IfOk result (IsSent (P.written link.old) (P.written link.new) message) }
+    ensures cut { OnErr result (AppendsPrefix (P.written link.old) (P.written link.new) message.bytes) }
+    ensures refused { IfOk result (λ sent. refused.new ≡ is_refusal sent) }
+    ensures told { IfOk result IsTold }
+    ensures own { IfErr result IsOwn }
+{
+    if !send(link, message.bytes())? {
+        return Ok(Sent::Not(message));
+    }
+    let answer = read_answer(alloc, link)?;
+    *refused = matches!(answer, Answer::Refused(_));
+    Ok(Sent::Answered(answer))
+}
+
+/// Sends some bytes, and answers whether they were sent: nothing is taken of them where the other end is gone. Where some but not all
+/// are taken, the connection is lost.
+fn send<P: Link>(link: &mut P, bytes: &[u8]) -> Result<bool, PushFault>
+    ensures sent { IfOk result (λ sent. sent ≡ true → Appends (P.written link.old) (P.written link.new) bytes.now) }
+    ensures unsent { IfOk result (λ sent. sent ≡ false → Keeps (P.written link.old) (P.written link.new)) }
+    ensures cut { OnErr result (AppendsPrefix (P.written link.old) (P.written link.new) bytes.now) }
+    ensures lost { IfErr result (λ fault. (fault ≡ PushFault.Lost) × (P.failures link.old < P.failures link.new)) }
+{
+    if link.gone() {
+        return Ok(false);
+    }
+    let Ok(taken) = link.write(bytes) else {
+        return Ok(false);
+    };
+    match write_all(link, &bytes[taken..]) {
+        Ok(()) => Ok(true),
+        Err(_) => Err(PushFault::Lost),
+    }
+}

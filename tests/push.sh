@@ -1,0 +1,253 @@
+#!/usr/bin/env bash
+# push.sh PROGRAM: `llhls push` with real sockets on loopback. Inputs that tests/push.py makes go to `llhls serve`, and to peers that hang up, refuse or answer nonsense: what was sent
+# is compared with messages that are made beside it, and what is served with the input. Where there is ffmpeg, its output goes the same way. The last line is `N passed, M failed`.
+. "$(dirname "${BASH_SOURCE[0]}")/server.sh" || exit 2
+take_program "$1"
+
+# make WORD..: what tests/push.py says to these words.
+make() {
+    python3 "$here/push.py" "$@"
+}
+
+# push ADDRESS [CHANNEL]: the program publishes standard input.
+push() {
+    timeout 60 "$program" push "$1" "${2-cam}" hi part=500000 segment=2000000 >"$room/stdout" 2>"$room/stderr"
+}
+
+# pushes STATUS FAULT ADDRESS: it does so and ends with this status, and the last line that it tells is this fault, where there is one.
+pushes() {
+    local status
+    push "$3"
+    status=$?
+    if [ "$status" != "$1" ] || [ "$(tail -n 1 "$room/stderr")" != "${2:+llhls: $2}" ] || [ -s "$room/stdout" ]; then
+        echo "status $status: $(<"$room/stderr")"
+        return 1
+    fi
+}
+
+# to_server STATUS FAULT NAME [CHANNEL]: the input of this name goes to the server.
+to_server() {
+    serve "$program" 'workers 4' "${4-$cam}" || return 1
+    make input "$3" >"$room/input"
+    pushes "$1" "$2" "127.0.0.1:$publish_port" <"$room/input"
+}
+
+# What the server then has are the input's bytes.
+is_served_whole() {
+    to_server 0 '' "$1" && make play "$port" cam "$room/input"
+}
+
+# peer PLAN: starts an origin that behaves so (tests/push.py), at `peer`.
+peer() {
+    local tries
+    rm -f "$room/port"
+    python3 "$here/push.py" peer "$room/port" "$room/taken" "$1" &
+    servers+=($!)
+    for ((tries = 0; tries < 200; tries++)); do
+        [ -s "$room/port" ] && peer=127.0.0.1:$(<"$room/port") && return 0
+        sleep 0.05
+    done
+    return 1
+}
+
+# to_peer PLAN NAME STATUS FAULT: an input goes to such an origin.
+to_peer() {
+    peer "$1" || return 1
+    make input "$2" | pushes "$3" "$4" "$peer"
+}
+
+# took NAME: what the origin took are the messages of an input.
+took() {
+    make messages "$1" | cmp - "$room/taken"
+}
+
+sends_its_messages() {
+    to_peer "$2" "$1" 0 '' && took "$1"
+}
+
+# said_lost COUNT: the program has told so often that the connection is lost.
+said_lost() {
+    [ "$(grep -c 'the connection is lost' "$room/stderr")" = "$1" ]
+}
+
+# hangs_up PLAN COUNT: the origin hangs up before messages, so often. Each is told, and the program goes on.
+hangs_up() {
+    peer "$1" || return 1
+    make slowly two | push "$peer" || { cat "$room/stderr"; return 1; }
+    said_lost "$2" && took two
+}
+
+# No byte is sent after a refusal, and no message twice.
+stops_after() {
+    local messages=$4
+    to_peer "$1" two "$2" "$3" || return 1
+    wait "${servers[-1]}"
+    servers=()
+    make messages two >"$room/all"
+    head -c "$(wc -c <"$room/taken")" "$room/all" | cmp - "$room/taken" && [ "$(grep -a -c '^cam ' "$room/taken")" = "$messages" ]
+}
+
+no_server() {
+    peer ok || return 1
+    stop
+    make input one | pushes 4 Connect "$peer"
+}
+
+# The origin ends after its first connection: after so many tries the program gives up.
+server_goes_away() {
+    peer ok,close || return 1
+    make slowly two | pushes 4 Connect "$peer"
+}
+
+# wrong WORD..: these words are none.
+wrong() {
+    timeout 10 "$program" push "$@" </dev/null >"$room/stdout" 2>"$room/stderr"
+    [ $? = 2 ] && [ "$(<"$room/stderr")" = 'llhls: usage' ]
+}
+
+# Standard input can't be read.
+reads_fail() {
+    peer ok || return 1
+    pushes 4 Read "$peer" <"$room"
+}
+
+# Where standard error is a terminal, it has a line of what was published so far, once a second at most, and one of its own for each fault.
+tells_how_it_goes() {
+    peer 'ok,ok,ok,ok,no 4 TooLong\n' || return 1
+    make slowly many | python3 "$here/push.py" terminal "$program" push "$peer" cam hi part=500000 segment=2000000 >"$room/shown"
+    tr -d '\r' <"$room/shown" >"$room/plain"
+    head -n 1 "$room/plain" | grep -qxE 'llhls: [1-9] parts, 0 segments, [01]\.[05]00 s, [0-9]+ kB/s  ' &&
+        [ "$(tail -n +2 "$room/plain")" = 'llhls: no 4 TooLong' ] || { cat "$room/plain"; return 1; }
+}
+
+# A damaged input is published whole, or ends in a fault that has a name.
+damaged() {
+    local status
+    make damaged "$1" >"$room/input"
+    push "127.0.0.1:$publish_port" "c$1" <"$room/input"
+    status=$?
+    if [ "$status" = 0 ]; then
+        make play "$port" "c$1" "$room/input"
+    else
+        [ "$status" = 3 ] && grep -qxE 'llhls: (BadBox|TooLarge|NoMoov|SecondMoov|(Missing|Several) [a-z]{4}|NoTimeScale|OtherTrack|TooLong|Cut|no 3 BadDuration)' "$room/stderr"
+    fi || { echo "status $status: $(<"$room/stderr")"; return 1; }
+}
+
+all_damaged() {
+    local seed channels=()
+    for ((seed = 1; seed <= 100; seed++)); do
+        channels+=("${cam/ cam / c$seed }")
+    done
+    serve "$program" 'workers 4' "${channels[@]}" || return 1
+    for ((seed = 1; seed <= 100; seed++)); do
+        damaged "$seed" || { echo "seed $seed"; return 1; }
+    done
+}
+
+# encoder: 9 seconds of a test pattern, as docs/OPERATING.md has it.
+encoder() {
+    ffmpeg -v error -f lavfi -i testsrc2=size=320x180:rate=24 -t 9 -c:v libx264 -preset ultrafast -pix_fmt yuv420p -g 48 \
+        -f mp4 -movflags +frag_keyframe+empty_moov+default_base_moof -frag_duration 500000 - </dev/null
+}
+
+# What an encoder writes comes to players byte for byte, and its parts and segments last as long as they are to.
+encoder_is_served() {
+    serve "$program" 'workers 4' "$cam" || return 1
+    encoder | tee "$room/input" | pushes 0 '' "127.0.0.1:$publish_port" || return 1
+    make play "$port" cam "$room/input" || return 1
+    ask /cam/hi/live.m3u8 | tr -d '\r' >"$room/playlist"
+    [ "$(grep -c '^#EXTINF:2.000000,$' "$room/playlist")" = 4 ] && [ "$(grep -c '^#EXT-X-PART:DURATION=0.500000,' "$room/playlist")" = 18 ] ||
+        { cat "$room/playlist"; return 1; }
+}
+
+for name in one two many short; do
+    try is_served_whole "$name"
+    try sends_its_messages "$name" "$(printf 'ok%.0s,' {1..32})ok"
+done
+while read -r name fault; do
+    try to_server 3 "$fault" "$name"
+done <<END
+bad_box BadBox
+endless_box BadBox
+large_box TooLarge
+no_movie NoMoov
+second_movie SecondMoov
+no_track Missing trak
+two_tracks Several trak
+no_scale NoTimeScale
+other_track OtherTrack
+long TooLong
+two_moofs Several moof
+no_moof Missing moof
+cut Cut
+no_mdat Missing mdat
+empty_part no 3 BadDuration
+END
+try to_server 3 'no 4 TooLong' two "${cam/ part=1000000 / part=400000 }"
+try to_server 3 'no 14 UnknownChannel' one "${cam/ cam / other }"
+try to_server 3 'no 1 NoRendition' one "${cam/hi,lo/lo}"
+
+# A connection that is hung up before a message, at once or after some; in the midst of one, before its answer.
+try hangs_up close/ok,ok,ok,ok 1
+try hangs_up ok,close/ok,ok,ok 1
+try hangs_up ok,close/ok,close/ok,ok 2
+try hangs_up ok,ok,ok,close/ok 1
+try stops_after half 4 Lost 1
+try stops_after ok,half 4 Lost 2
+try stops_after ok,ok,drop 4 Lost 3
+try stops_after ok,ok,ok,drop 4 Lost 4
+try stops_after 'ok,no 4 TooLong\n' 3 'no 4 TooLong' 2
+try stops_after 'no 14 UnknownChannel\n' 3 'no 14 UnknownChannel' 1
+try stops_after 'ok,ok,ok,no 2 Ended\n' 3 'no 2 Ended' 4
+while read -r answer; do
+    try stops_after "ok,$answer" 4 BadAnswer 2
+done <<'END'
+\n
+ok\n
+ok \n
+ok x\n
+ok -1\n
+OK 1\n
+ok 1\r\n
+ok 18446744073709551616\n
+no\n
+no 4\n
+no 4 \n
+no x TooLong\n
+no 4 Too Long\n
+no 4 \x1b[2J\n
+ok 1\nok 2\n
+\xff\n
+ok 1                                                            \n
+This is no answer but a text that goes on and on and has no end whatever is read of it
+END
+for name in no_server server_goes_away reads_fail tells_how_it_goes all_damaged; do
+    try "$name"
+done
+
+try wrong
+try wrong 127.0.0.1:1 cam hi part=1
+try wrong 127.0.0.1:1 cam hi part=1 segment=1 more
+while read -r words; do
+    try wrong $words
+done <<END
+127.0.0.1 cam hi part=1 segment=1
+localhost:1 cam hi part=1 segment=1
+127.0.0.1:65536 cam hi part=1 segment=1
+[::1]:1 cam hi part=1 segment=1
+127.0.0.1:1 CAM hi part=1 segment=1
+127.0.0.1:1 cam h/i part=1 segment=1
+127.0.0.1:1 cam hi segment=1 part=1
+127.0.0.1:1 cam hi part= segment=1
+127.0.0.1:1 cam hi part=01 segment=1
+127.0.0.1:1 cam hi part=1s segment=1
+127.0.0.1:1 cam hi part=1 segment=-1
+127.0.0.1:1 cam hi part=1 segment=18446744073709551616
+END
+
+if command -v ffmpeg >/dev/null; then
+    try encoder_is_served
+else
+    echo 'no ffmpeg: what a real encoder writes is not tried'
+fi
+told_all
