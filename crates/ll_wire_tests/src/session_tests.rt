@@ -191,7 +191,7 @@ fn sent_by(alloc: Global, session: &mut Session, step: usize) -> Result<Vec<u8>,
             return Ok(text);
         };
         let n = step.min(answer.len());
-        let whole = text.len() + n;
+        let whole = text.len().saturating_add(n);
         answer.copy_to(&mut text)?;
         text.truncate(whole);
         session.sent(n);
