@@ -69,6 +69,8 @@ REFUSED = {
     'bad_box': BEFORE + numbers(7) + b'free',
     'endless_box': BEFORE + numbers(0) + b'mdat',
     'large_box': BEFORE + numbers(1 << 21) + b'free',
+    'empty': b'',
+    'no_more_than_its_type': FTYP,
     'no_movie': FTYP + fragment([500]),
     'second_movie': BEFORE + MOOV,
     'no_track': FTYP + movie(),

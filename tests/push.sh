@@ -170,6 +170,8 @@ done <<END
 bad_box BadBox
 endless_box BadBox
 large_box TooLarge
+empty NoMoov
+no_more_than_its_type NoMoov
 no_movie NoMoov
 second_movie SecondMoov
 no_track Missing trak

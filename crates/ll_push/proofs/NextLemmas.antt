@@ -7,10 +7,10 @@ use Rattle.ll_push.specs.Messages.{MessageValue, Names, end_message, end_text, p
 use Rattle.ll_push.specs.Next.{FrontGives, IsFaultNext, IsFed, IsFirst, IsFrontFault, IsNext, message_in}
 use Rattle.ll_push.specs.declared.fault.PushFault.{PushFault}
 use Rattle.ll_push.specs.declared.fault.PushFault.TheVariants.{Input}
-use Rattle.ll_push.specs.Publishing.{after_message, fault_after, messages}
+use Rattle.ll_push.specs.Publishing.{after_message, ending_fault, fault_after, messages}
 use Rattle.ll_split.specs.Pieces.{Piece, Init, Media}
 use Rattle.ll_split.specs.Laws.{after_given}
-use Rattle.ll_split.specs.Streams.{SplitterValue, Told, and_told, end_fault, front, front_unit, given, judged, told_in, with_bytes}
+use Rattle.ll_split.specs.Streams.{SplitterValue, Told, and_told, front, front_unit, given, judged, told_in, with_bytes}
 use Rattle.ll_split.specs.declared.known.Known.{Known}
 use Rattle.ll_split.proofs.StreamLaws.{front-goes, front_is_first, given_then}
 
@@ -150,7 +150,7 @@ fault-front before input s after left fault same e =
     inl (ap (λ (t : Told). t.fault) (same.2 ∙ front-goes s same.0 ∙ ap (λ r. given_then same.0 (r, (front s).1)) e))
 
 pub fault-end : (names : Names) (before : SplitterValue) (input : List ℕ) (s mid after : SplitterValue) (left then : Option (List ℕ)) (fault : Fault)
-    → Same before input s left → FrontGives names s mid None → IsFed mid left after then false → end_fault after.unread ≡ Some fault
+    → Same before input s left → FrontGives names s mid None → IsFed mid left after then false → ending_fault after ≡ Some fault
     → IsFaultNext before input after fault
 fault-end names before input s mid after left then fault same gives fed e =
     inr (ap (λ (t : Told). t.fault) (at-end names before input s mid after left then same gives fed).1, e)

@@ -4,14 +4,14 @@ use Rattle.std.specs.Io.KnownBytes.{Appends, Consumes, IsAtEnd, Keeps}
 use Rattle.ll_mp4.specs.declared.fault.Fault.{Fault}
 use Rattle.ll_push.specs.Answers.{IsAnswer}
 use Rattle.ll_push.specs.Messages.{MessageValue, Names, piece_message}
-use Rattle.ll_push.specs.Publishing.{PublisherValue, after_message, fault_after, fault_to_come, messages, text_to_come}
+use Rattle.ll_push.specs.Publishing.{PublisherValue, after_message, ending_fault, fault_after, fault_to_come, messages, text_to_come}
 use Rattle.ll_push.specs.declared.answer.Answer.TheVariants.{Accepted, Refused}
 use Rattle.ll_push.specs.declared.fault.PushFault.{PushFault}
 use Rattle.ll_push.specs.declared.fault.PushFault.TheVariants.{Input, Memory, Lost, BadAnswer}
 use Rattle.ll_push.specs.declared.publisher.Sent.{Sent}
 use Rattle.ll_push.specs.declared.publisher.Sent.TheVariants.{Answered, Not}
 use Rattle.ll_split.specs.Pieces.{Piece}
-use Rattle.ll_split.specs.Streams.{SplitterValue, Told, end_fault, front, told_in, with_bytes}
+use Rattle.ll_split.specs.Streams.{SplitterValue, Told, front, told_in, with_bytes}
 
 -- it is the first of the messages of what is told, and the others are those of what is told later
 abbrev pub IsFirst : Names → Told → Told → MessageValue → Type 0
@@ -27,7 +27,7 @@ IsNext names before input after left message =
 abbrev pub IsFaultNext : SplitterValue → List ℕ → SplitterValue → Fault → Type 0
 IsFaultNext before input after fault =
     ((told_in (with_bytes before input)).fault ≡ Some fault)
-    ⊎ (((told_in (with_bytes before input)).fault ≡ None) × (end_fault after.unread ≡ Some fault))
+    ⊎ (((told_in (with_bytes before input)).fault ≡ None) × (ending_fault after ≡ Some fault))
 
 -- the message of a piece that was found at the front
 abbrev pub message_in : Names → Result (Option Piece) Fault → Option MessageValue
@@ -78,3 +78,9 @@ IsTaken before input after left message =
     (rest : List ℕ) × (left ≡ Some rest) × (after.names ≡ before.names) × (after.unsent ≡ None)
     × (text_to_come before input ≡ message.bytes ++ after_message before.names message.said (told_in (with_bytes after.splitter rest)))
     × (fault_to_come before input ≡ fault_after message.said (told_in (with_bytes after.splitter rest)))
+
+-- it is that of where the bytes end, or memory's
+abbrev pub IsEndFault : SplitterValue → PushFault → Type 0
+IsEndFault s (Input fault) = ending_fault s ≡ Some fault
+IsEndFault s Memory = ⊤
+IsEndFault s other = ⊥

@@ -1,8 +1,9 @@
 -- What is still to be sent of an encoder's bytes.
-use Rattle.std.specs.Prelude.{◌≡◌, ◌⊎◌, ℕ, List, [], ◌++◌, Option, Some, None}
+use Rattle.std.specs.Prelude.{◌≡◌, ◌⊎◌, ℕ, Bool, true, false, List, [], ◌++◌, Option, Some, None, is_some}
 use Rattle.std.specs.Io.KnownBytes.{Appends}
 use Rattle.ll_device.specs.Written.{AppendsPrefix}
 use Rattle.ll_mp4.specs.declared.fault.Fault.{Fault}
+use Rattle.ll_mp4.specs.declared.fault.Fault.TheVariants as input
 use Rattle.ll_push.specs.Messages.{MessageValue, Names, end_text, pieces_text}
 use Rattle.ll_push.specs.declared.publisher.Step.{Step}
 use Rattle.ll_push.specs.declared.publisher.Step.TheVariants.{Whole, Refused, Gone}
@@ -67,7 +68,16 @@ IsStep before input base after left written Whole = Appends base written (text_t
 IsStep before input base after left written (Refused answer) = AppendsPrefix base written (text_to_come before input)
 IsStep before input base after left written (Gone accepted) = GoesOn before input base after left written
 
+-- the fault of where the bytes end, these being left: amid a box or a part, or before an initialization section
+abbrev pub ending_by : Option Fault → Bool → Option Fault
+ending_by (Some fault) begun = Some fault
+ending_by None false = Some input.NoMoov
+ending_by None true = None
+
+abbrev pub ending_fault : SplitterValue → Option Fault
+ending_fault s = ending_by (end_fault s.unread) (is_some s.known.track)
+
 -- this is the first fault: of a box or a fragment, or of where the bytes end
 abbrev pub IsFirstFault : PublisherValue → List ℕ → PublisherValue → Fault → Type 0
 IsFirstFault before input after fault =
-    (fault_to_come before input ≡ Some fault) ⊎ ((fault_to_come before input ≡ None) × (end_fault after.splitter.unread ≡ Some fault))
+    (fault_to_come before input ≡ Some fault) ⊎ ((fault_to_come before input ≡ None) × (ending_fault after.splitter ≡ Some fault))

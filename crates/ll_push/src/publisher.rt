@@ -6,7 +6,7 @@ ghost use Rattle.ll_mp4.specs.declared.fault.Fault.{Fault};
 ghost use Rattle.ll_push.specs.Answers.{StepsByAnswer};
 ghost use Rattle.ll_push.specs.Messages as spec;
 ghost use Rattle.ll_push.specs.Meaning.{named};
-ghost use Rattle.ll_push.specs.Next.{FrontGives, IsFaultNext, IsFed, IsFrontFault, IsNext, IsOwn, IsSent, IsTaken, IsTold, is_refusal};
+ghost use Rattle.ll_push.specs.Next.{FrontGives, IsEndFault, IsFaultNext, IsFed, IsFrontFault, IsNext, IsOwn, IsSent, IsTaken, IsTold, is_refusal};
 ghost use Rattle.ll_push.specs.Publishing.{IsFirstFault, IsStep, at_start, text_to_come};
 
 use crate::answer::{Answer, read_answer};
@@ -16,6 +16,7 @@ use crate::place::Place;
 use crate::watch::Watch;
 use ll_attr::Text;
 use ll_device::{Link, Reader, write_all};
+use ll_mp4::Fault;
 use ll_split::{Pace, Splitter};
 use std::alloc::Global;
 use std::marker::Model;
@@ -147,11 +148,23 @@ fn next_message<R: Reader>(
             return Ok(message);
         }
         if !read_more(source, splitter)? {
-            splitter.finish()?;
-            return Ok(Message::end(alloc, place)?);
+            return end_message(alloc, place, splitter);
         }
     }
     Err(PushFault::Endless)
+}
+
+/// The message that nothing more comes. It would end the rendition for good, so it is not sent where not even an initialization section came: an
+/// encoder that failed at its start writes nothing.
+fn end_message(alloc: Global, place: &Place<'_>, splitter: &Splitter) -> Result<Message, PushFault>
+    ensures end { IfOk result (λ message. message ≡ spec.end_message (named place.now)) }
+    ensures fault { IfErr result (IsEndFault splitter.now) }
+{
+    splitter.finish()?;
+    if !splitter.has_begun() {
+        return Err(PushFault::Input(Fault::NoMoov));
+    }
+    Ok(Message::end(alloc, place)?)
 }
 
 /// The message of the piece at the front, where all of it was read.

@@ -1,5 +1,5 @@
 //! The bytes of an encoder as they come.
-ghost use Rattle.std.specs.Prelude.{◌≡◌, MatchResult, None, Some};
+ghost use Rattle.std.specs.Prelude.{◌≡◌, MatchResult, None, Some, is_some};
 ghost use Rattle.std.specs.Borrow.{sem};
 ghost use Rattle.std.specs.Io.BufRead.{Rests};
 ghost use Rattle.ll_split.specs.Meaning.{told};
@@ -78,6 +78,13 @@ impl Splitter {
         self.known = known;
         self.at += size;
         Ok(Some(piece))
+    }
+
+    /// Whether the initialization section was given out.
+    pub fn has_begun(&self) -> bool
+        ensures { result ≡ is_some self.now.known.track }
+    {
+        self.known.track.is_some()
     }
 
     /// What is wrong where the input ends now, after all pieces were given out: it ends in the midst of a box, or a `moof` has no `mdat`. Whole
