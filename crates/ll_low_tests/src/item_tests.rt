@@ -242,8 +242,8 @@ fn add_range(
 
 /// A line, and what the copy of its item tells.
 pub(crate) const ITEMS: &str = r#"item: item
-part hi 1000000 - => part 1 1000000 false false, 0 bytes
-part hi 1000000 - 0 => part 1 1000000 false false, 0 bytes
+part hi 1000000 - => part 1 1000000 false false, []
+part hi 1000000 - 0 => part 1 1000000 false false, []
 part hi 1000000 - 1 => part 1 1000000 false false, 1 bytes
 part hi 1000000 - <abc> => part 1 1000000 false false, [97, 98, 99]
 part hi 1000000 - <> => part 1 1000000 false false, []
@@ -252,10 +252,10 @@ break hi <> => break 1
 part hi 1000000 - 1048576 => part 1 1000000 false false, 1048576 bytes
 init hi 1 => init 1, 1 bytes
 init lo 1048576 => init 0, 1048576 bytes
-init lo 0 => init 0, 0 bytes
-part hi 1000000 i => part 1 1000000 true false, 0 bytes
-part hi 18446744073709551615 f => part 1 18446744073709551615 false true, 0 bytes
-part hi 007 if => part 1 7 true true, 0 bytes
+init lo 0 => init 0, []
+part hi 1000000 i => part 1 1000000 true false, []
+part hi 18446744073709551615 f => part 1 18446744073709551615 false true, []
+part hi 007 if => part 1 7 true true, []
 break lo => break 0
 break hi => break 1
 end lo => end 0
