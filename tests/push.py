@@ -148,6 +148,9 @@ def serve(link, plan, record):
         record.write(take(stream))
         if what == 'drop':
             return
+        # (the answer and the end of the connection go together: whoever has read the one sees the other)
+        if plan[count:count + 1] == ['close']:
+            link.setsockopt(socket.IPPROTO_TCP, socket.TCP_CORK, 1)
         link.sendall(b'ok %d\n' % count if what == 'ok' else what.encode().decode('unicode_escape').encode('latin-1'))
     record.write(stream.read())
 
