@@ -8,7 +8,7 @@ if ! command -v ffmpeg >/dev/null; then
 fi
 port=${PORT:-8080}
 room=$(mktemp -d)
-trap 'kill $(jobs -p) 2>/dev/null; rm -rf "$room"' EXIT
+trap '{ kill -KILL $(jobs -p) && wait; } 2>/dev/null; rm -rf "$room"' EXIT
 trap 'exit 0' INT TERM
 cat >"$room/settings" <<END
 listen 127.0.0.1:$port
@@ -20,7 +20,8 @@ END
 sleep 0.5
 kill -0 $!
 echo "open http://127.0.0.1:$port/demo/video/live.m3u8 in Safari, VLC, mpv or ffplay, a few seconds from now; Ctrl-C ends it"
+mkfifo "$room/pipe"
 ffmpeg -nostdin -loglevel error -re -f lavfi -i testsrc2=size=640x360:rate=24 -c:v libx264 -preset veryfast -tune zerolatency -pix_fmt yuv420p -g 48 \
-    -f mp4 -movflags +frag_keyframe+empty_moov+default_base_moof -frag_duration 500000 - |
-    "$1" push "127.0.0.1:$((port + 1))" demo video part=500000 segment=2000000 &
+    -f mp4 -movflags +frag_keyframe+empty_moov+default_base_moof -frag_duration 500000 - >"$room/pipe" &
+"$1" push "127.0.0.1:$((port + 1))" demo video part=500000 segment=2000000 <"$room/pipe" &
 wait
