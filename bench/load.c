@@ -4,9 +4,9 @@
 
    A load for `llhls serve` and for bench/yardstick.c, on loopback: channel `cam`, rendition `hi`, parts of a second, four to a segment.
 
-   present: so many kept connections, of which each asks for the playlist again as soon as its answer is whole. It prints the answers a second,
-   and the 50th and the 99th percentile of the time from request to whole answer in microseconds. What comes before each connection has had an
-   answer doesn't count.
+   present: so many kept connections, of which each asks for the playlist again as soon as its answer is whole. Half of the processors ask, each
+   for its share of the connections, so that it is the server that is measured. It prints the answers a second, and the 50th and the 99th percentile
+   of the time from request to whole answer in microseconds. What comes before each connection of a share has had an answer doesn't count.
 
    media: the same with this file in the playlist's folder, whose answer has so many bytes: 0, 1, 2 .. 250, and from 0 on again.
 
@@ -20,6 +20,7 @@
 #include <errno.h>
 #include <fcntl.h>
 #include <netinet/tcp.h>
+#include <pthread.h>
 #include <signal.h>
 #include <stdarg.h>
 #include <stdio.h>
@@ -48,7 +49,7 @@ struct peer {
     size_t body;    /* bytes that the head tells of */
 };
 
-static int events_of_all;   /* the epoll */
+static __thread int events_of_all;   /* the epoll of a thread */
 static char request[200];
 static size_t request_length;
 static size_t media_length;
@@ -225,7 +226,7 @@ static void compare_media(const char *bytes, size_t length, size_t from)
 /* The same of an answer with media, of which the head alone is kept, and what came with it. */
 static int take_media(struct peer *p)
 {
-    static char bytes[PIECE];
+    static __thread char bytes[PIECE];
     size_t n;
 
     if (p->head == 0) {
@@ -267,41 +268,82 @@ static int some_events(struct epoll_event *events, int most)
     return count;
 }
 
-/* Has all connections ask, and again, for so long; `taken` takes what came of an answer. */
-static void ask_on(int port, int connections, double seconds, int (*taken)(struct peer *))
+/* The connections of one thread, and what came of them: the times from request to whole answer, and how many answers a second. */
+struct share {
+    pthread_t thread;
+    int port, connections;
+    double seconds;
+    int (*taken)(struct peer *);
+    double *times, rate;
+    size_t count, room;
+};
+
+static void add_time(struct share *s, double time)
 {
+    if (s->count == s->room) {
+        s->room = 2 * s->room + 65536;
+        s->times = realloc(s->times, s->room * sizeof *s->times);
+        if (!s->times)
+            fail("no memory");
+    }
+    s->times[s->count++] = time;
+}
+
+/* Has all connections of a share ask, and again, for so long; `taken` takes what came of an answer. */
+static void *ask_on(void *given)
+{
+    struct share *s = given;
     struct epoll_event events[512];
-    struct peer *peers = connect_all(port, connections);
-    double *times = NULL, begin = 0, at = 0;
-    size_t count = 0, room = 0;
+    struct peer *peers = connect_all(s->port, s->connections);
+    double begin = 0, at = 0;
     int i, found, had = 0;
 
-    for (i = 0; i < connections; i++)
+    for (i = 0; i < s->connections; i++)
         ask(&peers[i]);
-    while (begin == 0 || at < begin + seconds * 1e6) {
+    while (begin == 0 || at < begin + s->seconds * 1e6) {
         found = some_events(events, 512);
         for (i = 0; i < found; i++) {
             struct peer *p = events[i].data.ptr;
-            if (!taken(p))
+            if (!s->taken(p))
                 continue;
             at = now();
-            if (begin == 0 && ++had >= connections)
+            if (begin == 0 && ++had >= s->connections)
                 begin = at;
-            if (count == room) {
-                room = 2 * room + 65536;
-                times = realloc(times, room * sizeof *times);
-                if (!times)
-                    fail("no memory");
-            }
             if (begin != 0 && at > begin)
-                times[count++] = at - p->asked;
+                add_time(s, at - p->asked);
             ask(p);
         }
     }
-    if (count == 0)
+    s->rate = (double)s->count * 1e6 / (at - begin);
+    return NULL;
+}
+
+/* Shares the connections out, and prints what comes of all of them. */
+static void ask_all(int port, int connections, double seconds, int (*taken)(struct peer *))
+{
+    static struct share shares[64];
+    struct share all = { .rate = 0 };
+    int count = (int)sysconf(_SC_NPROCESSORS_ONLN) / 2, i;
+    size_t n;
+
+    count = count < 1 ? 1 : count > 64 ? 64 : count;
+    if (count > connections)
+        count = connections;
+    for (i = 0; i < count; i++) {
+        shares[i] = (struct share){ .port = port, .connections = (connections + i) / count, .seconds = seconds, .taken = taken };
+        if (pthread_create(&shares[i].thread, NULL, ask_on, &shares[i]) != 0)
+            fail("no thread");
+    }
+    for (i = 0; i < count; i++) {
+        pthread_join(shares[i].thread, NULL);
+        all.rate += shares[i].rate;
+        for (n = 0; n < shares[i].count; n++)
+            add_time(&all, shares[i].times[n]);
+    }
+    if (all.count == 0)
         fail("no answer in %g seconds", seconds);
-    qsort(times, count, sizeof *times, in_order);
-    printf("%.0f %.0f %.0f\n", (double)count * 1e6 / (at - begin), percentile(times, count, 0.5), percentile(times, count, 0.99));
+    qsort(all.times, all.count, sizeof *all.times, in_order);
+    printf("%.0f %.0f %.0f\n", all.rate, percentile(all.times, all.count, 0.5), percentile(all.times, all.count, 0.99));
 }
 
 static void set_media(const char *file, size_t length)
@@ -438,10 +480,10 @@ int main(int count, char **words)
     signal(SIGPIPE, SIG_IGN);
     request_length = (size_t)snprintf(request, sizeof request, "GET " PATH " HTTP/1.1\r\nHost: a\r\n\r\n");
     if (count == 5 && strcmp(words[1], "present") == 0 && atoi(words[3]) > 0)
-        ask_on(atoi(words[2]), atoi(words[3]), atof(words[4]), take);
+        ask_all(atoi(words[2]), atoi(words[3]), atof(words[4]), take);
     else if (count == 7 && strcmp(words[1], "media") == 0 && atoi(words[3]) > 0) {
         set_media(words[5], strtoul(words[6], NULL, 10));
-        ask_on(atoi(words[2]), atoi(words[3]), atof(words[4]), take_media);
+        ask_all(atoi(words[2]), atoi(words[3]), atof(words[4]), take_media);
     } else if (count == 6 && strcmp(words[1], "held") == 0 && atoi(words[4]) > 0 && atoi(words[5]) > 0)
         held(atoi(words[2]), atoi(words[3]), atoi(words[4]), atoi(words[5]));
     else {

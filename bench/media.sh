@@ -14,7 +14,7 @@ runs=${RUNS:-5}
 length=${LENGTH:-1}
 names=(program yardstick)
 declare -A player_port
-compile "$here/load.c"
+compile "$here/load.c" -pthread
 compile "$here/yardstick.c" -pthread
 channel='channel cam target=4 part=1000000 skip=24 window=36 renditions=hi first=0 start=0'
 

@@ -1,7 +1,7 @@
 #!/usr/bin/env bash
 # serve.sh [PROGRAM]: puts one load on `llhls serve` (or `PROGRAM serve`) and on bench/yardstick.c, a plain server with a thread for each
 # connection, both on loopback and both after the same 44 parts, in turn. It prints, of each and as a ratio:
-# - where 1, 64 and 512 kept connections ask for the present playlist: the answers per second, the 50th and 99th percentile of the time to an
+# - where 1, 64 and 512 kept connections ask for the present playlist, from half of the processors: the answers per second, the 50th and 99th percentile of the time to an
 #   answer, and the processor time, the kernel's part too, that the server takes for one (which other work on the machine disturbs less);
 # - where 100, 1,000 and 4,000 connections wait for a part (fewer where `ulimit -n` doesn't allow as many, and it says so): the milliseconds from
 #   its publication to the first, the median and the last answer;
@@ -18,7 +18,7 @@ parts=44
 names=(program yardstick)
 asked=("${names[@]}")
 declare -A player_port publisher_port
-compile "$here/load.c"
+compile "$here/load.c" -pthread
 compile "$here/yardstick.c" -pthread
 ulimit -S -n "$(ulimit -H -n)"
 

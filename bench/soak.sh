@@ -6,7 +6,7 @@
 . "$(dirname "${BASH_SOURCE[0]}")/common.sh" || exit 2
 length=${1:-60}
 take_program_or_proved "${2-}"
-compile "$here/load.c"
+compile "$here/load.c" -pthread
 serve "$program" 'workers 256' 'channel cam target=4 part=1000000 skip=24 window=36 renditions=hi first=0 start=0' >&2
 
 # resident: the server's resident memory in KB.
