@@ -2,13 +2,12 @@
 #![tactic(auto)]
 
 mod fault;
-mod gate;
 mod player;
 mod publisher;
 mod service;
 mod workers;
 
 pub use fault::LinkFault;
-pub use gate::Gate;
 pub use ll_device::{Link, Role, Source};
+pub use ll_numbers::Gate;
 pub use workers::{serve_link, serve_link_within, serve_links};

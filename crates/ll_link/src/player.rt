@@ -10,12 +10,12 @@ ghost use Rattle.ll_link.specs.Faults.{IsOwn, IsTrue};
 ghost use Rattle.ll_link.specs.Reads.{HasEnded, IsReadWithin, stays_or_ends};
 
 use crate::fault::LinkFault;
-use crate::gate::Gate;
 use crate::service::{HandedOut, Service};
 use bytes::Bytes;
 use ll_device::{Failed, Link, write_all, write_both};
 use ll_directive::{TargetFault, Want};
 use ll_hub::{Claim, Clock, HubAsked, HubFault, Ledgers, Pass, RoomFault, Sink, Waited};
+use ll_numbers::Gate;
 use ll_record::ReadingFault;
 use ll_room::AskFault;
 use ll_session::Session;

@@ -12,11 +12,11 @@ ghost use Rattle.ll_link.specs.Faults.{IsOwn, IsTrue};
 ghost use Rattle.ll_link.specs.Reads.{HasEnded, IsReadWithin};
 
 use crate::fault::LinkFault;
-use crate::gate::Gate;
 use crate::service::{HandedOut, Service};
 use ll_device::{Link, write_all};
 use ll_hub::{HubFault, Ledgers, Pass, RoomFault, Sink};
 use ll_item::{Item, ItemFault, Payload, Settings};
+use ll_numbers::Gate;
 use ll_publish::{Feed, Line, Refusal, reply_text};
 use ll_room::Stamped;
 use std::sync::Wait;

@@ -2,8 +2,8 @@ ghost use Rattle.std.specs.Prelude.{◌≡◌, IfOk};
 ghost use Rattle.ll_link.specs.Faults.{IsOwn};
 
 use crate::fault::LinkFault;
-use crate::gate::Gate;
 use ll_hub::{Hub, Ledgers, Sink};
+use ll_numbers::Gate;
 use std::alloc::Global;
 use std::marker::Model;
 use std::sync::Wait;

@@ -6,12 +6,12 @@ ghost use Rattle.ll_link.specs.Faults.{IsTrue};
 ghost use Rattle.ll_link.specs.Reads.{HasEnded, IsReadWithin};
 
 use crate::fault::LinkFault;
-use crate::gate::Gate;
 use crate::service::Service;
 use crate::{player, publisher};
 use crossbeam_channel::{Receiver, Sender};
 use ll_device::{CountedLink, Link, Role, Source};
 use ll_hub::{Clock, Hub, HubFault, Ledgers, Pass, Sink};
+use ll_numbers::Gate;
 use std::alloc::Global;
 use std::marker::Brand;
 use std::slice::IterMut;

@@ -1,4 +1,4 @@
-//! Tests of the crates from `ll_attr` to `ll_range`. They stand here so that no crate is proved a second time for its tests.
+//! Tests of the crates from `ll_attr` to `ll_range`, and of `ll_split`. They stand here so that no crate is proved a second time for its tests.
 #![tactic(auto)]
 
 #[cfg(test)]
@@ -15,6 +15,8 @@ mod item_tests;
 mod range_tests;
 #[cfg(test)]
 mod rows;
+#[cfg(test)]
+mod split_tests;
 #[cfg(test)]
 mod time_tests;
 #[cfg(test)]

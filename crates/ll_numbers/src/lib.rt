@@ -1,7 +1,10 @@
-//! What an operator is told of each channel: how many of what there were. Nothing is promised of these numbers.
+//! Who is told of what connections get, and the numbers of each channel that are counted of it for its operator. Nothing is promised of
+//! these numbers.
 #![tactic(auto)]
 
 mod counts;
+mod gate;
 mod numbers;
 
+pub use gate::Gate;
 pub use numbers::Numbers;

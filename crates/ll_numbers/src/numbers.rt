@@ -1,6 +1,6 @@
 use crate::counts::Counts;
+use crate::gate::Gate;
 use ll_item::Settings;
-use ll_link::Gate;
 use ll_publish::Refusal;
 use ll_time::UtcTime;
 use ll_wire::Answer;

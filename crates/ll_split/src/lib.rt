@@ -7,8 +7,6 @@ mod laws;
 mod pace;
 mod pieces;
 mod splitter;
-#[cfg(test)]
-mod tests;
 
 pub use known::Known;
 pub use laws::{splitter_law, worked_stream};
