@@ -17,13 +17,19 @@ use ll_room::Stamped;
 use ll_verdict::{Entry, Reply};
 use std::alloc::{AllocError, Global};
 use std::marker::Model;
+use std::sync::atomic::{AtomicU64, Ordering};
 use std::sync::{Condvar, Mutex, MutexGuard, Wait};
 use std::time::{Clock, Duration, Instant};
+
+/// How many of those who wait are woken where replies come. Each of them wakes another, so few at a time ask for the lock.
+const WOKEN: usize = 8;
 
 /// One channel's lock, and what wakes those who wait for replies.
 pub(crate) struct ChannelLock<L: Ledgers> {
     state: Mutex<Counted<L>>,
     changed: Condvar,
+    /// How often replies came.
+    releases: AtomicU64,
 }
 
 /// Channels under a lock each, found by their names and their places.
@@ -198,6 +204,7 @@ impl<L: Ledgers> ChannelLock<L> {
         ChannelLock {
             state: Mutex::new(channel),
             changed: Condvar::new(),
+            releases: AtomicU64::new(0),
         }
     }
 
@@ -206,13 +213,27 @@ impl<L: Ledgers> ChannelLock<L> {
         self.state.lock(rt)
     }
 
-    /// Lets the lock go, and wakes those who wait where more replies are there than before.
+    /// Lets the lock go. Where more replies are there than before, it wakes some of those who wait, and they the others.
     pub(crate) fn leave(&self, state: MutexGuard<'_, Counted<L>>, ready: usize) {
-        let wakes = ready < state.ready();
-        drop(state);
-        if wakes {
-            self.changed.notify_all();
+        let more = state.ready().saturating_sub(ready);
+        if more > 0 {
+            self.releases.fetch_add(1, Ordering::SeqCst);
         }
+        drop(state);
+        for _ in 0..more.min(WOKEN) {
+            self.changed.notify_one();
+        }
+    }
+
+    /// Wakes another of those who wait, as long as replies are there that weren't collected. Those who wait are woken in the order in which
+    /// they began to: who has woken another since replies last came, and is woken again, was so after all whose replies are there, and
+    /// wakes nobody more.
+    fn wake_another(&self, state: &Counted<L>, woken: &mut u64) {
+        let releases = self.releases.load(Ordering::SeqCst);
+        if *woken < releases && state.ready() > 0 {
+            self.changed.notify_one();
+        }
+        *woken = releases;
     }
 
     /// Tells the channel what the clock shows, in milliseconds.
@@ -238,8 +259,11 @@ impl<L: Ledgers> ChannelLock<L> {
         ensures stranger { IfErr result (λ f. f ≡ HubFault.Stranger) }
     {
         let mut state = self.state.lock(rt);
+        let mut woken = self.releases.load(Ordering::SeqCst);
         for _ in rt.forever() {
-            match state.collect(known, entry) {
+            let tried = state.collect(known, entry);
+            self.wake_another(&state, &mut woken);
+            match tried {
                 Tried::Got(reply) => return Ok(reply),
                 Tried::Stranger => return Err(HubFault::Stranger),
                 Tried::Still => {}
@@ -263,8 +287,11 @@ impl<L: Ledgers> ChannelLock<L> {
     {
         let start = Instant::now(rt).ok();
         let mut state = self.state.lock(rt);
+        let mut woken = self.releases.load(Ordering::SeqCst);
         for _ in rt.forever() {
-            match state.collect(known, entry) {
+            let tried = state.collect(known, entry);
+            self.wake_another(&state, &mut woken);
+            match tried {
                 Tried::Got(reply) => return Ok(Some(reply)),
                 Tried::Stranger => return Err(HubFault::Stranger),
                 Tried::Still => {}
@@ -288,7 +315,11 @@ impl<L: Ledgers> ChannelLock<L> {
         ensures total { (settings : Configuration) → IsTrue at_home.new → slice_get channels.now place ≡ Some settings → IsTotal place settings result.0 }
         ensures noted { IsTrue at_home.new → IsTrue at_home.old }
     {
-        let ChannelLock { state, changed: _ } = self;
+        let ChannelLock {
+            state,
+            changed: _,
+            releases: _,
+        } = self;
         let channel = state.into_inner();
         *at_home &= is_at(&channel, channels, place);
         channel.finish()
@@ -296,7 +327,11 @@ impl<L: Ledgers> ChannelLock<L> {
 
     /// Closes what is held.
     fn end(self) {
-        let ChannelLock { state, changed: _ } = self;
+        let ChannelLock {
+            state,
+            changed: _,
+            releases: _,
+        } = self;
         state.into_inner().finish();
     }
 }
