@@ -19,7 +19,11 @@ use std::alloc::{AllocError, Global};
 use std::marker::Model;
 use std::sync::atomic::{AtomicU64, Ordering};
 use std::sync::{Condvar, Mutex, MutexGuard, Wait};
+use std::thread;
 use std::time::{Clock, Duration, Instant};
+
+/// How often a lock that is held is tried before its caller sleeps until it is free. A section is much shorter than falling asleep and being woken.
+const TRIES: u64 = 10;
 
 /// How many of those who wait are woken where replies come. Each of them wakes another, so few at a time ask for the lock.
 const WOKEN: usize = 8;
@@ -208,8 +212,14 @@ impl<L: Ledgers> ChannelLock<L> {
         }
     }
 
-    /// Takes the lock.
+    /// Takes the lock. While it is held, others whom the system would let run do so first.
     pub(crate) fn lock<R: Wait>(&self, rt: &R) -> MutexGuard<'_, Counted<L>> {
+        for _ in 0..TRIES {
+            if let Some(state) = self.state.try_lock() {
+                return state;
+            }
+            thread::yield_now();
+        }
         self.state.lock(rt)
     }
 
@@ -240,7 +250,7 @@ impl<L: Ledgers> ChannelLock<L> {
     fn tick<R: Wait>(&self, rt: &R, ms: u64) -> Result<(), ReadingFault>
         ensures { IfErr result (λ f. IsReadingRefused ms f) }
     {
-        let mut state = self.state.lock(rt);
+        let mut state = self.lock(rt);
         let ready = state.ready();
         let told = state.tick(ms);
         self.leave(state, ready);
@@ -258,7 +268,7 @@ impl<L: Ledgers> ChannelLock<L> {
         ensures decided { IfOk result (λ r. IsDecided known.entry.settings.now entry r.value) }
         ensures stranger { IfErr result (λ f. f ≡ HubFault.Stranger) }
     {
-        let mut state = self.state.lock(rt);
+        let mut state = self.lock(rt);
         let mut woken = self.releases.load(Ordering::SeqCst);
         for _ in rt.forever() {
             let tried = state.collect(known, entry);
@@ -286,7 +296,7 @@ impl<L: Ledgers> ChannelLock<L> {
         ensures stranger { IfErr result (λ f. f ≡ HubFault.Stranger) }
     {
         let start = Instant::now(rt).ok();
-        let mut state = self.state.lock(rt);
+        let mut state = self.lock(rt);
         let mut woken = self.releases.load(Ordering::SeqCst);
         for _ in rt.forever() {
             let tried = state.collect(known, entry);
