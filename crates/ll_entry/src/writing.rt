@@ -22,6 +22,12 @@ use ll_line::Uri;
 use ll_verdict::Outcome;
 use std::alloc::{AllocError, Global};
 
+/// Memory for the line of a request: none is longer.
+const LINE: usize = 160;
+
+/// Memory for what it tells after the rendition's name.
+const PLACE: usize = 96;
+
 /// The line of an item that was accepted; that of a part or of an initialization section ends with how many bytes it has. It fails only where no
 /// memory is found.
 pub fn publish_line(alloc: Global, settings: &Settings, item: &Item) -> Result<String, AllocError>
@@ -92,14 +98,18 @@ fn media_text(
 {
     let reply = reply_text(outcome);
     let reply = reply.as_str();
-    format!(in alloc; "M {ask} {rendition} {file} {reply}")
+    let mut text = String::with_capacity(alloc, LINE)?;
+    write!(text, "M {ask} {rendition} {file} {reply}")?;
+    Ok(text)
 }
 
 /// `A ASK RENDITION PLACE`
 fn ask_text(alloc: Global, ask: u64, rendition: &str, place: &str) -> Result<String, AllocError>
     ensures { IfOk result (λ t. string_bytes t ≡ codes "A " ++ (decimal ask ++ (codes " " ++ (rendition.now ++ (codes " " ++ place.now))))) }
 {
-    format!(in alloc; "A {ask} {rendition} {place}")
+    let mut text = String::with_capacity(alloc, LINE)?;
+    write!(text, "A {ask} {rendition} {place}")?;
+    Ok(text)
 }
 
 /// `MSN PART SKIP REPLY`
@@ -120,7 +130,9 @@ fn place_text(
         update_text(skip),
         reply.as_str(),
     );
-    format!(in alloc; "{msn} {part} {skip} {reply}")
+    let mut text = String::with_capacity(alloc, PLACE)?;
+    write!(text, "{msn} {part} {skip} {reply}")?;
+    Ok(text)
 }
 
 /// The line of a reading of the clock.

@@ -12,6 +12,9 @@ use ll_store::Blocks;
 use ll_verdict::Reply;
 use std::alloc::{AllocError, Global};
 
+/// Memory for the head of a response: none is longer.
+const HEAD: usize = 256;
+
 /// The response with this answer (RFC 9112, section 4), which tells whether the connection is kept. Its body is the playlist or the media, which
 /// it shares with the answer, or the name of the refusal and LF. It fails only where no memory is found, or where the bytes
 /// of media aren't known.
@@ -103,7 +106,12 @@ fn media_head(alloc: Global, length: u64, keep: bool) -> Result<String, AllocErr
 fn first_lines(alloc: Global, words: &str, kind: &str, length: u64) -> Result<String, AllocError>
     ensures { IfOk result (λ text. string_bytes text ≡ spec.first_lines words.now kind.now length) }
 {
-    format!(in alloc; "HTTP/1.1 {words}\r\nContent-Type: {kind}\r\nContent-Length: {length}\r\n")
+    let mut text = String::with_capacity(alloc, HEAD)?;
+    write!(
+        text,
+        "HTTP/1.1 {words}\r\nContent-Type: {kind}\r\nContent-Length: {length}\r\n"
+    )?;
+    Ok(text)
 }
 
 /// Adds the other fields and the empty line.
