@@ -24,7 +24,7 @@ use std::sync::Wait;
 use std::time::{self, Duration};
 
 /// How many bytes a read takes at most.
-const PIECE: usize = 4_096;
+const PIECE: usize = 1_024;
 
 /// How long a held request is waited for between two looks at whether its player has hung up, in seconds.
 const LOOK: u64 = 1;
