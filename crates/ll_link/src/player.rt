@@ -239,7 +239,10 @@ fn ask_again<L: Ledgers, P: Link, C: Clock, G: Gate, K: Sink, R: Wait + time::Cl
 fn is_full(answer: &Answer) -> bool
     ensures { Decides result (answer.now ≡ Answer.Unavailable AskFault.RecordFull) }
 {
-    matches!(answer, Answer::Unavailable(AskFault::RecordFull))
+    match answer {
+        Answer::Unavailable(reason) => *reason == AskFault::RecordFull,
+        Answer::Reply(_) | Answer::Target(_) | Answer::Head(_) => false,
+    }
 }
 
 /// What a request of the channel at this place is answered. Where it has to wait, its reply is waited for.

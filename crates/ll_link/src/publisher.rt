@@ -209,7 +209,10 @@ fn refusal_in(answer: &Published) -> Option<Refusal> {
 fn is_full(answer: &Published) -> bool
     ensures { Decides result (answer.now ≡ Err Refusal.RecordFull) }
 {
-    matches!(answer, Err(Refusal::RecordFull))
+    match answer {
+        Ok(_) => false,
+        Err(reason) => *reason == Refusal::RecordFull,
+    }
 }
 
 /// Publishes an item that is spelled so and has these bytes, in the channel at this place.
