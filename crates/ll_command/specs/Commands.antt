@@ -6,7 +6,7 @@ use Rattle.ll_command.specs.declared.command.Command.TheVariants as command
 use Rattle.ll_command.specs.declared.fault.Fault.{Fault}
 use Rattle.ll_entry.specs.Replies.{count}
 use Rattle.ll_item.specs.Names.{is_name}
-use Rattle.ll_split.specs.declared.pace.Pace.{Pace}
+use Rattle.ll_mp4.specs.declared.pace.Pace.{Pace}
 use Rattle.ll_command.specs.declared.fault.Fault.TheVariants.{Usage}
 
 pub data Call : Type 0 where

@@ -7,7 +7,7 @@ use crate::fault::Fault;
 use ll_attr::{Text, after};
 use ll_format::number;
 use ll_item::is_name;
-use ll_split::Pace;
+use ll_mp4::Pace;
 
 /// What the program was called to do.
 pub enum Command<'a> {

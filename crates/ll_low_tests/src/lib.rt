@@ -1,4 +1,4 @@
-//! Tests of the crates from `ll_attr` to `ll_range`, and of `ll_split`. They stand here so that no crate is proved a second time for its tests.
+//! Tests of the crates from `ll_attr` to `ll_range`, and of `ll_mp4`. They stand here so that no crate is proved a second time for its tests.
 #![tactic(auto)]
 
 #[cfg(test)]

@@ -1,8 +1,7 @@
 //! Streams of a few boxes.
 ghost use Rattle.std.specs.Prelude.{◌≤◌};
 
-use ll_mp4::Fault;
-use ll_split::{Pace, Piece, Splitter};
+use ll_mp4::{Fault, Pace, Piece, Splitter};
 use std::alloc::{AllocError, Global};
 use std::process::Abort;
 use std::test::Fail;

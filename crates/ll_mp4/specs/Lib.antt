@@ -2,7 +2,13 @@ pub mod Boxes
 pub mod Found
 pub mod Fragments
 pub mod Kinds
+pub mod Laws
+pub mod Meaning
 pub mod Movies
 pub mod Numbers
+pub mod Past
+pub mod Pieces
 pub mod Runs
+pub mod Streams
 pub mod Units
+pub mod Worked

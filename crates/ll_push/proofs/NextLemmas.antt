@@ -8,11 +8,11 @@ use Rattle.ll_push.specs.Next.{FrontGives, IsFaultNext, IsFed, IsFirst, IsFrontF
 use Rattle.ll_push.specs.declared.fault.PushFault.{PushFault}
 use Rattle.ll_push.specs.declared.fault.PushFault.TheVariants.{Input}
 use Rattle.ll_push.specs.Publishing.{after_message, ending_fault, fault_after, messages}
-use Rattle.ll_split.specs.Pieces.{Piece, Init, Media}
-use Rattle.ll_split.specs.Laws.{after_given}
-use Rattle.ll_split.specs.Streams.{SplitterValue, Told, and_told, front, front_unit, given, judged, told_in, with_bytes}
-use Rattle.ll_split.specs.declared.known.Known.{Known}
-use Rattle.ll_split.proofs.StreamLaws.{front-goes, front_is_first, given_then}
+use Rattle.ll_mp4.specs.Pieces.{Piece, Init, Media}
+use Rattle.ll_mp4.specs.Laws.{after_given}
+use Rattle.ll_mp4.specs.Streams.{SplitterValue, Told, and_told, front, front_unit, given, judged, told_in, with_bytes}
+use Rattle.ll_mp4.specs.declared.known.Known.{Known}
+use Rattle.ll_mp4.proofs.StreamLaws.{front-goes, front_is_first, given_then}
 
 -- what is told of the splitter and of the bytes that are left is what was told before
 abbrev pub Same : SplitterValue → List ℕ → SplitterValue → Option (List ℕ) → Type 0

@@ -15,7 +15,7 @@ use Rattle.ll_push.specs.declared.publisher.Sent.{Sent}
 use Rattle.ll_push.specs.declared.publisher.Sent.TheVariants.{Answered}
 use Rattle.ll_push.specs.declared.watch.Said.{Said}
 use Rattle.ll_push.specs.declared.watch.Said.TheVariants as said
-use Rattle.ll_split.specs.Streams.{SplitterValue, Told, told_in, with_bytes}
+use Rattle.ll_mp4.specs.Streams.{SplitterValue, Told, told_in, with_bytes}
 
 -- a text, and then a prefix of what stands after it
 pub prefix-on : (base mid after : Option (List ℕ)) (a b whole : List ℕ) → whole ≡ a ++ b → Appends base mid a → AppendsPrefix mid after b → AppendsPrefix base after whole

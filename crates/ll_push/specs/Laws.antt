@@ -2,8 +2,8 @@
 use Rattle.std.specs.Prelude.{◌≡◌, ℕ, List}
 use Rattle.ll_push.specs.Messages.{Names}
 use Rattle.ll_push.specs.Publishing.{at_start, fault_to_come, messages, text_to_come}
-use Rattle.ll_split.specs.Streams.{told}
-use Rattle.ll_split.specs.declared.pace.Pace.{Pace}
+use Rattle.ll_mp4.specs.Streams.{told}
+use Rattle.ll_mp4.specs.declared.pace.Pace.{Pace}
 
 -- what is to be sent from the start on are the messages of what all the encoder's bytes tell, and the fault that ends them is theirs
 abbrev pub FromTheStart : Type 0

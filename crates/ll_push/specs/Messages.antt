@@ -2,7 +2,7 @@
 use Rattle.std.specs.Prelude.{ℕ, Bool, true, false, List, [], ◌∷◌, ◌++◌, codes, decimal, length}
 use Rattle.ll_push.specs.declared.watch.Said.{Said}
 use Rattle.ll_push.specs.declared.watch.Said.TheVariants as said
-use Rattle.ll_split.specs.Pieces.{Piece, Init, Media}
+use Rattle.ll_mp4.specs.Pieces.{Piece, Init, Media}
 
 -- the names of a channel and of one of its renditions
 pub record Names : Type 0 where

@@ -10,8 +10,8 @@ use Rattle.ll_push.specs.declared.fault.PushFault.{PushFault}
 use Rattle.ll_push.specs.declared.fault.PushFault.TheVariants.{Input, Memory, Lost, BadAnswer}
 use Rattle.ll_push.specs.declared.publisher.Sent.{Sent}
 use Rattle.ll_push.specs.declared.publisher.Sent.TheVariants.{Answered, Not}
-use Rattle.ll_split.specs.Pieces.{Piece}
-use Rattle.ll_split.specs.Streams.{SplitterValue, Told, front, told_in, with_bytes}
+use Rattle.ll_mp4.specs.Pieces.{Piece}
+use Rattle.ll_mp4.specs.Streams.{SplitterValue, Told, front, told_in, with_bytes}
 
 -- it is the first of the messages of what is told, and the others are those of what is told later
 abbrev pub IsFirst : Names → Told → Told → MessageValue → Type 0

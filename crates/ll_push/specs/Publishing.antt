@@ -9,8 +9,8 @@ use Rattle.ll_push.specs.declared.publisher.Step.{Step}
 use Rattle.ll_push.specs.declared.publisher.Step.TheVariants.{Whole, Refused, Gone}
 use Rattle.ll_push.specs.declared.watch.Said.{Said}
 use Rattle.ll_push.specs.declared.watch.Said.TheVariants as said
-use Rattle.ll_split.specs.Streams.{SplitterValue, Told, end_fault, fresh, told, told_in, with_bytes}
-use Rattle.ll_split.specs.declared.pace.Pace.{Pace}
+use Rattle.ll_mp4.specs.Streams.{SplitterValue, Told, end_fault, fresh, told, told_in, with_bytes}
+use Rattle.ll_mp4.specs.declared.pace.Pace.{Pace}
 
 -- the messages of what is told: those of its pieces, and then the end's
 abbrev pub messages : Names → Told → List ℕ

@@ -2,7 +2,7 @@
 use Rattle.std.specs.Prelude.{◌≡◌, List, [], ◌∷◌, ◌++◌, true, false, None, codes}
 use Rattle.ll_push.specs.Messages.{Names}
 use Rattle.ll_push.specs.Publishing.{messages}
-use Rattle.ll_split.specs.Pieces.{Piece, Init, Media}
+use Rattle.ll_mp4.specs.Pieces.{Piece, Init, Media}
 
 abbrev pub names : Names
 names = record { channel = codes "cam"; rendition = codes "hi" }

@@ -8,7 +8,7 @@ use crate::publisher::{Publisher, Step};
 use crate::watch::Watch;
 use ll_attr::Text;
 use ll_device::{Reader, Source};
-use ll_split::Pace;
+use ll_mp4::Pace;
 use std::alloc::Global;
 
 /// How many connections, one after another, may take nothing.

@@ -2,11 +2,11 @@
 ghost use Rattle.std.specs.Prelude.{◌≡◌, ◌++◌, ◌∷◌, [], IfOk, string_bytes};
 ghost use Rattle.ll_push.specs.Messages as spec;
 ghost use Rattle.ll_push.specs.Meaning.{named};
-ghost use Rattle.ll_split.specs.Meaning.{meant};
+ghost use Rattle.ll_mp4.specs.Meaning.{meant};
 
 use crate::place::Place;
 use crate::watch::Said;
-use ll_split::{Part, Piece};
+use ll_mp4::{Part, Piece};
 use std::alloc::{AllocError, Global};
 use std::marker::Model;
 

@@ -16,8 +16,7 @@ use crate::place::Place;
 use crate::watch::Watch;
 use ll_attr::Text;
 use ll_device::{Link, Reader, write_all};
-use ll_mp4::Fault;
-use ll_split::{Pace, Splitter};
+use ll_mp4::{Fault, Pace, Splitter};
 use std::alloc::Global;
 use std::marker::Model;
 

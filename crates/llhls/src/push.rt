@@ -2,10 +2,9 @@
 ghost use Rattle.std.specs.Prelude.{◌≡◌};
 
 use ll_command::Fault;
-use ll_device::CountedReader;
+use ll_device::{CountedReader, Dial};
+use ll_mp4::Pace;
 use ll_push::{Ending, Place, Said, Watch, push};
-use ll_socket::Dial;
-use ll_split::Pace;
 use std::io::{self, IsTerminal};
 use std::net::SocketAddrV4;
 use std::sync::ledger::{Blank, Ledger};

@@ -2,12 +2,12 @@
 ghost use Rattle.std.specs.Prelude.{◌≡◌, ◌≤◌, ◌^◌, length};
 
 use ll_command::Fault;
+use ll_device::Door;
 use ll_hub::{Blanks, Clock, Hub, HubFault, Ledgers, Pass, Sink};
 use ll_item::Settings;
 use ll_link::{Role, serve_links};
 use ll_numbers::Numbers;
 use ll_server::{Config, ConfigFault, Log, Records, Workers};
-use ll_socket::Door;
 use ll_time::UtcTime;
 use std::alloc::Global;
 use std::fs::File;

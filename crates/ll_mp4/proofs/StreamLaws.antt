@@ -4,12 +4,12 @@ use Rattle.std.proofs.lemmas.List.{take-append-le, drop-append-le}
 use Rattle.ll_mp4.specs.Units.{Unit, Open, Refused, Closed, size_limit, unit_of}
 use Rattle.ll_mp4.specs.declared.fault.Fault.{Fault}
 use Rattle.ll_mp4.proofs.MoreLemmas.{Stays, unit_stays}
-use Rattle.ll_split.specs.Laws.{FewAreKept, FrontIsFirst, WholeStreams, after_given}
-use Rattle.ll_split.specs.Past.{Call, Feed, Next, Past, and_piece, before_any, called}
-use Rattle.ll_split.specs.Pieces.{Piece}
-use Rattle.ll_split.specs.Streams.{SplitterValue, Told, and_told, front, front_unit, given, judged, told, told_by, told_in, with_bytes}
-use Rattle.ll_split.specs.declared.known.Known.{Known}
-use Rattle.ll_split.specs.declared.pace.Pace.{Pace}
+use Rattle.ll_mp4.specs.Laws.{FewAreKept, FrontIsFirst, WholeStreams, after_given}
+use Rattle.ll_mp4.specs.Past.{Call, Feed, Next, Past, and_piece, before_any, called}
+use Rattle.ll_mp4.specs.Pieces.{Piece}
+use Rattle.ll_mp4.specs.Streams.{SplitterValue, Told, and_told, front, front_unit, given, judged, told, told_by, told_in, with_bytes}
+use Rattle.ll_mp4.specs.declared.known.Known.{Known}
+use Rattle.ll_mp4.specs.declared.pace.Pace.{Pace}
 
 -- ---- a piece that is given takes a byte at least
 

@@ -1,9 +1,9 @@
 -- What is given out, as contracts see it.
 use Rattle.std.specs.Prelude.{Option, Some, None, Result, Ok, Err}
-use Rattle.ll_split.specs.Pieces as says
+use Rattle.ll_mp4.specs.Pieces as says
 use Rattle.ll_mp4.specs.declared.fault.Fault.{Fault}
-use Rattle.ll_split.specs.declared.pieces.Piece.{Piece}
-use Rattle.ll_split.specs.declared.pieces.Piece.TheVariants.{Init, Media}
+use Rattle.ll_mp4.specs.declared.pieces.Piece.{Piece}
+use Rattle.ll_mp4.specs.declared.pieces.Piece.TheVariants.{Init, Media}
 
 abbrev pub meant : Piece → says.Piece
 meant (Init bytes) = says.Init bytes.now

@@ -5,13 +5,13 @@ use Rattle.std.proofs.lemmas.Nat.{le-div}
 use Rattle.ll_mp4.specs.Units.{Unit, Open, Refused, Closed, unit_of}
 use Rattle.ll_mp4.specs.declared.fault.Fault.{Fault}
 use Rattle.ll_mp4.specs.declared.track.Track.{Track}
-use Rattle.ll_split.specs.Laws.{AreMarked, NeverDrift, NothingIsLost, SegmentsEnd, bytes_of, duration_in, joined, total}
-use Rattle.ll_split.specs.Past.{Call, Feed, Next, Past, and_piece, before_any, called}
-use Rattle.ll_split.specs.Pieces.{Piece, Init, Media}
-use Rattle.ll_split.specs.Streams.{SplitterValue, duration_of, front_unit, given, judged, micros, then_in_segment}
-use Rattle.ll_split.specs.declared.known.Known.{Known}
-use Rattle.ll_split.specs.declared.pace.Pace.{Pace}
-use Rattle.ll_split.proofs.StepLemmas.{IsStep, Began, Went, Steps, steps}
+use Rattle.ll_mp4.specs.Laws.{AreMarked, NeverDrift, NothingIsLost, SegmentsEnd, bytes_of, duration_in, joined, total}
+use Rattle.ll_mp4.specs.Past.{Call, Feed, Next, Past, and_piece, before_any, called}
+use Rattle.ll_mp4.specs.Pieces.{Piece, Init, Media}
+use Rattle.ll_mp4.specs.Streams.{SplitterValue, duration_of, front_unit, given, judged, micros, then_in_segment}
+use Rattle.ll_mp4.specs.declared.known.Known.{Known}
+use Rattle.ll_mp4.specs.declared.pace.Pace.{Pace}
+use Rattle.ll_mp4.proofs.StepLemmas.{IsStep, Began, Went, Steps, steps}
 
 -- ---- what holds after any calls
 

@@ -1,6 +1,7 @@
+use crate::device::{Failed, Writer};
+use crate::peer::{Link, Role, Source};
 use libc::net::{POLLRDHUP, SO_KEEPALIVE, SOL_SOCKET};
 use libc::types::pollfd;
-use ll_device::{Failed, Link, Role, Source, Writer};
 use std::io::{IoSlice, Read, Write};
 use std::net::{Net, SocketAddr, SocketAddrV4, TcpListener, TcpStream};
 use std::os::fd::AsRawFd;

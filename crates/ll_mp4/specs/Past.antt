@@ -1,9 +1,9 @@
 -- All that was done with a splitter, and what it came to.
 use Rattle.std.specs.Prelude.{ℕ, List, [], ◌∷◌, ◌++◌, Option, Some, None, Result, Ok, Err, fold}
 use Rattle.ll_mp4.specs.declared.fault.Fault.{Fault}
-use Rattle.ll_split.specs.Pieces.{Piece}
-use Rattle.ll_split.specs.Streams.{SplitterValue, fresh, front, with_bytes}
-use Rattle.ll_split.specs.declared.pace.Pace.{Pace}
+use Rattle.ll_mp4.specs.Pieces.{Piece}
+use Rattle.ll_mp4.specs.Streams.{SplitterValue, fresh, front, with_bytes}
+use Rattle.ll_mp4.specs.declared.pace.Pace.{Pace}
 
 -- a call that changes a splitter: `feed`, `next`. A `feed` that finds no memory changes nothing, and is left out
 pub data Call : Type 0 where

@@ -1,4 +1,4 @@
-use ll_mp4::Track;
+use crate::track::Track;
 
 /// What is known of a stream.
 #[derive(Clone, Copy, Debug, PartialEq, Eq)]

@@ -8,10 +8,10 @@ use Rattle.ll_mp4.specs.declared.fault.Fault.{Fault}
 use Rattle.ll_mp4.specs.declared.fault.Fault.TheVariants.{TooLong}
 use Rattle.ll_mp4.specs.declared.kind.Kind.TheVariants.{Moof, Moov}
 use Rattle.ll_mp4.specs.declared.track.Track.{Track}
-use Rattle.ll_split.specs.Pieces.{Piece, Init}
-use Rattle.ll_split.specs.Streams.{duration_of, fits, has_some, init_by, init_of, judged, judged_by, media, part_by, part_of}
-use Rattle.ll_split.specs.declared.known.Known.{Known}
-use Rattle.ll_split.specs.declared.pace.Pace.{Pace}
+use Rattle.ll_mp4.specs.Pieces.{Piece, Init}
+use Rattle.ll_mp4.specs.Streams.{duration_of, fits, has_some, init_by, init_of, judged, judged_by, media, part_by, part_of}
+use Rattle.ll_mp4.specs.declared.known.Known.{Known}
+use Rattle.ll_mp4.specs.declared.pace.Pace.{Pace}
 
 pub data IsStep (pace : Pace) (known : Known) (bytes : List ℕ) (j : Piece × Known) : Type 0 where
   -- an initialization section, after which a track is known

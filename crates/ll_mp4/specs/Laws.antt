@@ -2,10 +2,10 @@
 use Rattle.std.specs.Prelude.{◌≡◌, ◌≤◌, ℕ, ◌+◌, List, [], ◌∷◌, ◌++◌, Some, None, Ok, length, ⊤}
 use Rattle.ll_mp4.specs.Units.{size_limit}
 use Rattle.ll_mp4.specs.declared.track.Track.{Track}
-use Rattle.ll_split.specs.Past.{Call, past}
-use Rattle.ll_split.specs.Pieces.{Piece, Init, Media}
-use Rattle.ll_split.specs.Streams.{SplitterValue, Told, and_told, front, is_finished, micros, then_in_segment, told, told_in, with_bytes}
-use Rattle.ll_split.specs.declared.pace.Pace.{Pace}
+use Rattle.ll_mp4.specs.Past.{Call, past}
+use Rattle.ll_mp4.specs.Pieces.{Piece, Init, Media}
+use Rattle.ll_mp4.specs.Streams.{SplitterValue, Told, and_told, front, is_finished, micros, then_in_segment, told, told_in, with_bytes}
+use Rattle.ll_mp4.specs.declared.pace.Pace.{Pace}
 
 -- pieces that were given, and then what is told
 abbrev pub after_given : List Piece → Told → Told

@@ -1,6 +1,6 @@
 //! The laws of splitters and a worked example, the contracts of empty functions.
-ghost use Rattle.ll_split.specs.Laws.{FewAreKept, FrontIsFirst, NeverDrift, NothingIsLost, SegmentsEnd, WholeStreams};
-ghost use Rattle.ll_split.specs.Worked.{WorkedStream};
+ghost use Rattle.ll_mp4.specs.Laws.{FewAreKept, FrontIsFirst, NeverDrift, NothingIsLost, SegmentsEnd, WholeStreams};
+ghost use Rattle.ll_mp4.specs.Worked.{WorkedStream};
 
 /// After any calls, in any order: the pieces that were given and those that are still to come are those of all bytes together, in whatever pieces
 /// they came, and so is the fault that ends them. The bytes of the pieces that were given, joined, are the bytes that came, in their order, but

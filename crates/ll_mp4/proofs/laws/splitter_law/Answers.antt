@@ -1,7 +1,7 @@
 -- The laws of splitters.
-use Rattle.ll_split.proofs.GivenLaws.{never_drift, nothing_is_lost, segments_end}
-use Rattle.ll_split.proofs.StreamLaws.{few_are_kept, front_is_first, whole_streams}
-use Rattle.ll_split.proofs.laws.splitter_law.Goals as goal
+use Rattle.ll_mp4.proofs.GivenLaws.{never_drift, nothing_is_lost, segments_end}
+use Rattle.ll_mp4.proofs.StreamLaws.{few_are_kept, front_is_first, whole_streams}
+use Rattle.ll_mp4.proofs.laws.splitter_law.Goals as goal
 
 pub returns-clause-streams : goal.returns-clause-streams
 returns-clause-streams c = whole_streams

@@ -5,14 +5,14 @@ use native.Mathlib.Nat.{div-zero}
 use Rattle.ll_mp4.specs.Fragments as spec
 use Rattle.ll_mp4.specs.Fragments.{fragment_of, tick_limit}
 use Rattle.ll_mp4.specs.Numbers.{◌>>=◌}
-use Rattle.ll_split.specs.Pieces.{Piece}
+use Rattle.ll_mp4.specs.Pieces.{Piece}
 use Rattle.ll_mp4.specs.Runs.{ended}
-use Rattle.ll_split.specs.Streams.{duration_of, media_by, micros, part_by, part_of}
+use Rattle.ll_mp4.specs.Streams.{duration_of, media_by, micros, part_by, part_of}
 use Rattle.ll_mp4.specs.declared.fault.Fault.{Fault}
 use Rattle.ll_mp4.specs.declared.fault.Fault.TheVariants.{TooLong}
 use Rattle.ll_mp4.specs.declared.fragments.Fragment.{Fragment}
-use Rattle.ll_split.specs.declared.known.Known.{Known}
-use Rattle.ll_split.specs.declared.pace.Pace.{Pace}
+use Rattle.ll_mp4.specs.declared.known.Known.{Known}
+use Rattle.ll_mp4.specs.declared.pace.Pace.{Pace}
 use Rattle.ll_mp4.specs.declared.track.Track.{Track}
 
 pub none_pass : (scale ticks : ℕ) → scale ≡ 0 → micros scale ticks ≡ 0

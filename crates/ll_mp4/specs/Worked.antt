@@ -1,9 +1,9 @@
 -- The definitions at a worked example: a movie whose track has 3 ticks a second, and two parts of a tick each.
 use Rattle.std.specs.Prelude.{◌≡◌, ℕ, List, [], ◌∷◌, ◌++◌, true, false, Some, None}
 use Rattle.ll_mp4.specs.declared.fault.Fault.TheVariants.{BadBox, NoMoov, SecondMoov}
-use Rattle.ll_split.specs.Pieces.{Init, Media}
-use Rattle.ll_split.specs.Streams.{told}
-use Rattle.ll_split.specs.declared.pace.Pace.{Pace}
+use Rattle.ll_mp4.specs.Pieces.{Init, Media}
+use Rattle.ll_mp4.specs.Streams.{told}
+use Rattle.ll_mp4.specs.declared.pace.Pace.{Pace}
 
 -- parts of half a second at most, and segments of half a second
 abbrev pub pace : Pace

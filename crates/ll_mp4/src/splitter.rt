@@ -2,15 +2,18 @@
 ghost use Rattle.std.specs.Prelude.{◌≡◌, MatchResult, None, Some, is_some};
 ghost use Rattle.std.specs.Borrow.{sem};
 ghost use Rattle.std.specs.Io.BufRead.{Rests};
-ghost use Rattle.ll_split.specs.Meaning.{told};
-ghost use Rattle.ll_split.specs.Streams.{end_fault, fresh, front, with_bytes};
-ghost use Rattle.ll_split.specs.contracts.splitter.Splitter.{the_row};
+ghost use Rattle.ll_mp4.specs.Meaning.{told};
+ghost use Rattle.ll_mp4.specs.Streams.{end_fault, fresh, front, with_bytes};
+ghost use Rattle.ll_mp4.specs.contracts.splitter.Splitter.{the_row};
 
+use crate::boxes::only;
+use crate::fault::Fault;
 use crate::judge::judge;
+use crate::kind::Kind;
 use crate::known::Known;
 use crate::pace::Pace;
 use crate::pieces::Piece;
-use ll_mp4::{Fault, Kind, only, read_unit};
+use crate::units::read_unit;
 use std::alloc::Global;
 use std::marker::Model;
 
@@ -26,7 +29,7 @@ pub struct Splitter {
 
 impl Model for Splitter {
     ghost use Rattle.std.specs.Prelude.{◌≤◌, drop, length};
-    ghost use Rattle.ll_split.specs.Streams.{SplitterValue};
+    ghost use Rattle.ll_mp4.specs.Streams.{SplitterValue};
 
     ghost Value = { SplitterValue };
 

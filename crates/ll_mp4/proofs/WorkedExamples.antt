@@ -1,7 +1,7 @@
 -- The worked example, computed.
 use Rattle.std.proofs.Common.{refl}
 use Rattle.ll_mp4.specs.Kinds.{code}
-use Rattle.ll_split.specs.Worked.{WorkedStream}
+use Rattle.ll_mp4.specs.Worked.{WorkedStream}
 
 pub worked : WorkedStream
 unfolding code

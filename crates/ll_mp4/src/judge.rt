@@ -1,14 +1,18 @@
 //! What an initialization section or a part tells.
 ghost use Rattle.std.specs.Prelude.{◌≡◌, MatchOption, MatchResult, Ok, Err, false, true};
 ghost use Rattle.ll_mp4.specs.Boxes.{contents_in};
-ghost use Rattle.ll_split.specs.Meaning.{meant};
-ghost use Rattle.ll_split.specs.Streams as spec;
+ghost use Rattle.ll_mp4.specs.Meaning.{meant};
+ghost use Rattle.ll_mp4.specs.Streams as spec;
 ghost use Rattle.ll_mp4.specs.declared.kind.Kind.TheVariants.{Moof};
 
+use crate::boxes::{next_of, only};
+use crate::fault::Fault;
+use crate::fragments::{Fragment, is_sync, read_fragment};
+use crate::kind::Kind;
 use crate::known::Known;
+use crate::movies::read_track;
 use crate::pace::Pace;
 use crate::pieces::{Part, Piece};
-use ll_mp4::{Fault, Fragment, Kind, is_sync, next_of, only, read_fragment, read_track};
 
 /// What the boxes up to the end of a `moov` or an `mdat` are, and what is known then.
 pub(crate) fn judge<'a>(

@@ -4,13 +4,13 @@ use Rattle.ll_mp4.specs.Boxes.{Contents, Ended, Broken, Content, contents_in, on
 use Rattle.ll_mp4.specs.Units.{Unit, Open, Refused, Closed, unit_of}
 use Rattle.ll_mp4.specs.Numbers.{◌>>=◌}
 use Rattle.ll_mp4.specs.Movies.{track_of}
-use Rattle.ll_split.specs.Pieces.{Piece, Init, Media}
+use Rattle.ll_mp4.specs.Pieces.{Piece, Init, Media}
 use Rattle.ll_mp4.specs.Fragments.{Fragment, fragment_of, is_sync, tick_limit}
 use Rattle.ll_mp4.specs.declared.fault.Fault.{Fault}
 use Rattle.ll_mp4.specs.declared.fault.Fault.TheVariants.{BadBox, NoMoov, SecondMoov, Missing, TooLong, Cut}
 use Rattle.ll_mp4.specs.declared.kind.Kind.TheVariants.{Moov, Moof, Mdat}
-use Rattle.ll_split.specs.declared.known.Known.{Known}
-use Rattle.ll_split.specs.declared.pace.Pace.{Pace}
+use Rattle.ll_mp4.specs.declared.known.Known.{Known}
+use Rattle.ll_mp4.specs.declared.pace.Pace.{Pace}
 use Rattle.ll_mp4.specs.declared.track.Track.{Track}
 
 -- ---- what a unit is

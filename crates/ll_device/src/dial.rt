@@ -1,5 +1,5 @@
 use crate::door::Socket;
-use ll_device::Source;
+use crate::peer::Source;
 use std::net::{Net, SocketAddr, SocketAddrV4, TcpListener, TcpStream};
 use std::thread;
 use std::time::{Clock, Duration};

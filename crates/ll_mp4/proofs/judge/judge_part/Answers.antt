@@ -1,8 +1,8 @@
 -- A part whose fragment is refused.
 use Rattle.std.proofs.Common.{◌∙◌, ap, sym}
-use Rattle.ll_split.specs.Streams.{part_of}
-use Rattle.ll_split.proofs.JudgeLemmas.{part_failed}
-use Rattle.ll_split.proofs.judge.judge_part.Goals as goal
+use Rattle.ll_mp4.specs.Streams.{part_of}
+use Rattle.ll_mp4.proofs.JudgeLemmas.{part_failed}
+use Rattle.ll_mp4.proofs.judge.judge_part.Goals as goal
 
 pub returns-in-Err : goal.returns-in-Err
 returns-in-Err c =

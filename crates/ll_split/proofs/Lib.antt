@@ -1,5 +1,0 @@
-mod GivenLaws
-mod JudgeLemmas
-mod StepLemmas
-pub mod StreamLaws
-mod WorkedExamples

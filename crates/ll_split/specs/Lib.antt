@@ -1,6 +1,0 @@
-pub mod Laws
-pub mod Meaning
-pub mod Past
-pub mod Pieces
-pub mod Streams
-pub mod Worked
