@@ -1,8 +1,8 @@
 -- Who leaves leaves the others below.
 use Rattle.std.proofs.Common.{not, subst, sym}
 use Rattle.ll_verdict.specs.Waiting.{AreBelow, is_ready_at}
-use Rattle.ll_book_tests.proofs.BelowLemmas.{below_filter}
-use Rattle.ll_book_tests.proofs.kept.Kept.take.Goals as goal
+use Rattle.ll_request_tests.proofs.BelowLemmas.{below_filter}
+use Rattle.ll_request_tests.proofs.kept.Kept.take.Goals as goal
 
 pub invariant_of-self : goal.invariant_of-self
 invariant_of-self c = (

@@ -1,8 +1,8 @@
 -- The new ticket is below the next one.
 use Rattle.std.proofs.Common.{◌+◌, refl, subst, sym, arith}
 use Rattle.ll_verdict.specs.Waiting.{AreBelow}
-use Rattle.ll_book_tests.proofs.BelowLemmas.{below_one}
-use Rattle.ll_book_tests.proofs.kept.Kept.park.Goals as goal
+use Rattle.ll_request_tests.proofs.BelowLemmas.{below_one}
+use Rattle.ll_request_tests.proofs.kept.Kept.park.Goals as goal
 
 pub invariant_of-self-2 : goal.invariant_of-self-2
 invariant_of-self-2 c = (

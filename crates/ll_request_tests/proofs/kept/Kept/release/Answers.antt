@@ -1,8 +1,8 @@
 -- A release changes no ticket.
 use Rattle.std.proofs.Common.{◌≡◌, subst, sym}
 use Rattle.ll_book.specs.Release.{released}
-use Rattle.ll_book_tests.proofs.BelowLemmas.{alone, below_released}
-use Rattle.ll_book_tests.proofs.kept.Kept.release.Goals as goal
+use Rattle.ll_request_tests.proofs.BelowLemmas.{alone, below_released}
+use Rattle.ll_request_tests.proofs.kept.Kept.release.Goals as goal
 
 pub invariant_of-self : goal.invariant_of-self
 invariant_of-self c = (

@@ -1,4 +1,5 @@
 //! A book against a plain list of who waits.
+use crate::dice::Dice;
 use crate::kept::{Kept, pages};
 use ll_book::{Book, Pages, Release};
 use ll_directive::Awaited;
@@ -17,38 +18,21 @@ struct Row {
     reply: &'static str,
 }
 
-/// Numbers that look random, and are the same each time.
-#[derive(Drop)]
-struct Numbers {
-    state: u64,
+/// What a request may await.
+fn awaited(dice: &mut Dice) -> Awaited {
+    match dice.roll(5) {
+        0 => Awaited::Nothing,
+        1 | 2 => Awaited::Segment(dice.roll(4)),
+        _ => Awaited::Part(dice.roll(4), dice.roll(3)),
+    }
 }
 
-impl Numbers {
-    /// One of so many.
-    fn below(&mut self, end: u64) -> u64 {
-        self.state = self
-            .state
-            .wrapping_mul(6_364_136_223_846_793_005)
-            .wrapping_add(1_442_695_040_888_963_407);
-        (self.state >> 33).checked_rem(end).unwrap_or(0)
-    }
-
-    /// What a request may await.
-    fn awaited(&mut self) -> Awaited {
-        match self.below(5) {
-            0 => Awaited::Nothing,
-            1 | 2 => Awaited::Segment(self.below(4)),
-            _ => Awaited::Part(self.below(4), self.below(3)),
-        }
-    }
-
-    /// A release of one of two renditions.
-    fn release(&mut self, rendition: usize) -> Release {
-        match self.below(9) {
-            0 => Release::All(rendition),
-            1..=3 => Release::Segment(rendition, self.below(4)),
-            _ => Release::Part(rendition, self.below(4), self.below(3)),
-        }
+/// A release of one of two renditions.
+fn release(dice: &mut Dice, rendition: usize) -> Release {
+    match dice.roll(9) {
+        0 => Release::All(rendition),
+        1..=3 => Release::Segment(rendition, dice.roll(4)),
+        _ => Release::Part(rendition, dice.roll(4), dice.roll(3)),
     }
 }
 
@@ -178,20 +162,20 @@ impl Both {
     }
 
     /// One event: whether the book tells what the list tells.
-    fn step(&mut self, alloc: Global, numbers: &mut Numbers) -> Result<bool, AllocError> {
-        let rendition = numbers.below(2) as usize;
-        let ticket = numbers.below(400);
-        match numbers.below(12) {
+    fn step(&mut self, alloc: Global, dice: &mut Dice) -> Result<bool, AllocError> {
+        let rendition = dice.roll(2) as usize;
+        let ticket = dice.roll(400);
+        match dice.roll(12) {
             0..=6 => {
-                let (awaited, deadline) = (numbers.awaited(), numbers.below(1_000));
+                let (awaited, deadline) = (awaited(dice), dice.roll(1_000));
                 self.park(rendition, awaited, deadline)?;
                 Ok(true)
             }
             7 => {
-                let which = numbers.release(rendition);
+                let which = release(dice, rendition);
                 self.release(alloc, rendition, which)
             }
-            8 => Ok(self.expire(numbers.below(300))),
+            8 => Ok(self.expire(dice.roll(300))),
             9 | 10 => Ok(self.take(ticket)),
             _ => Ok(self.drop_ticket(ticket)),
         }
@@ -227,10 +211,10 @@ fn list_state(rows: &[Row], ticket: u64) -> State {
 }
 
 fn check_events(rt: &impl Abort, alloc: Global, both: &mut Both) -> Result<(), AllocError> {
-    let mut numbers = Numbers { state: 7 };
+    let mut dice = Dice::new(7);
     for _ in 0..2_000 {
-        let is_same = both.step(alloc, &mut numbers)?;
-        let ticket = numbers.below(400);
+        let is_same = both.step(alloc, &mut dice)?;
+        let ticket = dice.roll(400);
         let told = book_state(both.kept.book(), ticket);
         let is_same = is_same && told == list_state(&both.rows, ticket);
         assert!(rt; is_same, "at {ticket}: {told:?}");
