@@ -205,7 +205,7 @@ fn add_told(
     question: &str,
     input: &str,
 ) -> Result<(), AllocError> {
-    let rendition = number(input, 1);
+    let rendition = number(input, 1) as usize;
     match question {
         "page" => add_page_before(alloc, told, channel, rendition, input),
         "shared" => add_shared(alloc, told, channel, rendition),

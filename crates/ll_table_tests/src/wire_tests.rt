@@ -99,7 +99,7 @@ GET / | 8166 | a |  HTTP/1.1\r␊Host: a\r␊\r␊ => Bad(HeadTooLarge)
 GET / | 8165 | a |  HTTP/1.1\r␊Host: a\r␊\r␊ => Whole(8192, Request { from: 4, to: 8170, keep: true })";
 
 fn add_limit(alloc: Global, told: &mut String, input: &str) -> Result<(), AllocError> {
-    let middle = column(input, 2).repeat(alloc, number(input, 1))?;
+    let middle = column(input, 2).repeat(alloc, number(input, 1) as usize)?;
     let text = format!(in alloc; "{}{middle}{}", column(input, 0), column(input, 3))?;
     write!(told, "{:?}", next_head(text.as_str().as_bytes()))
 }

@@ -16,7 +16,7 @@ pub(crate) fn add_answer(
         "both ways" => add_both_ways(alloc, told, input),
         "cut" => add_cuts(alloc, told, input),
         "held" => add_held(alloc, told, input),
-        _ => add_sent(alloc, told, number(input, 0)),
+        _ => add_sent(alloc, told, number(input, 0) as usize),
     }
 }
 
@@ -149,7 +149,7 @@ GET /a/v/live.m3u8 HTTP/1.0␊␊ | 1 | 16384 => a held  none 431- ";
 
 fn add_held(alloc: Global, notes: &mut String, input: &str) -> Result<(), AllocError> {
     let mut session = Session::new(alloc);
-    let counts = [number(input, 1), number(input, 2)];
+    let counts = [number(input, 1) as usize, number(input, 2) as usize];
     let done = hold(alloc, &mut session, notes, column(input, 0), counts);
     session.end();
     done

@@ -34,7 +34,7 @@ impl Joined {
 }
 
 pub(crate) fn add_answer(alloc: Global, told: &mut String, input: &str) -> Result<(), AllocError> {
-    let (rendition, keeps) = (number(input, 1), number(input, 2));
+    let (rendition, keeps) = (number(input, 1) as usize, number(input, 2) as usize);
     match Channel::named(alloc, column(input, 0)) {
         Ok((channel, items)) => {
             let all = join(alloc, channel, items, rendition, keeps)?;

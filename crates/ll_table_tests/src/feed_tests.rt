@@ -143,7 +143,7 @@ pub(crate) const LONG: &str = "feed: long
 9000 |  x␊d e => TooLong; ";
 
 fn add_long(alloc: Global, told: &mut String, input: &str) -> Result<(), AllocError> {
-    let line = "x".repeat(alloc, number(input, 0).saturating_sub(2))?;
+    let line = "x".repeat(alloc, number(input, 0).saturating_sub(2) as usize)?;
     let text = format!(in alloc; "c {line}{}", column(input, 1))?;
     add_each_way(alloc, told, text.as_str().as_bytes())
 }
@@ -158,7 +158,7 @@ pub(crate) const MEDIA: &str = "feed: media
 1048577 |  => MediaTooLong; ";
 
 fn add_media(alloc: Global, told: &mut String, input: &str) -> Result<(), AllocError> {
-    let count = number(input, 0);
+    let count = number(input, 0) as usize;
     let media = "x".repeat(alloc, count)?;
     let text = format!(in alloc; "c part hi 1 f {count}\n{media}{}", column(input, 1))?;
     add_lines(alloc, told, text.as_str().as_bytes(), 65_536)?;

@@ -1,9 +1,10 @@
 //! Tables of tests. A table is a text: its title, and then a row on each line, which has what is asked, an arrow, and what must come of
-//! it. The title says which functions tell that, a group and one of it. Columns before the arrow are parted by bars. A sign ␊ stands for a line feed. Blanks count. A row that begins
-//! with `begin` makes the bench anew, of these settings.
+//! it. The title says which functions tell that, a group and one of it. Columns before the arrow are parted by bars. A sign ␊ stands for
+//! a line feed. Blanks count. A row that begins with `begin` makes the bench anew, of these settings.
 use crate::{
-    attr_tests, attribute_tests, directive_tests, fault_tests, item_tests, range_tests, time_tests,
-    want_tests, window_tests,
+    attr_tests, attribute_tests, directive_tests, fault_tests, feed_tests, item_tests, page_tests,
+    piece_tests, range_tests, read_fault_tests, read_table_tests, read_tests, session_tests,
+    time_tests, want_tests, window_tests, wire_tests,
 };
 use ll_item::Settings;
 use ll_range::Ranges;
@@ -38,7 +39,7 @@ impl Bench {
     }
 }
 
-const TABLES: [&str; 40] = [
+const TABLES: [&str; 72] = [
     attr_tests::WRITTEN,
     attr_tests::READ,
     attr_tests::NUMBERS,
@@ -79,6 +80,38 @@ const TABLES: [&str; 40] = [
     directive_tests::NAMES,
     directive_tests::MANY,
     fault_tests::NAMES,
+    page_tests::VIEWS,
+    page_tests::PAGES,
+    page_tests::SHARED,
+    page_tests::OF_ONE,
+    piece_tests::CHANNELS,
+    read_tests::OF_FULL,
+    read_tests::OF_DELTA,
+    read_tests::NUMBERS,
+    read_tests::DURATIONS,
+    read_tests::TEXTS,
+    read_table_tests::HEADERS,
+    read_table_tests::EARLY,
+    read_table_tests::SEGMENTS,
+    read_table_tests::AROUND,
+    read_table_tests::UNENDED,
+    read_table_tests::BYTES,
+    read_fault_tests::FAULTS,
+    feed_tests::STREAMS,
+    feed_tests::LONG,
+    feed_tests::MEDIA,
+    feed_tests::PIECES,
+    feed_tests::REPLIES,
+    session_tests::TALKS,
+    session_tests::CUT,
+    session_tests::HELD,
+    session_tests::SENT,
+    wire_tests::HEADS,
+    wire_tests::LIMITS,
+    wire_tests::TARGETS,
+    wire_tests::LENGTHS,
+    wire_tests::WHOLE,
+    wire_tests::PLAYLISTS,
 ];
 
 #[test]
@@ -105,10 +138,23 @@ fn check_rows(
     rows: &str,
 ) -> Result<(), AllocError> {
     for row in rows.split('\n') {
-        let (input, answer) = row.rsplit_once(" => ").unwrap_or((row, "an arrow"));
-        let told = told(alloc, bench, title, input)?;
-        compare(rt, row, told.as_str(), answer);
+        let row = row.replace(alloc, "␊", "\n")?;
+        check_row(rt, alloc, bench, title, row.as_str())?;
     }
+    Ok(())
+}
+
+/// What is told of what stands before the arrow of a row stands after it.
+fn check_row(
+    rt: &impl Abort,
+    alloc: Global,
+    bench: &mut Bench,
+    title: &str,
+    row: &str,
+) -> Result<(), AllocError> {
+    let (input, answer) = row.rsplit_once(" => ").unwrap_or((row, "an arrow"));
+    let told = told(alloc, bench, title, input)?;
+    compare(rt, row, told.as_str(), answer);
     Ok(())
 }
 
@@ -118,11 +164,10 @@ fn compare(rt: &impl Abort, row: &str, told: &str, answer: &str) {
 
 /// What is told of what stands before the arrow of a row.
 fn told(alloc: Global, bench: &mut Bench, title: &str, input: &str) -> Result<String, AllocError> {
-    let input = input.replace(alloc, "␊", "\n")?;
     let mut told = String::new(alloc);
     match input.strip_prefix("begin ") {
         Some(line) => begin(alloc, bench, &mut told, line)?,
-        None => add_answer(alloc, bench, &mut told, title, input.as_str())?,
+        None => add_answer(alloc, bench, &mut told, title, input)?,
     }
     Ok(told)
 }
@@ -160,7 +205,16 @@ fn add_answer(
         "window" => window_tests::add_answer(alloc, bench, told, question, input),
         "want" => want_tests::add_answer(alloc, bench, told, question, input),
         "directive" => directive_tests::add_answer(alloc, told, question, input),
-        _ => fault_tests::add_answer(told, input),
+        "fault" => fault_tests::add_answer(told, input),
+        "page" => page_tests::add_answer(alloc, told, question, input),
+        "piece" => piece_tests::add_answer(alloc, told, input),
+        "read" => read_tests::add_answer(alloc, told, question, input),
+        "lines" => read_table_tests::add_answer(alloc, told, question, input),
+        "read fault" => read_fault_tests::add_answer(told, input),
+        "feed" => feed_tests::add_answer(alloc, told, question, input),
+        "session" => session_tests::add_answer(alloc, told, question, input),
+        "wire" => wire_tests::add_answer(alloc, told, question, input),
+        _ => told.push_str("no such group"),
     }
 }
 
@@ -172,4 +226,13 @@ pub(crate) fn column(input: &str, place: usize) -> &str {
 /// The number of a column. None stands for a word that is no number, and 999 is none of these rows.
 pub(crate) fn number(input: &str, place: usize) -> u64 {
     column(input, place).parse::<u64>().unwrap_or(999)
+}
+
+/// The bytes of a text, of which each character is one byte, by its number.
+pub(crate) fn bytes(alloc: Global, text: &str) -> Result<Vec<u8>, AllocError> {
+    let mut bytes = Vec::new(alloc);
+    for letter in text.chars() {
+        bytes.push(u8::try_from(u32::from(letter)).unwrap_or(b'?'))?;
+    }
+    Ok(bytes)
 }

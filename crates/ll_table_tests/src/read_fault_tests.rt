@@ -1,4 +1,4 @@
-//! What each fault is called, which no contract says of those that `thiserror` spells.
+//! What each fault of reading playlists is called, which no contract says of those that `thiserror` spells.
 use ll_read::ReadFault;
 use std::alloc::AllocError;
 
@@ -10,7 +10,7 @@ pub(crate) fn add_answer(told: &mut String, question: &str) -> Result<(), AllocE
     }
 }
 
-pub(crate) const FAULTS: &str = "fault: name
+pub(crate) const FAULTS: &str = "read fault: name
 not a playlist => NotPlaylist
 a bad line => BadLine 3
 memory => Memory";
