@@ -1,19 +1,18 @@
 //! Connections over sockets of one machine.
-ghost use Rattle.std.specs.Prelude.{◌≡◌, None, if◌then◌else◌};
+ghost use Rattle.std.specs.Prelude.{◌≡◌};
 
 use crate::hubs::{Stopped, finished, hub_of_one};
 use crate::rows::same;
 use crate::wires::{ANSWER, Dropped, GET, LINE, Open, text_of};
-use ll_device::{Failed, Writer};
+use ll_device::{Door, Socket};
 use ll_hub::{Blanks, Hub, Ledgers, Pass};
-use ll_link::{Link, Role, Source, serve_links};
+use ll_link::{Role, Source, serve_links};
 use std::alloc::Global;
 use std::io::{Read, Write};
 use std::marker::Brand;
-use std::net::{Net, Shutdown, SocketAddr, TcpListener, TcpStream};
+use std::net::{Ipv4Addr, Net, Shutdown, SocketAddr, SocketAddrV4, TcpListener, TcpStream};
 use std::process::Abort;
 use std::sync::Wait;
-use std::test::Fail;
 use std::thread::Threads;
 use std::time::{Clock, Duration};
 use std::{io, thread};
@@ -21,76 +20,30 @@ use std::{io, thread};
 /// How long a read may take, in seconds.
 const LIMIT: u64 = 20;
 
-/// A connection over a socket. Once a read or a write has failed, it gives no more bytes and takes all without sending them.
+/// A door through which one connection comes in.
 #[derive(Drop)]
-struct Socket {
-    stream: TcpStream,
-    failed: bool,
-}
-
-impl Writer for Socket {
-    ghost written = { λ s. None };
-
-    ghost failures = { λ s. if s.failed then 1 else 0 };
-
-    fn write(&mut self, text: &[u8]) -> Result<usize, Failed> {
-        if self.failed {
-            return Ok(text.len());
-        }
-        let mut stream = &self.stream;
-        match stream.write(text) {
-            Ok(count) if count > 0 || text.is_empty() => Ok(count),
-            _ => {
-                self.failed = true;
-                Err(Failed)
-            }
-        }
-    }
-}
-
-impl Link for Socket {
-    fn read(&mut self, buf: &mut [u8]) -> Result<usize, Failed> {
-        if self.failed {
-            return Ok(0);
-        }
-        let mut stream = &self.stream;
-        match stream.read(buf) {
-            Ok(count) => Ok(count),
-            Err(_) => {
-                self.failed = true;
-                Err(Failed)
-            }
-        }
-    }
-
-    fn gone(&mut self) -> bool {
-        false
-    }
-}
-
-/// Where one connection comes in.
-#[derive(Drop)]
-struct Door {
-    listener: TcpListener,
+struct One<'a, R> {
+    door: Door<'a, R>,
     left: bool,
 }
 
-impl Door {
+impl<'a, R: Net<Listener = TcpListener, Stream = TcpStream> + Abort> One<'a, R> {
     /// Listens at a free port.
-    fn open<R: Net<Listener = TcpListener, Stream = TcpStream>>(rt: &R) -> io::Result<Door> {
-        Ok(Door {
-            listener: TcpListener::bind(rt, "127.0.0.1:0")?,
+    fn open(rt: &'a R, role: Role) -> One<'a, R> {
+        let address = SocketAddrV4::new(Ipv4Addr::LOCALHOST, 0);
+        One {
+            door: Door::open(rt, address, role).expect(rt, "a door"),
             left: true,
-        })
+        }
     }
 
     /// The address that it listens at.
-    fn address(&self) -> io::Result<SocketAddr> {
-        self.listener.local_addr()
+    fn address(&self, rt: &R) -> SocketAddr {
+        self.door.address().expect(rt, "its address")
     }
 }
 
-impl Source for Door {
+impl<R: Net<Listener = TcpListener, Stream = TcpStream> + Eprint + Clock> Source for One<'_, R> {
     type Peer = Socket;
 
     fn next(&mut self) -> Option<Socket> {
@@ -98,14 +51,7 @@ impl Source for Door {
             return None;
         }
         self.left = false;
-        let (stream, _) = self.listener.accept().ok()?;
-        stream
-            .set_read_timeout(Some(Duration::from_secs(LIMIT)))
-            .ok()?;
-        Some(Socket {
-            stream,
-            failed: false,
-        })
+        self.door.next()
     }
 }
 
@@ -170,13 +116,10 @@ fn talk<R: Net<Listener = TcpListener, Stream = TcpStream> + Abort>(
 }
 
 /// Serves those who come in by a door with one worker: its pass, where memory was found.
-fn admit<L: Ledgers + Send + Sync, R: Threads + Wait + Clock + Sync>(
-    rt: &R,
-    alloc: Global,
-    hub: &Hub<L>,
-    role: Role,
-    door: &mut Door,
-) -> Vec<Pass<L>> {
+fn admit<
+    L: Ledgers + Send + Sync,
+    R: Net<Listener = TcpListener, Stream = TcpStream> + Threads + Wait + Clock + Eprint + Sync,
+>(rt: &R, alloc: Global, hub: &Hub<L>, role: Role, door: &mut One<'_, R>) -> Vec<Pass<L>> {
     match serve_links(rt, alloc, role, door, 1, &Stopped, &Open, &Dropped, hub) {
         Ok(passes) => passes,
         Err((passes, _fault)) => passes,
@@ -184,12 +127,21 @@ fn admit<L: Ledgers + Send + Sync, R: Threads + Wait + Clock + Sync>(
 }
 
 /// Serves one publisher and one player: the workers' passes.
-fn serve_both<L: Ledgers + Send + Sync, R: Threads + Wait + Clock + Abort + Sync>(
+fn serve_both<
+    L: Ledgers + Send + Sync,
+    R: Net<Listener = TcpListener, Stream = TcpStream>
+        + Threads
+        + Wait
+        + Clock
+        + Eprint
+        + Abort
+        + Sync,
+>(
     rt: &R,
     alloc: Global,
     hub: &Hub<L>,
-    publishers: &mut Door,
-    players: &mut Door,
+    publishers: &mut One<'_, R>,
+    players: &mut One<'_, R>,
 ) -> Vec<Pass<L>> {
     let (mut passes, more) = thread::join(
         rt,
@@ -205,38 +157,32 @@ fn serve_both<L: Ledgers + Send + Sync, R: Threads + Wait + Clock + Abort + Sync
 /// Serves one publisher and one player, while they talk: the totals.
 fn serve_sockets<
     L: Ledgers + Send + Sync,
-    R: Net<Listener = TcpListener, Stream = TcpStream> + Threads + Wait + Clock + Abort + Sync,
->(
-    rt: &R,
-    alloc: Global,
-    blanks: Blanks,
-    publishers: &mut Door,
-    players: &mut Door,
-) -> io::Result<String>
+    R: Net<Listener = TcpListener, Stream = TcpStream>
+        + Threads
+        + Wait
+        + Clock
+        + Eprint
+        + Abort
+        + Sync,
+>(rt: &R, alloc: Global, blanks: Blanks) -> String
     requires names { blanks ≡ L.names }
     requires channels { L.channels ≡ 1 }
 {
-    let (lines, requests) = (publishers.address()?, players.address()?);
+    let mut publishers = One::open(rt, Role::Publisher);
+    let mut players = One::open(rt, Role::Player);
+    let (lines, requests) = (publishers.address(rt), players.address(rt));
     let hub: Hub<L> = hub_of_one(rt, alloc, blanks);
     let ((), passes) = thread::join(
         rt,
         || talk(rt, alloc, lines, requests),
-        || serve_both(rt, alloc, &hub, publishers, players),
+        || serve_both(rt, alloc, &hub, &mut publishers, &mut players),
     );
-    Ok(finished(rt, alloc, hub, passes))
+    finished(rt, alloc, hub, passes)
 }
 
 /// What a publisher announces over one connection, a player gets over another.
 #[test]
-fn sockets_are_served(rt: HostRuntime) -> Result<(), Fail> {
-    let (mut publishers, mut players) = (Door::open(&rt)?, Door::open(&rt)?);
-    let totals = serve_sockets::<Brand, HostRuntime>(
-        &rt,
-        rt.alloc(),
-        Blanks::new(),
-        &mut publishers,
-        &mut players,
-    )?;
+fn sockets_are_served(rt: HostRuntime) {
+    let totals = serve_sockets::<Brand, HostRuntime>(&rt, rt.alloc(), Blanks::new());
     same(&rt, "the totals", totals.as_str(), "1 1 0;");
-    Ok(())
 }
