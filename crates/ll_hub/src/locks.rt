@@ -23,10 +23,14 @@ use std::thread;
 use std::time::{Clock, Duration, Instant};
 
 /// How often a lock that is held is tried before its caller sleeps until it is free. A section is much shorter than falling asleep and being woken.
-const TRIES: u64 = 10;
+const TRIES: usize = 40;
+
+/// How often of these it is tried at once: longer than a section takes, unless the system has stopped who is in it. After that others run first
+/// whom the system would let.
+const AT_ONCE: usize = 32;
 
 /// How many of those who wait are woken where replies come. Each of them wakes another, so few at a time ask for the lock.
-const WOKEN: usize = 8;
+const WOKEN: usize = 64;
 
 /// One channel's lock, and what wakes those who wait for replies.
 pub(crate) struct ChannelLock<L: Ledgers> {
@@ -212,13 +216,15 @@ impl<L: Ledgers> ChannelLock<L> {
         }
     }
 
-    /// Takes the lock. While it is held, others whom the system would let run do so first.
+    /// Takes the lock.
     pub(crate) fn lock<R: Wait>(&self, rt: &R) -> MutexGuard<'_, Counted<L>> {
-        for _ in 0..TRIES {
+        for tries in 0..TRIES {
             if let Some(state) = self.state.try_lock() {
                 return state;
             }
-            thread::yield_now();
+            if tries >= AT_ONCE {
+                thread::yield_now();
+            }
         }
         self.state.lock(rt)
     }
