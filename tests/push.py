@@ -4,6 +4,7 @@
 push.py input NAME              writes the input of this name
 push.py messages NAME           writes the messages of that input, for cam and hi
 push.py slowly NAME             writes the input with a pause before each fragment
+push.py begin NAME COUNT        writes the beginning of the input, up to the end of so many parts
 push.py damaged SEED            writes the input `many` with some bytes changed, or cut off
 push.py peer FILE RECORD PLAN   is an origin: writes its port to FILE, and to RECORD what it took. PLAN has for each connection, separated by `/`, what becomes of each
                                 message, separated by `,`: `ok`; `drop` takes it and hangs up; `half` takes some of it and hangs up; `close` hangs up before it; else the answer
@@ -157,14 +158,14 @@ def serve(link, plan, record):
 
 def peer(file, name, plan):
     listener = socket.create_server(('127.0.0.1', 0))
-    with open(name, 'wb') as record:
+    # (what is taken is seen there at once)
+    with open(name, 'wb', buffering=0) as record:
         with open(file, 'w') as told:
             print(listener.getsockname()[1], file=told)
         for each in plan.split('/'):
             link, _ = listener.accept()
             with link:
                 serve(link, each.split(','), record)
-            record.flush()
 
 
 def terminal(words):
@@ -223,6 +224,8 @@ elif command == 'slowly':
     except BrokenPipeError:
         # (the program has ended before its input)
         sys.exit(1)
+elif command == 'begin':
+    sys.stdout.buffer.write(b''.join(pieces(words[0])[:1 + int(words[1])]))
 elif command == 'damaged':
     sys.stdout.buffer.write(damaged(int(words[0])))
 elif command == 'peer':

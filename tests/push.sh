@@ -77,14 +77,24 @@ hangs_up() {
     said_lost "$2" && took two
 }
 
-# No byte is sent after a refusal, and no message twice.
-stops_after() {
-    local messages=$4
-    to_peer "$1" two "$2" "$3" || return 1
+# has_taken COUNT: the origin has taken so many messages.
+has_taken() {
+    local count
+    count=$(grep -a -c '^cam ' "$room/taken")
+    [ "$count" = "$1" ] || { echo "the origin has taken $count messages"; return 1; }
+}
+
+# took_first COUNT NAME: what the origin took until it ended are so many messages, the first of an input.
+took_first() {
     wait "${servers[-1]}"
     servers=()
-    make messages two >"$room/all"
-    head -c "$(wc -c <"$room/taken")" "$room/all" | cmp - "$room/taken" && [ "$(grep -a -c '^cam ' "$room/taken")" = "$messages" ]
+    make messages "$2" >"$room/all"
+    head -c "$(wc -c <"$room/taken")" "$room/all" | cmp - "$room/taken" && has_taken "$1"
+}
+
+# No byte is sent after a refusal, and no message twice.
+stops_after() {
+    to_peer "$1" two "$2" "$3" && took_first "$4" two
 }
 
 no_server() {
@@ -142,6 +152,114 @@ all_damaged() {
     for ((seed = 1; seed <= 100; seed++)); do
         damaged "$seed" || { echo "seed $seed"; return 1; }
     done
+}
+
+# comes COMMAND WORD..: waits until this command succeeds.
+comes() {
+    local tries
+    for ((tries = 0; tries < 200; tries++)); do
+        "$@" >/dev/null 2>&1 && return 0
+        sleep 0.05
+    done
+    "$@"
+}
+
+# lists WORD..: the playlist of hi has these, in order: sections and parts, segments with their seconds, the next part after `then`, breaks and the end.
+lists() {
+    local words
+    words=$(ask /cam/hi/live.m3u8 | tr -d '\r' | sed -nE 's/^#EXT-X-MAP:URI="(.*)\.mp4"$/\1/p; s/^#EXT-X-PART:.*URI="([^"]*)\.m4s".*$/\1/p; s/^#EXT-X-PRELOAD-HINT:TYPE=PART,URI="(.*)\.m4s"$/then \1/p
+        s/^#EXT-X-(DISCONTINUITY|ENDLIST)$/\1/p; /^#EXTINF:/{N; s/^#EXTINF:(.*),\n(.*)\.m4s$/\2=\1/p}')
+    words=${words//$'\n'/ }
+    [ "$words" = "$*" ] || { echo "the playlist has $words"; return 1; }
+}
+
+# begin ADDRESS COUNT: starts a push, `pushing`. Its input is so many parts of `many` and the next one but for its last byte, and then neither goes on nor ends.
+begin() {
+    local pipe
+    rm -f "$room/pipe"
+    mkfifo "$room/pipe" || return 1
+    exec {pipe}<>"$room/pipe"
+    make begin many "$(($2 + 1))" | head -c -1 >&"$pipe"
+    # (what a script starts in the background ignores SIGINT otherwise)
+    env --default-signal=INT "$program" push "$1" cam hi part=500000 segment=2000000 <&"$pipe" >"$room/stdout" 2>"$room/stderr" &
+    pushing=$!
+    servers+=("$pushing")
+    exec {pipe}>&-
+}
+
+# end_by SIGNAL: that push gets this signal, and ends by it and tells nothing.
+end_by() {
+    local tries status
+    kill -s "$1" "$pushing"
+    for ((tries = 0; tries < 200; tries++)); do
+        kill -0 "$pushing" 2>/dev/null || break
+        sleep 0.05
+    done
+    kill -s KILL "$pushing" 2>/dev/null
+    wait "$pushing"
+    status=$?
+    unset 'servers[-1]'
+    if [ "$status" != $((128 + $(kill -l "$1"))) ] || [ -s "$room/stdout" ] || [ -s "$room/stderr" ]; then
+        echo "status $status: $(<"$room/stderr")"
+        return 1
+    fi
+}
+
+# What is listed of a push that is stopped after a segment, and after two parts of the next one.
+four=(init0 s0.{0..3} s0=2.000000 then s1.0)
+six=(init0 s0.{0..3} s0=2.000000 s1.{0,1} then s1.2)
+
+# stopped SIGNAL CHANNEL COUNT WORD..: a push gets this signal after so many parts, amid its input. They are listed before and after it, without an end.
+stopped() {
+    serve "$program" 'workers 4' "$2" && begin "127.0.0.1:$publish_port" "$3" && comes lists "${@:4}" && end_by "$1" && lists "${@:4}"
+}
+
+# Nothing is sent after the signal.
+sends_no_end() {
+    peer ok,ok,ok,ok,ok,ok,ok && begin "$peer" 6 && comes has_taken 7 && end_by "$1" && took_first 7 many
+}
+
+# again STATUS FAULT WORD..: a further push, of the whole input, ends so, and then this is listed.
+again() {
+    make input many >"$room/input"
+    pushes "$1" "$2" "127.0.0.1:$publish_port" <"$room/input" && lists "${@:3}"
+}
+
+# A further push goes on in the segment that is open.
+goes_on_in_segment() {
+    stopped TERM "$cam" 6 "${six[@]}" &&
+        again 0 '' init0 s0.{0..3} s0=2.000000 s1.{0..5} s1=3.000000 s2.{0..3} s2=2.000000 s3.{0,1} s3=1.000000 ENDLIST
+}
+
+# Where the channel's target duration isn't enough for that, it is refused.
+fills_segment() {
+    stopped TERM "$short" 6 "${six[@]}" && again 3 'no 4 TooLong' init0 s0.{0..3} s0=2.000000 s1.{0..3} then s1.4
+}
+
+# After what docs/OPERATING.md says to do by hand it begins a segment of its own, after a break. Players get all of both pushes.
+begins_anew_amid() {
+    stopped TERM "$short" 6 "${six[@]}" && publish 'cam break hi' 'no 5 OpenSegment' && publish 'cam part hi 1 f' 'ok 8' && publish 'cam break hi' 'ok 9' &&
+        again 0 '' init0 s0=2.000000 s1.{0..2} s1=1.000001 DISCONTINUITY init1 s2.{0..3} s2=2.000000 s3.{0..3} s3=2.000000 s4.{0,1} s4=1.000000 ENDLIST &&
+        plays_both 6
+}
+
+# So it does where no segment is open; there the break is accepted at once.
+begins_anew_between() {
+    stopped INT "$short" 4 "${four[@]}" && publish 'cam break hi' 'ok 6' &&
+        again 0 '' init0 s0.{0..3} s0=2.000000 DISCONTINUITY init1 s1.{0..3} s1=2.000000 s2.{0..3} s2=2.000000 s3.{0,1} s3=1.000000 ENDLIST &&
+        plays_both 4
+}
+
+# plays_both COUNT: what is served are so many parts, and then the whole input.
+plays_both() {
+    { make begin many "$1" && make input many; } >"$room/both"
+    make play "$port" cam "$room/both"
+}
+
+# A further push after one whose input has ended is refused, and nothing changes.
+comes_after_end() {
+    to_server 0 '' two && lists init0 s0.{0,1} s0=1.000000 ENDLIST && again 3 'no 2 Ended' init0 s0.{0,1} s0=1.000000 ENDLIST &&
+        make input two >"$room/input" && make play "$port" cam "$room/input"
 }
 
 # encoder: 9 seconds of a test pattern, as docs/OPERATING.md has it.
@@ -224,6 +342,16 @@ ok 1                                                            \n
 This is no answer but a text that goes on and on and has no end whatever is read of it
 END
 for name in no_server server_goes_away reads_fail tells_how_it_goes all_damaged; do
+    try "$name"
+done
+
+# A push that is stopped, and one that comes after another one.
+short='channel cam target=2 part=1000000 skip=12 window=18 renditions=hi,lo first=0 start=0'
+for name in TERM INT; do
+    try stopped "$name" "$cam" 6 "${six[@]}"
+    try sends_no_end "$name"
+done
+for name in goes_on_in_segment fills_segment begins_anew_amid begins_anew_between comes_after_end; do
     try "$name"
 done
 
