@@ -2,7 +2,7 @@
 # Proves every crate from nothing and runs the crates' tests. Beside that, each row of tests/rows runs as `rt try --cases` builds the program, with checks and
 # from the sources alone. Then each row runs on the proved program, as each compiler of the toolchain builds it; beside these, on the proved program, devices
 # that give and take a few bytes at a time, large inputs, mutated playlists, mutated records, records in format 2, entries that are explained, the bytes of connections cut in every way, connections that end too early, and mutated heads; calls whose memory is refused;
-# and then, by themselves, the server with real sockets, its records, what is published to it, a player that watches it, and what stands in front of it. The last line is the sum.
+# then, by themselves, the server with real sockets and what stands in front of it; and then what mostly waits: what is published to it, its records, and a player that watches it. The last line is the sum.
 . "$(dirname "${BASH_SOURCE[0]}")/common.sh" || exit 2
 cd "$root" || exit 2
 program=crates/llhls/out/llhls
@@ -48,7 +48,11 @@ if [ -e "$by_rattle" ]; then
 fi
 start tests/refused_calls.sh crates/ll_refused/out/ll_refused
 finish
-for name in serve record push watch edge; do
+for name in serve edge; do
     show "tests/$name.sh" "$program"
 done
+for name in push record watch; do
+    start "tests/$name.sh" "$program"
+done
+finish
 told_all
