@@ -54,6 +54,9 @@ def things(text):
         words = line.split()
         if len(words) == 3 and words[0] == b"sent":
             end += int(words[2])
+            # (an LF that isn't counted follows media)
+            if b"\r\nContent-Type: video/mp4\r\n" in text[at:end]:
+                end += 1
         elif len(words) == 4 and words[0] == b"reply" and words[2] == b"200":
             end += int(words[3])
         found.append((words[0] if words else b"", words[1] if len(words) > 1 else b"", text[at:end]))
