@@ -241,15 +241,22 @@ impl<L: Ledgers> ChannelLock<L> {
         }
     }
 
-    /// Wakes another of those who wait, as long as replies are there that weren't collected. Those who wait are woken in the order in which
-    /// they began to: who has woken another since replies last came, and is woken again, was so after all whose replies are there, and
-    /// wakes nobody more.
-    fn wake_another(&self, state: &Counted<L>, woken: &mut u64) {
+    /// Whether another of those who wait is to be woken: as long as replies are there that weren't collected. Those who wait are woken in the
+    /// order in which they began to: who has woken another since replies last came, and is woken again, was so after all whose replies are
+    /// there, and wakes nobody more.
+    fn wakes_another(&self, state: &Counted<L>, woken: &mut u64) -> bool {
         let releases = self.releases.load(Ordering::SeqCst);
-        if *woken < releases && state.ready() > 0 {
+        let wakes = *woken < releases && state.ready() > 0;
+        *woken = releases;
+        wakes
+    }
+
+    /// Lets the lock go, and wakes another of those who wait where one is to be woken, who then finds it free.
+    fn unlock(&self, state: MutexGuard<'_, Counted<L>>, wakes: bool) {
+        drop(state);
+        if wakes {
             self.changed.notify_one();
         }
-        *woken = releases;
     }
 
     /// Tells the channel what the clock shows, in milliseconds.
@@ -278,11 +285,20 @@ impl<L: Ledgers> ChannelLock<L> {
         let mut woken = self.releases.load(Ordering::SeqCst);
         for _ in rt.forever() {
             let tried = state.collect(known, entry);
-            self.wake_another(&state, &mut woken);
+            let wakes = self.wakes_another(&state, &mut woken);
             match tried {
-                Tried::Got(reply) => return Ok(reply),
-                Tried::Stranger => return Err(HubFault::Stranger),
+                Tried::Got(reply) => {
+                    self.unlock(state, wakes);
+                    return Ok(reply);
+                }
+                Tried::Stranger => {
+                    self.unlock(state, wakes);
+                    return Err(HubFault::Stranger);
+                }
                 Tried::Still => {}
+            }
+            if wakes {
+                self.changed.notify_one();
             }
             state = self.changed.wait(rt, state);
         }
@@ -306,11 +322,20 @@ impl<L: Ledgers> ChannelLock<L> {
         let mut woken = self.releases.load(Ordering::SeqCst);
         for _ in rt.forever() {
             let tried = state.collect(known, entry);
-            self.wake_another(&state, &mut woken);
+            let wakes = self.wakes_another(&state, &mut woken);
             match tried {
-                Tried::Got(reply) => return Ok(Some(reply)),
-                Tried::Stranger => return Err(HubFault::Stranger),
+                Tried::Got(reply) => {
+                    self.unlock(state, wakes);
+                    return Ok(Some(reply));
+                }
+                Tried::Stranger => {
+                    self.unlock(state, wakes);
+                    return Err(HubFault::Stranger);
+                }
                 Tried::Still => {}
+            }
+            if wakes {
+                self.changed.notify_one();
             }
             let Some(left) = left(rt, start, limit) else {
                 return Ok(None);
