@@ -1,4 +1,4 @@
-"""What tests/serve.sh does with large media.
+"""What tests/serve.sh does with large media, and with many who wait.
 
 bodies.py WHAT PORT PUBLISH_PORT: publishes to the channel `cam` of a server that was just started, has players ask for what it has, and demands of each answer
 every byte. WHAT is one of the functions below that have a line of what they do.
@@ -112,5 +112,34 @@ def little_by_little(port, publish_port):
     Player(port, "s0.m4s", segment(publish_port)).whole(1 << 16, 0.3)
 
 
+def ask(port, rendition):
+    """A player that waits for the first part of a rendition."""
+    player = connect(port)
+    player.sendall(b"GET /cam/%s/live.m3u8?_HLS_msn=0&_HLS_part=0 HTTP/1.1\r\nHost: a\r\n\r\n" % rendition)
+    return player
+
+
+def are_woken(port, publish_port):
+    """Three hundred players wait for a part, and after them four hundred for one of another rendition. That one comes, and these have their answers
+    long before a worker looks by itself, a second after it began to wait; the others have none."""
+    others = [ask(port, b"lo") for _ in range(300)]
+    players = {ask(port, b"hi") for _ in range(400)}
+    time.sleep(0.1)
+    began = time.monotonic()
+    publish(publish_port, ("part hi 1000000 i", 3))
+    with selectors.DefaultSelector() as waits:
+        for player in (*others, *players):
+            waits.register(player, selectors.EVENT_READ)
+        while players:
+            ready = waits.select(max(0, began + 0.5 - time.monotonic()))
+            if not ready:
+                sys.exit(f"{len(players)} players have no answer half a second after their part")
+            for key, _ in ready:
+                if key.fileobj not in players or not key.fileobj.recv(1 << 16).startswith(b"HTTP/1.1 200 OK\r\n"):
+                    sys.exit("an answer before its part, or another one")
+                players.remove(key.fileobj)
+                waits.unregister(key.fileobj)
+
+
 resource.setrlimit(resource.RLIMIT_NOFILE, (resource.getrlimit(resource.RLIMIT_NOFILE)[1],) * 2)
-{each.__name__: each for each in (largest, slow_readers, hang_ups, little_by_little)}[sys.argv[1]](*map(int, sys.argv[2:]))
+{each.__name__: each for each in (largest, slow_readers, hang_ups, little_by_little, are_woken)}[sys.argv[1]](*map(int, sys.argv[2:]))

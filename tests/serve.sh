@@ -258,7 +258,7 @@ playlists_and_hinted_parts() {
     follow whole && [ "$(grep -ac '^sent ' "$room/wanted")" = 400 ]
 }
 
-# bodies WORKERS KB WHAT: large media (tests/bodies.py); the server's memory was never so many KB, and then it serves others.
+# bodies WORKERS KB WHAT: large media, or many who wait (tests/bodies.py); the server's memory was never so many KB, and then it serves others.
 bodies() {
     start "$1" "$cam" || return 1
     timeout 60 python3 "$here/bodies.py" "$3" "$port" "$publish_port" || { echo "tests/bodies.py ended with status $?"; return 1; }
@@ -371,6 +371,7 @@ done <<END
 1100 40000 slow_readers
 4 40000 hang_ups
 4 40000 little_by_little
+1100 40000 are_woken
 END
 
 listen='listen 127.0.0.1:0\n'
