@@ -38,6 +38,7 @@ finish() {
     commands=()
 }
 
+start tests/edits_apply.py
 start tests/try_rows.sh
 show rt ci
 for name in log mutated_playlists mutated_records upgrades explained connections dropped mutated_heads short_devices large rows; do

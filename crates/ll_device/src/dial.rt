@@ -1,10 +1,10 @@
-use crate::door::Socket;
 use crate::peer::Source;
+use crate::socket::Socket;
 use std::net::{Net, SocketAddr, SocketAddrV4, TcpListener, TcpStream};
 use std::thread;
 use std::time::{Clock, Duration};
 
-/// How long an attempt to connect may take, and then a read or a write, in seconds.
+/// How long an attempt to connect may take, in seconds.
 const LIMIT: u64 = 30;
 
 /// How often a connection is tried after the first one.
@@ -32,13 +32,11 @@ impl<'a, R: Net<Listener = TcpListener, Stream = TcpStream>> Dial<'a, R> {
         }
     }
 
-    /// A connection, where one is made at once, with its limits set. One whose limits the system refuses is used without them.
+    /// A connection, where one is made at once. A read or a write of it fails where it takes longer than 30 seconds.
     fn connect(&self) -> std::io::Result<Socket> {
         let limit = Duration::from_secs(LIMIT);
         let stream = TcpStream::connect_timeout(self.rt, &SocketAddr::V4(self.address), limit)?;
         let _ = stream.set_nodelay(true);
-        let _ = stream.set_read_timeout(Some(limit));
-        let _ = stream.set_write_timeout(Some(limit));
         Ok(Socket::new(stream))
     }
 }

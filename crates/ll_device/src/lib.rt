@@ -1,4 +1,4 @@
-//! What bytes come from and go to: devices, who connects to a server, and sockets, at either end.
+//! What bytes come from and go to: devices, who connects to a server, sockets, at either end, and those at rest.
 #![tactic(auto)]
 
 mod counted;
@@ -8,11 +8,15 @@ mod device;
 mod dial;
 mod door;
 mod peer;
+mod rest;
+mod socket;
 
 pub use counted::{CountedReader, CountedWriter};
 pub use counted_link::CountedLink;
 pub use counts::TwoCounts;
 pub use device::{Failed, Reader, Writer, write_all, write_both};
 pub use dial::Dial;
-pub use door::{Door, Socket};
-pub use peer::{Link, Role, Source};
+pub use door::Door;
+pub use peer::{Link, Role, Source, TryLink};
+pub use rest::{Lookout, Ready, Rest};
+pub use socket::Socket;

@@ -1,13 +1,13 @@
 //! A player's connection.
 ghost use Rattle.std.specs.Bool.{Decides};
-ghost use Rattle.std.specs.Prelude.{◌≡◌, ◌≢◌, ◌<◌, [], IfErr, IfOk, IsErrOf, None, Ok, OnErr, OnOk, Some, false, is_some};
+ghost use Rattle.std.specs.Prelude.{◌≡◌, ◌≢◌, ◌<◌, [], IfErr, IfOk, IsErrOf, None, Ok, OnErr, OnOk, Some, false, is_some, true};
 ghost use Rattle.std.specs.Io.KnownBytes.{Appends};
 ghost use Rattle.std.specs.List.{concat};
 ghost use Rattle.ll_item.specs.Channels.{channel_of_name};
 ghost use Rattle.ll_device.specs.Inward.{looked_at};
 ghost use Rattle.ll_link.specs.Answers.{unavailable_by};
 ghost use Rattle.ll_link.specs.Faults.{IsOwn, IsTrue};
-ghost use Rattle.ll_link.specs.Reads.{HasEnded, IsReadWithin, stays_or_ends};
+ghost use Rattle.ll_link.specs.Reads.{HasEnded, IsReadOnce, IsReadWithin, stays_or_ends};
 
 use crate::fault::LinkFault;
 use crate::service::{HandedOut, Service};
@@ -45,7 +45,7 @@ pub(crate) fn serve<L: Ledgers, P: Link, C: Clock, G: Gate, K: Sink, R: Wait + t
     served
 }
 
-/// Reads requests and answers them, until either side ends the connection.
+/// Reads and answers again and again, until either side ends the connection.
 fn converse<L: Ledgers, P: Link, C: Clock, G: Gate, K: Sink, R: Wait + time::Clock>(
     service: &Service<'_, L, C, G, K, R>,
     link: &mut P,
@@ -58,21 +58,38 @@ fn converse<L: Ledgers, P: Link, C: Clock, G: Gate, K: Sink, R: Wait + time::Clo
     ensures ended { OnOk result (session.new.shut ≡ false → HasEnded (P.inward link.old) (P.inward link.new)) }
 {
     let mut answers = 0;
-    let mut piece = [0; PIECE];
     for _ in 0..service.reads {
-        let stays = answer(service, link, pass, session, &mut answers)?;
-        if !stays || session.shut() {
+        if !turn(service, link, pass, session, &mut answers)? {
             return Ok(answers);
         }
-        let Ok(count) = link.read(&mut piece) else {
-            return Err(LinkFault::Read);
-        };
-        if count == 0 {
-            return Ok(answers);
-        }
-        session.feed(&piece[..count])?;
     }
     Err(LinkFault::Endless)
+}
+
+/// Reads once, and answers all whole requests that came. Says whether the connection stays: false, where either side has ended it.
+pub(crate) fn turn<L: Ledgers, P: Link, C: Clock, G: Gate, K: Sink, R: Wait + time::Clock>(
+    service: &Service<'_, L, C, G, K, R>,
+    link: &mut P,
+    pass: &mut Pass<L>,
+    session: &mut Session,
+    answers: &mut u64,
+) -> Result<bool, LinkFault>
+    ensures faults { IsTrue result (P.failures link.old) (P.failures link.new) }
+    ensures once { IsReadOnce (P.inward link.old) (P.inward link.new) }
+    ensures stays { IfOk result (λ stays. stays ≡ true → P.inward link.new ≡ looked_at 1 0 (P.inward link.old)) }
+    ensures ended { IfOk result (λ stays. stays ≡ false → session.new.shut ≡ false → P.inward link.new ≡ looked_at 1 1 (P.inward link.old)) }
+    ensures other { IfErr result (λ fault. fault ≢ LinkFault.Endless) }
+{
+    let mut piece = [0; PIECE];
+    let Ok(count) = link.read(&mut piece) else {
+        return Err(LinkFault::Read);
+    };
+    if count == 0 {
+        return Ok(false);
+    }
+    session.feed(&piece[..count])?;
+    let stays = answer(service, link, pass, session, answers)?;
+    Ok(stays && !session.shut())
 }
 
 /// Answers all whole requests that came. Says whether the player stays: false, where it hung up while one was held.
@@ -230,6 +247,7 @@ fn ask_again<L: Ledgers, P: Link, C: Clock, G: Gate, K: Sink, R: Wait + time::Cl
     if !is_full(&first) {
         return Ok((Some(first), None));
     }
+    link.will_wait();
     let handed = service.hand_out(channel)?;
     let second = ask_once(service, link, pass, session, channel, want)?;
     Ok((second, Some(handed)))
@@ -265,6 +283,7 @@ fn ask_once<L: Ledgers, P: Link, C: Clock, G: Gate, K: Sink, R: Wait + time::Clo
     {
         Ok(HubAsked::Now(reply)) => Ok(Some(Answer::Reply(reply.into_inner()))),
         Ok(HubAsked::Held(claim)) => {
+            link.will_wait();
             service.gate.held(channel);
             let answer = hold(service, link, pass, session, claim);
             service.gate.freed(channel);

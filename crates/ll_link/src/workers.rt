@@ -22,7 +22,7 @@ use std::thread::Threads;
 use std::{thread, time};
 
 /// How often a connection is read at most.
-const READS: u64 = 1 << 32;
+pub(crate) const READS: u64 = 1 << 32;
 
 /// Serves one connection to its end, and tells how many answers it got, or why it was ended. What it held is then closed; a player that
 /// hangs up while a request of it is held is at its end. Where the record of a channel is full, it goes to the sink before the call that
@@ -131,7 +131,7 @@ pub fn serve_links<
 }
 
 /// So many passes of the hub; or those that there are, and why another isn't there.
-fn seats<L: Ledgers, R: Wait>(
+pub(crate) fn seats<L: Ledgers, R: Wait>(
     rt: &R,
     alloc: Global,
     workers: usize,

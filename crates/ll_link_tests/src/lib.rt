@@ -10,6 +10,8 @@ mod hubs;
 #[cfg(test)]
 mod link_tests;
 #[cfg(test)]
+mod players_tests;
+#[cfg(test)]
 mod rows;
 #[cfg(test)]
 mod socket_tests;

@@ -20,43 +20,40 @@ use std::{io, thread};
 /// How long a read may take, in seconds.
 const LIMIT: u64 = 20;
 
-/// A door through which one connection comes in.
+/// A door through which few connections come in.
 #[derive(Drop)]
-struct One<'a, R> {
+pub(crate) struct Few<'a, R> {
     door: Door<'a, R>,
-    left: bool,
+    left: u64,
 }
 
-impl<'a, R: Net<Listener = TcpListener, Stream = TcpStream> + Abort> One<'a, R> {
-    /// Listens at a free port.
-    fn open(rt: &'a R, role: Role) -> One<'a, R> {
+impl<'a, R: Net<Listener = TcpListener, Stream = TcpStream> + Abort> Few<'a, R> {
+    /// Listens at a free port, for so many.
+    pub(crate) fn open(rt: &'a R, role: Role, count: u64) -> Few<'a, R> {
         let address = SocketAddrV4::new(Ipv4Addr::LOCALHOST, 0);
-        One {
+        Few {
             door: Door::open(rt, address, role).expect(rt, "a door"),
-            left: true,
+            left: count,
         }
     }
 
     /// The address that it listens at.
-    fn address(&self, rt: &R) -> SocketAddr {
+    pub(crate) fn address(&self, rt: &R) -> SocketAddr {
         self.door.address().expect(rt, "its address")
     }
 }
 
-impl<R: Net<Listener = TcpListener, Stream = TcpStream> + Eprint + Clock> Source for One<'_, R> {
+impl<R: Net<Listener = TcpListener, Stream = TcpStream> + Eprint + Clock> Source for Few<'_, R> {
     type Peer = Socket;
 
     fn next(&mut self) -> Option<Socket> {
-        if !self.left {
-            return None;
-        }
-        self.left = false;
+        self.left = self.left.checked_sub(1)?;
         self.door.next()
     }
 }
 
 /// A connection to this address.
-fn connect<R: Net<Listener = TcpListener, Stream = TcpStream>>(
+pub(crate) fn connect<R: Net<Listener = TcpListener, Stream = TcpStream>>(
     rt: &R,
     address: SocketAddr,
 ) -> io::Result<TcpStream> {
@@ -81,7 +78,7 @@ fn receive(alloc: Global, stream: &TcpStream) -> io::Result<Vec<u8>> {
 }
 
 /// What comes back of these bytes until the other side ends.
-fn exchange<R: Net<Listener = TcpListener, Stream = TcpStream>>(
+pub(crate) fn exchange<R: Net<Listener = TcpListener, Stream = TcpStream>>(
     rt: &R,
     alloc: Global,
     address: SocketAddr,
@@ -93,7 +90,7 @@ fn exchange<R: Net<Listener = TcpListener, Stream = TcpStream>>(
 }
 
 /// These bytes get this answer.
-fn check_exchange<R: Net<Listener = TcpListener, Stream = TcpStream> + Abort>(
+pub(crate) fn check_exchange<R: Net<Listener = TcpListener, Stream = TcpStream> + Abort>(
     rt: &R,
     alloc: Global,
     address: SocketAddr,
@@ -119,7 +116,7 @@ fn talk<R: Net<Listener = TcpListener, Stream = TcpStream> + Abort>(
 fn admit<
     L: Ledgers + Send + Sync,
     R: Net<Listener = TcpListener, Stream = TcpStream> + Threads + Wait + Clock + Eprint + Sync,
->(rt: &R, alloc: Global, hub: &Hub<L>, role: Role, door: &mut One<'_, R>) -> Vec<Pass<L>> {
+>(rt: &R, alloc: Global, hub: &Hub<L>, role: Role, door: &mut Few<'_, R>) -> Vec<Pass<L>> {
     match serve_links(rt, alloc, role, door, 1, &Stopped, &Open, &Dropped, hub) {
         Ok(passes) => passes,
         Err((passes, _fault)) => passes,
@@ -140,8 +137,8 @@ fn serve_both<
     rt: &R,
     alloc: Global,
     hub: &Hub<L>,
-    publishers: &mut One<'_, R>,
-    players: &mut One<'_, R>,
+    publishers: &mut Few<'_, R>,
+    players: &mut Few<'_, R>,
 ) -> Vec<Pass<L>> {
     let (mut passes, more) = thread::join(
         rt,
@@ -168,8 +165,8 @@ fn serve_sockets<
     requires names { blanks ≡ L.names }
     requires channels { L.channels ≡ 1 }
 {
-    let mut publishers = One::open(rt, Role::Publisher);
-    let mut players = One::open(rt, Role::Player);
+    let mut publishers = Few::open(rt, Role::Publisher, 1);
+    let mut players = Few::open(rt, Role::Player, 1);
     let (lines, requests) = (publishers.address(rt), players.address(rt));
     let hub: Hub<L> = hub_of_one(rt, alloc, blanks);
     let ((), passes) = thread::join(

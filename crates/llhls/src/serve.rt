@@ -5,7 +5,7 @@ use ll_command::Fault;
 use ll_device::Door;
 use ll_hub::{Blanks, Clock, Hub, HubFault, Ledgers, Pass, Sink};
 use ll_item::Settings;
-use ll_link::{Role, serve_links};
+use ll_link::{Role, serve_links, serve_players};
 use ll_numbers::Numbers;
 use ll_server::{Config, ConfigFault, Log, Records, Workers};
 use ll_time::UtcTime;
@@ -182,17 +182,30 @@ impl<
         hub: &Hub<L>,
     ) -> (Vec<Pass<L>>, Option<HubFault>) {
         let (role, workers) = (door.role(), self.workers.count);
-        match serve_links(
-            self.rt,
-            self.alloc,
-            role,
-            door,
-            workers,
-            &self.watch,
-            &self.numbers,
-            &self.records,
-            hub,
-        ) {
+        let served = match role {
+            Role::Player => serve_players(
+                self.rt,
+                self.alloc,
+                door,
+                workers,
+                &self.watch,
+                &self.numbers,
+                &self.records,
+                hub,
+            ),
+            Role::Publisher => serve_links(
+                self.rt,
+                self.alloc,
+                role,
+                door,
+                workers,
+                &self.watch,
+                &self.numbers,
+                &self.records,
+                hub,
+            ),
+        };
+        match served {
             Ok(passes) => (passes, None),
             Err((passes, fault)) => {
                 let whose = match role {

@@ -1,5 +1,5 @@
 -- Each answer that is written is the first of those that were left.
-use Rattle.std.proofs.Common.{◌≡◌, ◌++◌, ◌∙◌, ap, drop}
+use Rattle.std.proofs.Common.{◌≡◌, ◌∙◌, ap, drop}
 use Rattle.ll_link.proofs.SendLemmas.{lost-first, sent_next}
 use Rattle.ll_link.proofs.player.send.Goals as goal
 

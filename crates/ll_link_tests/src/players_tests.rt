@@ -1,0 +1,168 @@
+//! Players' connections that share few workers, over sockets of one machine.
+ghost use Rattle.std.specs.Prelude.{◌≡◌, ◌≤◌};
+
+use crate::hubs::{SEGMENT, Stopped, finished, hub_of_one, published, seat};
+use crate::rows::{same, same_number};
+use crate::socket_tests::{Few, check_exchange, connect, exchange};
+use crate::wires::{ANSWER, Dropped, GET, Open, text_of};
+use ll_hub::{Blanks, Hub, Ledgers, Pass};
+use ll_link::{Role, serve_players};
+use std::alloc::Global;
+use std::io::{Read, Write};
+use std::marker::Brand;
+use std::net::{Net, SocketAddr, TcpListener, TcpStream};
+use std::process::Abort;
+use std::sync::Wait;
+use std::thread;
+use std::thread::Threads;
+use std::time::Clock;
+
+/// A request that waits for the second segment.
+const GET_SECOND: &[u8] =
+    b"GET /cam/hi/live.m3u8?_HLS_msn=1&_HLS_part=0 HTTP/1.1\r\nHost: h\r\n\r\n";
+
+/// So often a player asks that was waited for: more often than it is served alone.
+const OFTEN: u64 = 12;
+
+/// Sends a request over a connection that is kept.
+fn ask(rt: &impl Abort, player: &TcpStream, request: &[u8]) {
+    let mut socket = player;
+    socket.write_all(request).expect(rt, "a request");
+}
+
+/// The next bytes that come over a connection are this answer.
+fn check_answer(rt: &impl Abort, alloc: Global, player: &TcpStream, answer: &str) {
+    let mut bytes = vec![in alloc; 0; answer.len()].expect(rt, "bytes");
+    let mut socket = player;
+    socket.read_exact(&mut bytes).expect(rt, "an answer");
+    same(rt, "an answer", text_of(&bytes), answer);
+}
+
+/// Three players that are there at once ask in turn, twice each, and are answered.
+fn ask_in_turn<R: Net<Listener = TcpListener, Stream = TcpStream> + Abort>(
+    rt: &R,
+    alloc: Global,
+    address: SocketAddr,
+) {
+    let mut players = Vec::new(alloc);
+    for _ in 0..3 {
+        let player = connect(rt, address).expect(rt, "a connection");
+        players.push(player).expect(rt, "players");
+    }
+    for turn in 0..6 {
+        let player = &players[turn % 3];
+        ask(rt, player, GET);
+        check_answer(rt, alloc, player, ANSWER);
+    }
+}
+
+/// A player waits for a segment, while another is answered. Then it has its answer, and asks again and again.
+fn wait_and_ask<L: Ledgers, R: Net<Listener = TcpListener, Stream = TcpStream> + Wait + Abort>(
+    rt: &R,
+    alloc: Global,
+    address: SocketAddr,
+    hub: &Hub<L>,
+    pass: &mut Pass<L>,
+) {
+    let player = connect(rt, address).expect(rt, "a connection");
+    ask(rt, &player, GET_SECOND);
+    check_exchange(rt, alloc, address, GET, ANSWER);
+    let count = published(rt, alloc, hub, pass, 0, SEGMENT);
+    same_number(rt, "the second segment", count, 2);
+    let now = exchange(rt, alloc, address, GET).expect(rt, "an answer");
+    check_answer(rt, alloc, &player, text_of(&now));
+    for _ in 0..OFTEN {
+        ask(rt, &player, GET);
+        check_answer(rt, alloc, &player, text_of(&now));
+    }
+}
+
+/// Serves those who come in by a door with so many workers: their passes, where memory was found.
+fn admit<
+    L: Ledgers + Send + Sync,
+    R: Net<Listener = TcpListener, Stream = TcpStream>
+        + Threads
+        + Wait
+        + Clock
+        + Eprint
+        + Abort
+        + Sync,
+>(rt: &R, alloc: Global, hub: &Hub<L>, workers: usize, door: &mut Few<'_, R>) -> Vec<Pass<L>>
+    requires some { 1 ≤ workers }
+    requires most { workers ≤ 4096 }
+{
+    match serve_players(rt, alloc, door, workers, &Stopped, &Open, &Dropped, hub) {
+        Ok(passes) => passes,
+        Err((passes, _fault)) => passes,
+    }
+}
+
+/// Serves three players with one worker, after a segment was published: the totals.
+fn serve_three<
+    L: Ledgers + Send + Sync,
+    R: Net<Listener = TcpListener, Stream = TcpStream>
+        + Threads
+        + Wait
+        + Clock
+        + Eprint
+        + Abort
+        + Sync,
+>(rt: &R, alloc: Global, blanks: Blanks) -> String
+    requires names { blanks ≡ L.names }
+    requires channels { L.channels ≡ 1 }
+{
+    let mut door = Few::open(rt, Role::Player, 3);
+    let address = door.address(rt);
+    let hub: Hub<L> = hub_of_one(rt, alloc, blanks);
+    let mut pass = seat(rt, &hub);
+    published(rt, alloc, &hub, &mut pass, 0, SEGMENT);
+    let ((), mut passes) = thread::join(
+        rt,
+        || ask_in_turn(rt, alloc, address),
+        || admit(rt, alloc, &hub, 1, &mut door),
+    );
+    passes.push(pass).expect(rt, "passes");
+    finished(rt, alloc, hub, passes)
+}
+
+/// Serves a player that waits and two others, after a segment was published: the totals.
+fn serve_waiting<
+    L: Ledgers + Send + Sync,
+    R: Net<Listener = TcpListener, Stream = TcpStream>
+        + Threads
+        + Wait
+        + Clock
+        + Eprint
+        + Abort
+        + Sync,
+>(rt: &R, alloc: Global, blanks: Blanks) -> String
+    requires names { blanks ≡ L.names }
+    requires channels { L.channels ≡ 1 }
+{
+    let mut door = Few::open(rt, Role::Player, 3);
+    let address = door.address(rt);
+    let hub: Hub<L> = hub_of_one(rt, alloc, blanks);
+    let mut pass = seat(rt, &hub);
+    published(rt, alloc, &hub, &mut pass, 0, SEGMENT);
+    let ((), mut passes) = thread::join(
+        rt,
+        || wait_and_ask(rt, alloc, address, &hub, &mut pass),
+        || admit(rt, alloc, &hub, 8, &mut door),
+    );
+    passes.push(pass).expect(rt, "passes");
+    finished(rt, alloc, hub, passes)
+}
+
+/// Connections at rest take no worker.
+#[test]
+fn one_worker_serves_many(rt: HostRuntime) {
+    let totals = serve_three::<Brand, HostRuntime>(&rt, rt.alloc(), Blanks::new());
+    same(&rt, "the totals", totals.as_str(), "1 6 0;");
+}
+
+/// A request that is held keeps nobody else waiting, and its connection goes back to those at rest.
+#[test]
+fn others_are_served_meanwhile(rt: HostRuntime) {
+    let totals = serve_waiting::<Brand, HostRuntime>(&rt, rt.alloc(), Blanks::new());
+    same(&rt, "the totals", totals.as_str(), "2 15 0;");
+}
