@@ -6,13 +6,12 @@ mod counted;
 mod hub;
 mod locks;
 mod pass;
-mod sink;
 mod totals;
 
 pub use claim::Claim;
 pub use hub::{Hub, HubAsked, Waited};
 pub use ll_ledger::{Blanks, Ledgers, Named};
 pub use ll_locked::{Clock, HubFault, RoomFault, Total};
+pub use ll_record::Sink;
 pub use pass::Pass;
-pub use sink::Sink;
 pub use totals::Totals;

@@ -1,9 +1,8 @@
 //! The files that the records of channels go to.
 use crate::journal::Journal;
 use ll_attr::Text;
-use ll_hub::Sink;
 use ll_item::Settings;
-use ll_record::Chunk;
+use ll_record::{Chunk, Sink};
 use std::alloc::{AllocError, Global};
 use std::fs::File;
 use std::rt::Files;
