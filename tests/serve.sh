@@ -126,10 +126,10 @@ drips_its_head() {
     follow bytes
 }
 
-# Players that send nothing keep workers, and no others.
+# Players that send nothing, more than there are workers, keep none.
 sends_nothing() {
     local number
-    start 6 "$cam" || return 1
+    start 2 "$cam" || return 1
     for number in 1 2 3 4 5; do
         connect "$port" || return 1
     done
@@ -356,8 +356,10 @@ done
 for seed in 1 2 3; do
     try same_as_replay "$seed"
 done
-# Kept connections have a worker each; of those that aren't kept, the others come when one is free.
+# Connections that are kept take no worker while they are at rest.
 try five_hundred_at_once 600
+try five_hundred_at_once 16
+try five_hundred_at_once 1
 try five_hundred_at_once 16 'Connection: close'
 for name in thousand_held most_channels drips_its_head sends_nothing hangs_up_while_held gives_workers_back reads_slowly publisher_cut_off \
     lines_of_publishers bytes_of_publishers playlists_and_hinted_parts files_run_out stops_while_requests_are_held taken_ports; do

@@ -24,16 +24,16 @@ const WORKERS: usize = 4;
 /// A connection that was waited for is served by its worker alone until so many requests after one another were answered at once.
 const AT_ONCE: u64 = 8;
 
-/// Serves the connections of a source, players', by so many workers, until the source gives no more and all are served. A connection's fault ends
-/// that connection alone. It gives the workers' passes back, which [`Hub::finish`] takes.
+/// Serves the connections of a source of players by so many workers, until the source gives no more and all are served. A connection's
+/// fault ends that connection alone. It gives the workers' passes back, which [`Hub::finish`] takes.
 ///
-/// A connection that has sent nothing since its last answer is at rest, and takes no worker. Some workers, as many as there are processors, are
-/// on the lookout for those at rest that send something, and answer what can be answered at once. Before one of them waits for a
-/// connection, since a request of it is held, or a player takes an answer slowly, it gives the lookout to another worker; it then serves that connection alone,
-/// until it is answered at once again and again.
+/// A connection that has sent nothing since its last answer is at rest, and takes no worker. Some workers, as many as there are
+/// processors, are on the lookout for those at rest that send something, and answer what can be answered at once. Before one of them
+/// waits for a connection, since a request of it is held, or its player takes an answer slowly, it gives the lookout to another worker; it
+/// then serves that connection alone, until it is answered at once again and again.
 ///
-/// All passes are taken before the first connection. Workers are started as connections come. Where the system starts no thread, a connection
-/// is served by those that there are, or is closed where there are none.
+/// All passes are taken before the first connection. Workers are started as connections come. Where the system starts no thread, a
+/// connection is served by those that there are, or is closed where there are none.
 ///
 /// Where it fails, it has taken no connection; it gives those passes that there are, and why another isn't there:
 ///
@@ -235,7 +235,8 @@ impl<'a, L: Ledgers, P: TryLink, C: Clock, G: Gate, K: Sink, R: Wait + time::Clo
         }
     }
 
-    /// Serves the connection that this tells of, and gives the post back; where the worker waited for the connection and so gave the post away, the connection, if it stays.
+    /// Serves the connection that this tells of, and gives the post back; where the worker waited for the connection, and so gave the post
+    /// away, the connection, if it stays.
     fn visit(
         &self,
         post: Post,
