@@ -40,7 +40,8 @@ finish() {
 
 start tests/edits_apply.py
 start tests/try_rows.sh
-show rt ci
+# (It would have fewer crates side by side, since it plans several times the memory that a check takes.)
+show env RT_JOBS="${RT_JOBS:-$(nproc)}" rt ci
 for name in log mutated_playlists mutated_records upgrades explained connections dropped mutated_heads short_devices large rows; do
     start "tests/$name.sh" "$program"
 done

@@ -19,15 +19,11 @@ use std::alloc::{AllocError, Global};
 use std::marker::Model;
 use std::sync::atomic::{AtomicU64, Ordering};
 use std::sync::{Condvar, Mutex, MutexGuard, Wait};
-use std::thread;
 use std::time::{Clock, Duration, Instant};
 
-/// How often a lock that is held is tried before its caller sleeps until it is free. A section is much shorter than falling asleep and being woken.
-const TRIES: usize = 40;
-
-/// How often of these it is tried at once: longer than a section takes, unless the system has stopped who is in it. After that others run first
-/// whom the system would let.
-const AT_ONCE: usize = 32;
+/// How often a lock that is held is tried before its caller sleeps until it is free: for longer than some sections take, unless the system has
+/// stopped who is in one. A section is much shorter than falling asleep and being woken.
+const TRIES: usize = 128;
 
 /// How many of those who wait are woken where replies come. Each of them wakes another, so few at a time ask for the lock.
 const WOKEN: usize = 64;
@@ -218,12 +214,9 @@ impl<L: Ledgers> ChannelLock<L> {
 
     /// Takes the lock.
     pub(crate) fn lock<R: Wait>(&self, rt: &R) -> MutexGuard<'_, Counted<L>> {
-        for tries in 0..TRIES {
+        for _ in 0..TRIES {
             if let Some(state) = self.state.try_lock() {
                 return state;
-            }
-            if tries >= AT_ONCE {
-                thread::yield_now();
             }
         }
         self.state.lock(rt)

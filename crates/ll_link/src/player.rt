@@ -80,6 +80,23 @@ pub(crate) fn turn<L: Ledgers, P: Link, C: Clock, G: Gate, K: Sink, R: Wait + ti
     ensures ended { IfOk result (λ stays. stays ≡ false → session.new.shut ≡ false → P.inward link.new ≡ looked_at 1 1 (P.inward link.old)) }
     ensures other { IfErr result (λ fault. fault ≢ LinkFault.Endless) }
 {
+    if !receive(link, session)? {
+        return Ok(false);
+    }
+    let stays = answer(service, link, pass, session, answers)?;
+    Ok(stays && !session.shut())
+}
+
+/// Reads once. Says whether bytes came: false, where the connection is at its end.
+// (A frame of its own: so its bytes lie on no stack while a request is held.)
+#[inline(never)]
+fn receive<P: Link>(link: &mut P, session: &mut Session) -> Result<bool, LinkFault>
+    ensures faults { IsTrue result (P.failures link.old) (P.failures link.new) }
+    ensures more { IfOk result (λ came. came ≡ true → P.inward link.new ≡ looked_at 1 0 (P.inward link.old)) }
+    ensures end { IfOk result (λ came. came ≡ false → P.inward link.new ≡ looked_at 1 1 (P.inward link.old)) }
+    ensures cut { OnErr result (P.inward link.new ≡ looked_at 1 0 (P.inward link.old)) }
+    ensures other { IfErr result (λ fault. fault ≢ LinkFault.Endless) }
+{
     let mut piece = [0; PIECE];
     let Ok(count) = link.read(&mut piece) else {
         return Err(LinkFault::Read);
@@ -88,8 +105,7 @@ pub(crate) fn turn<L: Ledgers, P: Link, C: Clock, G: Gate, K: Sink, R: Wait + ti
         return Ok(false);
     }
     session.feed(&piece[..count])?;
-    let stays = answer(service, link, pass, session, answers)?;
-    Ok(stays && !session.shut())
+    Ok(true)
 }
 
 /// Answers all whole requests that came. Says whether the player stays: false, where it hung up while one was held.
