@@ -304,9 +304,16 @@ impl<L: Ledgers> Hub<L> {
         let (channel_lock, known) = self.locks.reach(channel, Some(0))?;
         let mut state = channel_lock.lock(rt);
         let chunk = state.rotate(known)?;
+        channel_lock.set_handing_out(true);
         sink.take(channel, chunk);
+        channel_lock.set_handing_out(false);
         drop(state);
         Ok(())
+    }
+
+    /// Whether a sink is taking the record of the channel at this place. A call on that channel waits until it has.
+    pub fn is_handing_out(&self, channel: usize) -> bool {
+        self.locks.is_handing_out(channel)
     }
 
     /// Closes what is held, and spends the hub and the passes. The channels have accepted as many items, and were asked as often, as

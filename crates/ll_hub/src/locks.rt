@@ -17,7 +17,7 @@ use ll_room::Stamped;
 use ll_verdict::{Entry, Reply};
 use std::alloc::{AllocError, Global};
 use std::marker::Model;
-use std::sync::atomic::{AtomicU64, Ordering};
+use std::sync::atomic::{AtomicBool, AtomicU64, Ordering};
 use std::sync::{Condvar, Mutex, MutexGuard, Wait};
 use std::time::{Clock, Duration, Instant};
 
@@ -34,6 +34,8 @@ pub(crate) struct ChannelLock<L: Ledgers> {
     changed: Condvar,
     /// How often replies came.
     releases: AtomicU64,
+    /// Whether the record is being handed out: the lock may be held for long.
+    handing_out: AtomicBool,
 }
 
 /// Channels under a lock each, found by their names and their places.
@@ -154,6 +156,14 @@ impl<L: Ledgers> ChannelLocks<L> {
         ))
     }
 
+    /// Whether the record of the channel at this place is being handed out.
+    pub(crate) fn is_handing_out(&self, channel: usize) -> bool {
+        match self.locks.get(channel) {
+            Some(channel_lock) => channel_lock.is_handing_out(),
+            None => false,
+        }
+    }
+
     /// Tells the channel at this place what the clock shows, in milliseconds.
     pub(crate) fn tick<R: Wait>(&self, rt: &R, channel: usize, ms: u64) -> Result<(), ReadingFault>
         requires { channel < length self.now }
@@ -209,6 +219,7 @@ impl<L: Ledgers> ChannelLock<L> {
             state: Mutex::new(channel),
             changed: Condvar::new(),
             releases: AtomicU64::new(0),
+            handing_out: AtomicBool::new(false),
         }
     }
 
@@ -220,6 +231,16 @@ impl<L: Ledgers> ChannelLock<L> {
             }
         }
         self.state.lock(rt)
+    }
+
+    /// The record begins to be handed out, or has been.
+    pub(crate) fn set_handing_out(&self, handing_out: bool) {
+        self.handing_out.store(handing_out, Ordering::SeqCst);
+    }
+
+    /// Whether the record is being handed out.
+    fn is_handing_out(&self) -> bool {
+        self.handing_out.load(Ordering::SeqCst)
     }
 
     /// Lets the lock go. Where more replies are there than before, it wakes some of those who wait, and they the others.
@@ -353,6 +374,7 @@ impl<L: Ledgers> ChannelLock<L> {
             state,
             changed: _,
             releases: _,
+            handing_out: _,
         } = self;
         let channel = state.into_inner();
         *at_home &= is_at(&channel, channels, place);
@@ -365,6 +387,7 @@ impl<L: Ledgers> ChannelLock<L> {
             state,
             changed: _,
             releases: _,
+            handing_out: _,
         } = self;
         state.into_inner().finish();
     }

@@ -293,6 +293,9 @@ fn ask_once<L: Ledgers, P: Link, C: Clock, G: Gate, K: Sink, R: Wait + time::Clo
     ensures unread { OnErr result (P.inward link.new ≡ P.inward link.old) }
     ensures other { IfErr result (λ fault. fault ≢ LinkFault.Endless) }
 {
+    if service.hub.is_handing_out(channel) {
+        link.will_wait();
+    }
     match service
         .hub
         .ask(service.rt, service.clock, pass, channel, want)

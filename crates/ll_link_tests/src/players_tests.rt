@@ -1,21 +1,26 @@
 //! Players' connections that share few workers, over sockets of one machine.
 ghost use Rattle.std.specs.Prelude.{◌≡◌, ◌≤◌};
 
-use crate::hubs::{SEGMENT, Stopped, finished, hub_of_one, published, seat};
+use crate::hubs::{SEGMENT, Stopped, add_one, comes_to, finished, hub_of_one, published, seat};
 use crate::rows::{same, same_number};
 use crate::socket_tests::{Few, check_exchange, connect, exchange};
 use crate::wires::{ANSWER, Dropped, GET, Open, text_of};
-use ll_hub::{Blanks, Hub, Ledgers, Pass};
+use ll_hub::{Blanks, Hub, Ledgers, Pass, Sink};
 use ll_link::{Role, serve_players};
+use ll_record::Chunk;
 use std::alloc::Global;
 use std::io::{Read, Write};
 use std::marker::Brand;
 use std::net::{Net, SocketAddr, TcpListener, TcpStream};
 use std::process::Abort;
 use std::sync::Wait;
+use std::sync::atomic::AtomicU64;
 use std::thread;
 use std::thread::Threads;
-use std::time::Clock;
+use std::time::{Clock, Duration};
+
+/// A request of a channel that isn't there.
+const GET_OTHER: &[u8] = b"GET /two/hi/live.m3u8 HTTP/1.1\r\nHost: h\r\n\r\n";
 
 /// A request that waits for the second segment.
 const GET_SECOND: &[u8] =
@@ -153,6 +158,87 @@ fn serve_waiting<
     finished(rt, alloc, hub, passes)
 }
 
+/// A sink that takes a chunk until another player was answered, or the turns are over.
+#[derive(Drop)]
+struct Slow {
+    taking: AtomicU64,
+    answered: AtomicU64,
+    met: AtomicU64,
+}
+
+impl Sink for Slow {
+    fn take(&self, _channel: usize, _chunk: Chunk) {
+        add_one(&self.taking);
+        if comes_to(&self.answered, 1) {
+            add_one(&self.met);
+        }
+    }
+}
+
+/// While a record is handed out, a player asks of its channel, and another of none: that one is answered meanwhile.
+fn ask_meanwhile<R: Net<Listener = TcpListener, Stream = TcpStream> + Wait + Clock + Abort>(
+    rt: &R,
+    alloc: Global,
+    address: SocketAddr,
+    slow: &Slow,
+) {
+    comes_to(&slow.taking, 1);
+    let player = connect(rt, address).expect(rt, "a connection");
+    ask(rt, &player, GET);
+    thread::sleep(rt, Duration::from_millis(100));
+    let other = exchange(rt, alloc, address, GET_OTHER).expect(rt, "an answer");
+    same(
+        rt,
+        "another",
+        text_of(&other).get(..12).unwrap_or(""),
+        "HTTP/1.1 404",
+    );
+    add_one(&slow.answered);
+    check_answer(rt, alloc, &player, ANSWER);
+}
+
+/// Hands out the record of a channel while players ask, of whom one worker at a time can be on the lookout: how often the sink saw that another was answered.
+fn serve_beside_a_record<
+    L: Ledgers + Send + Sync,
+    R: Net<Listener = TcpListener, Stream = TcpStream>
+        + Threads
+        + Wait
+        + Clock
+        + Eprint
+        + Abort
+        + Sync,
+>(rt: &R, alloc: Global, blanks: Blanks) -> u64
+    requires names { blanks ≡ L.names }
+    requires channels { L.channels ≡ 1 }
+{
+    let mut door = Few::open(rt, Role::Player, 2);
+    let address = door.address(rt);
+    let hub: Hub<L> = hub_of_one(rt, alloc, blanks);
+    let mut pass = seat(rt, &hub);
+    published(rt, alloc, &hub, &mut pass, 0, SEGMENT);
+    let slow = Slow {
+        taking: AtomicU64::new(0),
+        answered: AtomicU64::new(0),
+        met: AtomicU64::new(0),
+    };
+    let (handed, ((), mut passes)) = thread::join(
+        rt,
+        || hub.rotate_to(rt, 0, &slow),
+        || {
+            thread::join(
+                rt,
+                || ask_meanwhile(rt, alloc, address, &slow),
+                || admit(rt, alloc, &hub, 4, &mut door),
+            )
+        },
+    );
+    handed.expect(rt, "a record");
+    passes.push(pass).expect(rt, "passes");
+    let totals = finished(rt, alloc, hub, passes);
+    same(rt, "the totals", totals.as_str(), "1 1 0;");
+    slow.met.into_inner()
+}
+
 /// Connections at rest take no worker.
 #[test]
 fn one_worker_serves_many(rt: HostRuntime) {
@@ -165,4 +251,11 @@ fn one_worker_serves_many(rt: HostRuntime) {
 fn others_are_served_meanwhile(rt: HostRuntime) {
     let totals = serve_waiting::<Brand, HostRuntime>(&rt, rt.alloc(), Blanks::new());
     same(&rt, "the totals", totals.as_str(), "2 15 0;");
+}
+
+/// A record that is handed out keeps nobody else waiting.
+#[test]
+fn others_are_served_beside_a_record(rt: HostRuntime) {
+    let met = serve_beside_a_record::<Brand, HostRuntime>(&rt, rt.alloc(), Blanks::new());
+    same_number(&rt, "the others", met, 1);
 }
