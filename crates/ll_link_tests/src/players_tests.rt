@@ -54,8 +54,13 @@ fn ask_in_turn<R: Net<Listener = TcpListener, Stream = TcpStream> + Abort>(
         let player = connect(rt, address).expect(rt, "a connection");
         players.push(player).expect(rt, "players");
     }
-    for turn in 0..6 {
-        let player = &players[turn % 3];
+    ask_all(rt, alloc, &players);
+    ask_all(rt, alloc, &players);
+}
+
+/// Each of these asks in turn, and is answered.
+fn ask_all(rt: &impl Abort, alloc: Global, players: &[TcpStream]) {
+    for player in players {
         ask(rt, player, GET);
         check_answer(rt, alloc, player, ANSWER);
     }
