@@ -1,5 +1,5 @@
 #!/usr/bin/env bash
-# Proves every crate from nothing and runs the crates' tests. Beside that, each row of tests/rows runs as `rt try --cases` builds the program, with checks and
+# Proves every crate from nothing and runs the crates' tests. Beside that, each must-fail edit is looked for in its file, and each row of tests/rows runs as `rt try --cases` builds the program, with checks and
 # from the sources alone. Then each row runs on the proved program, as each compiler of the toolchain builds it; beside these, on the proved program, devices
 # that give and take a few bytes at a time, large inputs, mutated playlists, mutated records, records in format 2, entries that are explained, the bytes of connections cut in every way, connections that end too early, and mutated heads; calls whose memory is refused;
 # then, by themselves, the server with real sockets and what stands in front of it; and then what mostly waits: what is published to it, its records, and a player that watches it. The last line is the sum.
