@@ -3,3 +3,6 @@ pub mod WordLaws
 pub mod SeparatedLaws
 pub mod Durations
 pub mod Finding
+pub mod NthDate
+pub mod Separators
+pub mod Boundaries

@@ -1,9 +1,17 @@
-//! Formats: how values are spelled in a line, said once for reading and writing. The definitions and their laws are in
-//! `specs/` and `proofs/`; here are the small readers that every reader of lines is made of. None of them takes memory.
+//! Formats: how values are spelled in a line, said once for reading and writing; and moments in UTC, as playlists spell them, and the dates
+//! and times that date ranges hold. The definitions and their laws are in `specs/` and `proofs/`; here are the small readers that every
+//! reader of lines is made of. None of them takes memory.
 #![tactic(auto)]
 
+mod calendar;
+mod date_time;
+mod digits;
 mod field;
+mod time;
 mod value;
 
+pub use calendar::calendar_law;
+pub use date_time::is_date_time;
 pub use field::{duration_at, flag_at, number_at, quoted_at, uri_at};
+pub use time::UtcTime;
 pub use value::{duration, is_quotable, is_rest, is_uri, number, until};

@@ -2,7 +2,7 @@
 ghost use Rattle.std.specs.Prelude.{◌≡◌, ◌+◌, ◌++◌, ◌∷◌, [], List, IfErr, IfOk, IsTrue, MatchBool, OnErr, OnOk, filter, length};
 ghost use Rattle.ll_verdict.specs.Waiting as waiting;
 ghost use Rattle.ll_hub.specs.Counted.{IsLeftBy, IsUnaskedBy, IsUnpublishedBy};
-ghost use Rattle.ll_ledger.specs.Ledgers.{blank, with_ask, with_publish};
+ghost use Rattle.ll_locked.specs.Ledgers.{blank, with_ask, with_publish};
 ghost use Rattle.ll_locked.specs.Section as spec;
 ghost use Rattle.ll_locked.specs.Told.{IsAccepted, IsHandedOut, IsReadingRefused, IsTotal, IsTotalOf};
 ghost use Rattle.ll_record.specs.Chunk.{IsChunk, IsFaithful, emptied};
@@ -14,8 +14,9 @@ ghost use Rattle.ll_verdict.specs.State.{state_of};
 
 use ll_directive::Want;
 use ll_item::{Item, Settings};
-use ll_ledger::{Asks, ChannelCounts, Ledgers, PassCounts, Publishes};
-use ll_locked::{AtOnce, Channel, Clock, HubFault, Known, Total, Tried};
+use ll_locked::{
+    Asks, AtOnce, Channel, ChannelCounts, Clock, HubFault, Known, Ledgers, PassCounts, Publishes, Total, Tried,
+};
 use ll_record::{Chunk, ReadingFault};
 use ll_room::Stamped;
 use ll_verdict::Entry;

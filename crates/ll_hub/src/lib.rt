@@ -10,8 +10,7 @@ mod totals;
 
 pub use claim::Claim;
 pub use hub::{Hub, HubAsked, Waited};
-pub use ll_ledger::{Blanks, Ledgers, Named};
-pub use ll_locked::{Clock, HubFault, RoomFault, Total};
+pub use ll_locked::{Blanks, Clock, HubFault, Ledgers, Named, RoomFault, Total};
 pub use ll_record::Sink;
 pub use pass::Pass;
 pub use totals::Totals;

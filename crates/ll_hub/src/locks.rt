@@ -2,7 +2,7 @@
 ghost use Rattle.std.specs.Prelude.{◌≡◌, ◌+◌, ◌<◌, ◌≤◌, ◌++◌, ◌∷◌, [], None, Some, IfErr, IfOk, IfSome, IsTrue, MatchOption, OnErr, OnOk, false, length, map, slice_get, sum, vec_capacity};
 ghost use Rattle.ll_item.specs.Channels.{channel_of_name};
 ghost use Rattle.ll_hub.specs.Calls as calls;
-ghost use Rattle.ll_ledger.specs.Ledgers.{blank};
+ghost use Rattle.ll_locked.specs.Ledgers.{blank};
 ghost use Rattle.ll_item.specs.Settings.{Configuration};
 ghost use Rattle.ll_locked.specs.Section.{IsAt};
 ghost use Rattle.ll_locked.specs.Told.{IsDecided, IsReadingRefused, IsTotal};
@@ -10,8 +10,7 @@ ghost use Rattle.ll_room.specs.declared.stamped.Stamp.TheVariants as stamp;
 
 use crate::counted::Counted;
 use ll_item::{Channels, Settings};
-use ll_ledger::{ChannelCounts, Ledgers};
-use ll_locked::{HubFault, Known, Total, Tried};
+use ll_locked::{ChannelCounts, HubFault, Known, Ledgers, Total, Tried};
 use ll_record::ReadingFault;
 use ll_room::Stamped;
 use ll_verdict::{Entry, Reply};

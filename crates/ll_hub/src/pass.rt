@@ -1,8 +1,8 @@
 ghost use Rattle.std.specs.Prelude.{◌≡◌, slice_get};
-ghost use Rattle.ll_ledger.specs.Ledgers.{blank};
+ghost use Rattle.ll_locked.specs.Ledgers.{blank};
 ghost use Rattle.ll_hub.specs.Passes.{noted, noted_reply};
 
-use ll_ledger::{Ledgers, PassCounts};
+use ll_locked::{Ledgers, PassCounts};
 use ll_verdict::Reply;
 use std::marker::Model;
 

@@ -4,4 +4,4 @@ pub mod Line
 pub mod Meaning
 pub mod Text
 pub mod Uris
-pub use Rattle.ll_time.specs.Times
+pub use Rattle.ll_format.specs.Times

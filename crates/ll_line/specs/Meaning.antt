@@ -1,7 +1,7 @@
 -- What a line is, as contracts see it.
 use Rattle.std.specs.Prelude.{ℕ, List}
 use Rattle.std.specs.Option.{option_map}
-use Rattle.ll_time.specs.Times.{time_text}
+use Rattle.ll_format.specs.Times.{time_text}
 use Rattle.ll_format.specs.Words.{cut_at}
 use Rattle.ll_line.specs.Line as says
 use Rattle.ll_line.specs.Uris.{uri_text}

@@ -1,7 +1,7 @@
 ghost use Rattle.std.specs.Prelude.{Some};
 ghost use Rattle.ll_line.specs.Meaning.{date_time_text};
 
-use ll_time::UtcTime;
+use ll_format::UtcTime;
 use std::fmt;
 
 /// The time of an EXT-X-PROGRAM-DATE-TIME line (section 4.4.4.6).

@@ -11,6 +11,6 @@ mod workers;
 
 pub use fault::LinkFault;
 pub use ll_device::{Link, Role, Source, TryLink};
-pub use ll_numbers::Gate;
+pub use ll_server::Gate;
 pub use players::serve_players;
 pub use workers::{serve_link, serve_link_within, serve_links};

@@ -9,7 +9,7 @@ use crate::workers::{READS, seats};
 use crossbeam_channel::{Receiver, Sender};
 use ll_device::{Failed, Ready, Rest, Source, TryLink};
 use ll_hub::{Clock, Hub, HubFault, Ledgers, Pass, Sink};
-use ll_numbers::Gate;
+use ll_server::Gate;
 use std::alloc::Global;
 use std::net::Net;
 use std::slice::IterMut;

@@ -16,9 +16,9 @@ use crate::service::{HandedOut, Service};
 use ll_device::{Link, write_all};
 use ll_hub::{HubFault, Ledgers, Pass, RoomFault, Sink};
 use ll_item::{Item, ItemFault, Payload, Settings};
-use ll_numbers::Gate;
 use ll_publish::{Feed, Line, Refusal, reply_text};
 use ll_room::Stamped;
+use ll_server::Gate;
 use std::sync::Wait;
 
 /// What a publisher's line comes to: how many items its channel has accepted with it, or why it is refused.

@@ -3,7 +3,7 @@ ghost use Rattle.ll_link.specs.Faults.{IsOwn};
 
 use crate::fault::LinkFault;
 use ll_hub::{Hub, Ledgers, Sink};
-use ll_numbers::Gate;
+use ll_server::Gate;
 use std::alloc::Global;
 use std::marker::Model;
 use std::sync::Wait;

@@ -11,7 +11,7 @@ use crate::{player, publisher};
 use crossbeam_channel::{Receiver, Sender};
 use ll_device::{CountedLink, Link, Role, Source};
 use ll_hub::{Clock, Hub, HubFault, Ledgers, Pass, Sink};
-use ll_numbers::Gate;
+use ll_server::Gate;
 use std::alloc::Global;
 use std::marker::Brand;
 use std::slice::IterMut;

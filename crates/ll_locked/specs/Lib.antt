@@ -1,4 +1,5 @@
 pub mod Channel
+pub mod Ledgers
 pub mod Section
 pub mod Told
 pub use Rattle.ll_verdict.specs.Events

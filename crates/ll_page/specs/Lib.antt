@@ -16,4 +16,4 @@ pub use Rattle.ll_window.specs.Compact
 pub use Rattle.ll_window.specs.Rows
 pub use Rattle.ll_range.specs.Announced
 pub use Rattle.ll_item.specs.Settings
-pub use Rattle.ll_time.specs.Times
+pub use Rattle.ll_format.specs.Times

@@ -8,9 +8,9 @@ ghost use Rattle.ll_page.specs.Piece.{row_lines};
 ghost use Rattle.ll_page.specs.Spelling.{block_lines, break_lines, map_lines, segment_lines};
 
 use ll_attr::Micros;
+use ll_format::UtcTime;
 use ll_item::Part;
 use ll_line::{DateTime, Line, PartLine, Uri, push_line};
-use ll_time::UtcTime;
 use ll_window::Segment;
 use std::alloc::AllocError;
 

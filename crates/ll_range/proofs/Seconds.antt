@@ -3,7 +3,7 @@ use Rattle.std.proofs.Common.{◌≡◌, ℕ, ◌&&◌, Bool, true, false, List,
 use Rattle.std.specs.Str.{all_ascii_digits}
 use Rattle.ll_attr.proofs.Digits.{list_all-is_ascii_digit}
 use Rattle.ll_attr.specs.Words.{pieces_at}
-use Rattle.ll_time.proofs.Separators.{last_part}
+use Rattle.ll_format.proofs.Separators.{last_part}
 use Rattle.ll_range.specs.Attributes.{are_digits, seconds_of, is_seconds}
 
 last_false : (a b : Bool) → b ≡ false → (a && b) ≡ false

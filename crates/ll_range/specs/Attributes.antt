@@ -6,7 +6,7 @@ use Rattle.ll_attr.specs.Words.{pieces_at}
 use Rattle.ll_attr.specs.declared.attributes.Attribute.{Attribute}
 use Rattle.ll_attr.specs.declared.attributes.AttrValue.{AttrValue}
 use Rattle.ll_attr.specs.declared.attributes.AttrValue.TheVariants.{Quoted, Bare}
-use Rattle.ll_time.specs.Dates.{is_date_time}
+use Rattle.ll_format.specs.Dates.{is_date_time}
 
 -- neither a quotation mark nor a tab, CR or LF
 abbrev pub is_id_byte : ℕ → Bool

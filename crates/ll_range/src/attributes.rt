@@ -5,7 +5,7 @@ ghost use Rattle.std.specs.List.{list_all, list_any};
 ghost use Rattle.ll_range.specs.Attributes as spec;
 
 use ll_attr::{AttrValue, Attribute, cut};
-use ll_time::is_date_time;
+use ll_format::is_date_time;
 
 /// Whether each attribute is one that a date range may have beside its ID, and one is START-DATE (section 4.4.5.1).
 pub(crate) fn are_allowed(attributes: &[Attribute]) -> bool

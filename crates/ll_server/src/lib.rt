@@ -1,11 +1,17 @@
-//! What a server is told by its settings file, and the files that the records of its channels and their numbers go to.
+//! What an operator tells a server and is told of it: its settings file, the files that the records of its channels and their numbers go to,
+//! and what is counted of each channel for these numbers. Nothing is promised of the numbers.
 #![tactic(auto)]
 
 mod config;
+mod counts;
+mod gate;
 mod journal;
 mod log;
+mod numbers;
 mod records;
 
 pub use config::{Config, ConfigFault, Workers};
+pub use gate::Gate;
 pub use log::Log;
+pub use numbers::Numbers;
 pub use records::Records;

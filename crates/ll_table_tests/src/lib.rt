@@ -1,4 +1,4 @@
-//! Tests of `ll_attr`, `ll_time`, `ll_mp4`, `ll_item`, `ll_window`, `ll_range`, `ll_page`, `ll_read`, `ll_directive`, `ll_publish`, `ll_wire` and `ll_session`. They stand here so that none of these is proved a second time for its tests.
+//! Tests of `ll_attr`, `ll_format`, `ll_mp4`, `ll_item`, `ll_window`, `ll_range`, `ll_page`, `ll_read`, `ll_directive`, `ll_publish`, `ll_wire` and `ll_session`. They stand here so that none of these is proved a second time for its tests.
 #![tactic(auto)]
 
 #[cfg(test)]

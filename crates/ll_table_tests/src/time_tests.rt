@@ -1,6 +1,6 @@
 //! The expected times and milliseconds are those of Python's `datetime`.
 use crate::rows::number;
-use ll_time::{UtcTime, is_date_time};
+use ll_format::{UtcTime, is_date_time};
 use std::alloc::AllocError;
 
 pub(crate) fn add_answer(told: &mut String, question: &str, input: &str) -> Result<(), AllocError> {

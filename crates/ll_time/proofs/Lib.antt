@@ -1,3 +1,0 @@
-pub mod NthDate
-pub mod Separators
-pub mod Boundaries

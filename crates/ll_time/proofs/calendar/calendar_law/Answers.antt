@@ -1,6 +1,0 @@
--- The induction over the days is in `NthDate`.
-use Rattle.ll_time.proofs.NthDate.{calendar_law}
-use Rattle.ll_time.proofs.calendar.calendar_law.Goals as goal
-
-pub returns : goal.returns
-returns c = calendar_law

@@ -1,3 +1,0 @@
-pub mod Calendar
-pub mod Dates
-pub mod Times
