@@ -3,13 +3,13 @@ use Rattle.std.proofs.Common.{◌≡◌, ℕ, suc, ◌<◌, ◌≤◌, ◌+◌, 
 use Rattle.std.proofs.lemmas.List.{append-nil}
 use Rattle.std.proofs.lemmas.Option.{none-some}
 use Rattle.std.proofs.lemmas.List.Elements.{filter-append}
-use Rattle.ll_order.specs.Numbers.{AreRising, all_but, change_if, changed, has_number}
-use Rattle.ll_order.specs.Places.{Adds, IsOrder, Removes, stands}
-use Rattle.ll_order.specs.declared.place.Place.{Place}
+use Rattle.ll_book.specs.Numbers.{AreRising, all_but, change_if, changed, has_number}
+use Rattle.ll_book.specs.Places.{Adds, IsOrder, Removes, stands}
+use Rattle.ll_book.specs.declared.place.Place.{Place}
 use Rattle.std.proofs.lemmas.Bool.Decides.{nat_tests}
-use Rattle.ll_order.proofs.Finds.{find_but, find_changed, find_filter, find_numbers, its_number, kept_if, none_up_to, rising_but, rising_filter, rising_map, rising_numbers, rising_pushed, same_rising}
-use Rattle.ll_order.proofs.Keyed.{itself, same}
-use Rattle.ll_order.proofs.Orders.{in_place, order_changed, order_left, order_pushed, order_stays, order_undone}
+use Rattle.ll_book.proofs.Finds.{find_but, find_changed, find_filter, find_numbers, its_number, kept_if, none_up_to, rising_but, rising_filter, rising_map, rising_numbers, rising_pushed, same_rising}
+use Rattle.ll_book.proofs.Keyed.{itself, same}
+use Rattle.ll_book.proofs.Orders.{in_place, order_changed, order_left, order_pushed, order_stays, order_undone}
 use Rattle.ll_verdict.specs.State.{is_waiting}
 use Rattle.ll_verdict.specs.Waiting.{AreBelow, found, has_ticket, is_ready, ticket_in, without}
 use Rattle.ll_verdict.specs.declared.entry.Entry.{Entry}

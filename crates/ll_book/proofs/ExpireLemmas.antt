@@ -1,8 +1,8 @@
 -- One request after another times out.
 use Rattle.std.proofs.Common.{◌≡◌, ℕ, ◌≤◌, ◌+◌, List, [], Bool, true, false, Option, Some, None, filter, find, length, map, nat_le, option_map, refl, ap, sym, ◌∙◌, arith}
 use Rattle.std.proofs.lemmas.Bool.Decides.{nat_tests}
-use Rattle.ll_order.specs.Numbers.{AreRising, changed}
-use Rattle.ll_order.proofs.Finds.{find_map, rising_map, same_rising}
+use Rattle.ll_book.specs.Numbers.{AreRising, changed}
+use Rattle.ll_book.proofs.Finds.{find_map, rising_map, same_rising}
 use Rattle.ll_verdict.specs.Waiting.{has_ticket, ticket_in}
 use Rattle.ll_verdict.specs.declared.entry.Entry.{Entry}
 use Rattle.ll_verdict.specs.declared.entry.Slot.{Slot}

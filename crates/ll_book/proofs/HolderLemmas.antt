@@ -11,12 +11,12 @@ use Rattle.std.specs.Map.{keys_of}
 use Rattle.std.specs.Ordering.{is_gt, is_lt}
 use Rattle.std.specs.declared.cmp.Ordering.{Ordering}
 use Rattle.std.specs.declared.cmp.Ordering.TheVariants.{Less, Equal, Greater}
-use Rattle.ll_order.specs.Numbers.{AreRising, has_number}
-use Rattle.ll_order.specs.Places.{place_cmp}
-use Rattle.ll_order.specs.declared.place.Place.{Place}
-use Rattle.ll_order.proofs.Finds.{count_le, count_less, find_filter, its_number, kept_if, rising_filter, same_rising}
-use Rattle.ll_order.proofs.Keyed.{is_number, itself, lower, same}
-use Rattle.ll_order.proofs.Orders.{place_exact, place_total}
+use Rattle.ll_book.specs.Numbers.{AreRising, has_number}
+use Rattle.ll_book.specs.Places.{place_cmp}
+use Rattle.ll_book.specs.declared.place.Place.{Place}
+use Rattle.ll_book.proofs.Finds.{count_le, count_less, find_filter, its_number, kept_if, rising_filter, same_rising}
+use Rattle.ll_book.proofs.Keyed.{is_number, itself, lower, same}
+use Rattle.ll_book.proofs.Orders.{place_exact, place_total}
 use Rattle.ll_verdict.specs.declared.reply.Settled.{Settled}
 use Rattle.ll_verdict.specs.State.{is_waiting}
 use Rattle.ll_verdict.specs.Waiting.{entry_in, has_ticket, ticket_in}

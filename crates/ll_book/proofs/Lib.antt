@@ -6,3 +6,6 @@ pub mod ReplyLemmas
 pub mod ReadyLemmas
 pub mod SlotLemmas
 pub mod TakeLemmas
+pub mod Finds
+pub mod Keyed
+pub mod Orders

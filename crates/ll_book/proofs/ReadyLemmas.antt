@@ -2,8 +2,8 @@
 use Rattle.std.proofs.Common.{◌≡◌, ℕ, zero, suc, ◌<◌, ◌≤◌, ◌==◌, List, [], ◌∷◌, Bool, true, false, not, cond, Some, None, find, get_or, length, nat_lt, refl, ap, sym, ◌∙◌, subst, true≢false, arith}
 use Rattle.std.proofs.lemmas.Bool.Decides.{nat_tests}
 use Rattle.std.specs.List.{insert, remove}
-use Rattle.ll_order.specs.Numbers.{AreRising, all_but, has_number}
-use Rattle.ll_order.proofs.Keyed.{above, all_above, itself, not_here}
+use Rattle.ll_book.specs.Numbers.{AreRising, all_but, has_number}
+use Rattle.ll_book.proofs.Keyed.{above, all_above, itself, not_here}
 use Rattle.ll_book.specs.Orders.{put_by, put_in}
 
 abbrev pub itself_of : ℕ → ℕ

@@ -3,9 +3,9 @@ use Rattle.std.proofs.Common.{◌≡◌, ℕ, ◌<◌, ◌+◌, ◌==◌, List, 
 use Rattle.std.proofs.lemmas.Bool.Decides.{nat_tests}
 use Rattle.std.proofs.lemmas.Option.{none-some}
 use Rattle.std.specs.BTreeMap.{is_at}
-use Rattle.ll_order.specs.Numbers.{AreRising, change_if, changed}
-use Rattle.ll_order.proofs.Finds.{find_changed, find_map, its_number, rising_map, same_rising}
-use Rattle.ll_order.proofs.Keyed.{is_number, lower}
+use Rattle.ll_book.specs.Numbers.{AreRising, change_if, changed}
+use Rattle.ll_book.proofs.Finds.{find_changed, find_map, its_number, rising_map, same_rising}
+use Rattle.ll_book.proofs.Keyed.{is_number, lower}
 use Rattle.ll_verdict.specs.Waiting.{has_ticket, settled_in, ticket_in}
 use Rattle.ll_verdict.specs.declared.entry.Entry.{Entry}
 use Rattle.ll_verdict.specs.declared.entry.Slot.{Slot}

@@ -2,9 +2,9 @@
 use Rattle.std.proofs.Common.{◌≡◌, ℕ, ◌+◌, ◌==◌, ◌&&◌, List, [], ◌∷◌, Bool, true, false, not, cond, Option, Some, None, filter, find, is_none, is_some, length, map, option_and_then, option_map, refl, ap, sym, ◌∙◌, true≢false, arith}
 use Rattle.std.proofs.lemmas.Option.{none-some}
 use Rattle.std.specs.List.{slice_get}
-use Rattle.ll_order.specs.Numbers.{AreRising, AreUnder}
-use Rattle.ll_order.proofs.Finds.{count_but, find_both, find_filter, its_number, kept_if, rising_filter, same_rising}
-use Rattle.ll_order.proofs.Keyed.{itself, none_but, not_here, same}
+use Rattle.ll_book.specs.Numbers.{AreRising, AreUnder}
+use Rattle.ll_book.proofs.Finds.{count_but, find_both, find_filter, its_number, kept_if, rising_filter, same_rising}
+use Rattle.ll_book.proofs.Keyed.{itself, none_but, not_here, same}
 use Rattle.ll_verdict.specs.State.{is_waiting}
 use Rattle.ll_verdict.specs.Waiting.{AreBelow, IsRising, entry_in, found, has_ticket, is_ready, is_ready_at, reply_at, settled_in, ticket_in, without, without_ready}
 use Rattle.ll_verdict.proofs.WaitingLemmas.{unready}

@@ -8,11 +8,11 @@ use Rattle.std.specs.Ordering.{is_gt, nat_cmp, ordering_then}
 use Rattle.std.specs.declared.cmp.Ordering.{Ordering}
 use Rattle.ll_directive.specs.declared.want.Awaited.{Awaited}
 use Rattle.ll_directive.specs.declared.want.Awaited.TheVariants as awaited
-use Rattle.ll_order.specs.Numbers.{AreRising, change_if, changed}
-use Rattle.ll_order.specs.Places.{IsBefore, IsNext, IsOrder, place_cmp, stands}
-use Rattle.ll_order.specs.declared.place.Place.{Place}
-use Rattle.ll_order.proofs.Finds.{count_changed, find_changed, find_filter, its_number, kept_if, none_up_to, rising_filter, same_rising}
-use Rattle.ll_order.proofs.Orders.{in_place, of_place, place_total}
+use Rattle.ll_book.specs.Numbers.{AreRising, change_if, changed}
+use Rattle.ll_book.specs.Places.{IsBefore, IsNext, IsOrder, place_cmp, stands}
+use Rattle.ll_book.specs.declared.place.Place.{Place}
+use Rattle.ll_book.proofs.Finds.{count_changed, find_changed, find_filter, its_number, kept_if, none_up_to, rising_filter, same_rising}
+use Rattle.ll_book.proofs.Orders.{in_place, of_place, place_total}
 use Rattle.ll_verdict.specs.State.{is_waiting}
 use Rattle.ll_verdict.specs.Waiting.{entry_in, found, has_ticket, ticket_in}
 use Rattle.ll_verdict.specs.declared.entry.Entry.{Entry}

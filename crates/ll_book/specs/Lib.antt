@@ -1,4 +1,5 @@
+pub mod Numbers
 pub mod Orders
-pub mod Pages
+pub mod Places
 pub mod Release
 pub mod Releases

@@ -5,9 +5,9 @@ use Rattle.std.specs.Map.{lookup}
 use Rattle.std.specs.Ordering.{nat_cmp, is_gt, is_lt}
 use Rattle.ll_directive.specs.declared.want.Awaited.{Awaited}
 use Rattle.ll_directive.specs.declared.want.Awaited.TheVariants as awaited
-use Rattle.ll_order.specs.Numbers.{AreRising}
-use Rattle.ll_order.specs.Places.{IsBefore, IsOrder, place_cmp}
-use Rattle.ll_order.specs.declared.place.Place.{Place}
+use Rattle.ll_book.specs.Numbers.{AreRising}
+use Rattle.ll_book.specs.Places.{IsBefore, IsOrder, place_cmp}
+use Rattle.ll_book.specs.declared.place.Place.{Place}
 use Rattle.ll_verdict.specs.State.{is_waiting}
 use Rattle.ll_verdict.specs.Waiting.{found, has_ticket, is_ready, ticket_in}
 use Rattle.ll_verdict.specs.declared.entry.Entry.{Entry}

@@ -2,8 +2,8 @@ ghost use Rattle.std.specs.Prelude.{◌≡◌, ◌≤◌, ◌<◌, ◌+◌, ◌^
 ghost use Rattle.std.specs.BTreeMap.{is_at};
 ghost use Rattle.std.specs.List.{list_any};
 ghost use Rattle.std.specs.Ordering.{is_gt, nat_cmp};
-ghost use Rattle.ll_order.specs.Numbers.{changed};
-ghost use Rattle.ll_order.specs.Places.{place_cmp};
+ghost use Rattle.ll_book.specs.Numbers.{changed};
+ghost use Rattle.ll_book.specs.Places.{place_cmp};
 ghost use Rattle.ll_verdict.specs.State.{is_waiting, waiting_in};
 ghost use Rattle.ll_verdict.specs.Verdict.{waiting_limit};
 ghost use Rattle.ll_book.specs.Release.{AreThose, expired, frees, holders_of, is_over, released, takes};
@@ -12,14 +12,15 @@ ghost use Rattle.ll_book.specs.Orders as spec;
 ghost use Rattle.ll_verdict.specs.Waiting.{AreBelow, IsRising, entry_in, found, has_ticket, is_ready, is_ready_at, first_ready, reply_at, ticket_in, without, without_ready};
 
 use crate::holders::{Holders, given};
-use crate::pages::Pages;
+use crate::order::Order;
+use crate::place::Place;
 use crate::places::{FIRST, covers, start, time_of, want_of};
 use crate::ready::Ready;
 use crate::release::Release;
 use crate::slots::Slots;
 use ll_item::Media;
-use ll_order::{Order, Place};
 use ll_verdict::{Entry, Settled, Slot};
+use ll_written::Pages;
 use std::alloc::{AllocError, Global};
 use std::collections::BTreeMap;
 use std::marker::Model;

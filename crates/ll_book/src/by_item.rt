@@ -4,10 +4,10 @@ ghost use Rattle.ll_book.specs.Releases as spec;
 
 use crate::book::Book;
 use crate::holders::Holders;
-use crate::pages::Pages;
 use crate::release::Release;
 use ll_item::{Item, Media};
 use ll_window::Window;
+use ll_written::Pages;
 use std::alloc::{AllocError, Global};
 
 /// A part releases those that await it or an earlier one, the end all of its rendition.

@@ -1,12 +1,13 @@
-//! Who waits for what, and until when: the open requests of one channel, as a list in order of their tickets. Sections are those
-//! of draft-pantos-hls-rfc8216bis.
+//! Who waits for what, and until when: the open requests of one channel, as a list in order of their tickets; and orders of what has a number,
+//! in which the first after any place is found in logarithmic time. Sections are those of draft-pantos-hls-rfc8216bis.
 #![tactic(auto)]
 
 mod book;
 mod by_item;
 mod holders;
 mod laws;
-mod pages;
+mod order;
+mod place;
 mod places;
 mod ready;
 mod release;
@@ -16,5 +17,6 @@ pub use book::{Book, ParkFault, Released};
 pub use by_item::{first_release, holders_for, part_of, release_with, second_release, takes_any};
 pub use holders::Holders;
 pub use laws::release_law;
-pub use pages::Pages;
+pub use order::Order;
+pub use place::Place;
 pub use release::Release;

@@ -2,9 +2,9 @@
 ghost use Rattle.std.specs.Prelude.{◌≡◌};
 ghost use Rattle.ll_book.specs.Orders as spec;
 
+use crate::place::Place;
 use crate::release::Release;
 use ll_directive::Awaited;
-use ll_order::Place;
 use ll_verdict::Entry;
 
 /// A place before all others.

@@ -1,6 +1,6 @@
 //! Whose reply is there.
 ghost use Rattle.std.specs.Prelude.{◌≡◌, ◌≤◌, ◌<◌, ◌+◌, ◌==◌, ℕ, [], Some, cond, OnOk, find, length, slice_get};
-ghost use Rattle.ll_order.specs.Numbers.{AreRising, all_but, has_number};
+ghost use Rattle.ll_book.specs.Numbers.{AreRising, all_but, has_number};
 
 use std::alloc::{AllocError, Global};
 use std::collections::VecDeque;
@@ -15,7 +15,7 @@ pub(crate) struct Ready {
 impl Model for Ready {
     ghost use Rattle.std.specs.VecDeque.{deque_capacity};
     ghost use Rattle.ll_book.specs.Orders.{Kept};
-    ghost use Rattle.ll_order.specs.Numbers.{AreRising};
+    ghost use Rattle.ll_book.specs.Numbers.{AreRising};
 
     ghost Value = { Kept };
 

@@ -6,7 +6,7 @@ ghost use Rattle.std.specs.Ordering.{nat_cmp};
 ghost use Rattle.ll_verdict.specs.declared.entry.Slot.{Slot};
 ghost use Rattle.std.specs.Option.{option_copied};
 ghost use Rattle.ll_book.specs.Orders.{settle_with};
-ghost use Rattle.ll_order.specs.Numbers.{changed};
+ghost use Rattle.ll_book.specs.Numbers.{changed};
 ghost use Rattle.ll_verdict.specs.Waiting.{AreBelow, has_ticket, ticket_in, without};
 
 use ll_verdict::{Settled, Slot};
@@ -24,7 +24,7 @@ impl Model for Slots {
     ghost use Rattle.std.specs.Prelude.{List};
     ghost use Rattle.std.specs.Map.{values_of};
     ghost use Rattle.ll_verdict.specs.declared.entry.Slot.{Slot};
-    ghost use Rattle.ll_order.specs.Numbers.{AreKeyed};
+    ghost use Rattle.ll_book.specs.Numbers.{AreKeyed};
     ghost use Rattle.ll_verdict.specs.Waiting.{ticket_in};
 
     ghost Value = { List Slot };

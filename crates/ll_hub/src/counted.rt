@@ -15,7 +15,8 @@ ghost use Rattle.ll_verdict.specs.State.{state_of};
 use ll_directive::Want;
 use ll_item::{Item, Settings};
 use ll_locked::{
-    Asks, AtOnce, Channel, ChannelCounts, Clock, HubFault, Known, Ledgers, PassCounts, Publishes, Total, Tried,
+    Asks, AtOnce, Channel, ChannelCounts, Clock, HubFault, Known, Ledgers, PassCounts, Publishes,
+    Total, Tried,
 };
 use ll_record::{Chunk, ReadingFault};
 use ll_room::Stamped;

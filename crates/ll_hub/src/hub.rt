@@ -10,7 +10,9 @@ use crate::pass::Pass;
 use crate::totals::Totals;
 use ll_directive::Want;
 use ll_item::{Item, Settings};
-use ll_locked::{Asks, AtOnce, Blanks, Clock, HubFault, Ledgers, Opened, PassCounts, Publishes, RoomFault, Seats};
+use ll_locked::{
+    Asks, AtOnce, Blanks, Clock, HubFault, Ledgers, Opened, PassCounts, Publishes, RoomFault, Seats,
+};
 use ll_record::{Chunk, Sink};
 use ll_room::Stamped;
 use ll_verdict::Reply;

@@ -1,8 +1,9 @@
 //! How many requests a release and a time-out look at, and a book that is full.
 use crate::kept::{Kept, pages};
-use ll_book::{Pages, ParkFault, Release};
+use ll_book::{ParkFault, Release};
 use ll_directive::Awaited;
 use ll_verdict::Settled;
+use ll_written::Pages;
 use std::alloc::{AllocError, Global};
 use std::process::Abort;
 use std::test::Fail;

@@ -2,13 +2,14 @@
 ghost use Rattle.std.specs.Prelude.{◌≡◌};
 ghost use Rattle.ll_verdict.specs.Waiting.{AreBelow};
 
-use ll_book::{Book, Pages, ParkFault, Release, Released, release_law};
+use ll_book::{Book, ParkFault, Release, Released, release_law};
 use ll_directive::{Awaited, What};
 use ll_item::{Item, Payload, Settings};
 use ll_page::{Rendition, Shown};
 use ll_range::Ranges;
 use ll_verdict::{Entry, Settled, Wanted};
 use ll_window::Window;
+use ll_written::Pages;
 use std::alloc::{AllocError, Global};
 use std::marker::Model;
 use std::test::Fail;

@@ -1,9 +1,10 @@
 //! A book against a plain list of who waits.
 use crate::dice::Dice;
 use crate::kept::{Kept, pages};
-use ll_book::{Book, Pages, Release};
+use ll_book::{Book, Release};
 use ll_directive::Awaited;
 use ll_verdict::Settled;
+use ll_written::Pages;
 use std::alloc::{AllocError, Global};
 use std::process::Abort;
 use std::test::Fail;

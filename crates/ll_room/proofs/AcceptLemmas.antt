@@ -25,7 +25,7 @@ use Rattle.ll_verdict.specs.declared.entry.Slot.{Slot}
 use Rattle.ll_rendition.specs.declared.fault.PublishFault.{PublishFault}
 use Rattle.ll_rendition.specs.declared.fault.PublishFault.TheVariants.{NoRendition}
 use Rattle.ll_verdict.specs.declared.wanted.Wanted.{Wanted}
-use Rattle.ll_book.specs.Pages.{PagesOf, page_in}
+use Rattle.ll_written.specs.Pages.{PagesOf, page_in}
 use Rattle.ll_book.specs.Release.{Supply}
 use Rattle.ll_book.specs.Releases.{first_release, part_of, second_release}
 use Rattle.ll_rendition.proofs.ItemLemmas.{its_refusal}

@@ -7,9 +7,9 @@ use Rattle.ll_verdict.specs.Waiting.{AreBelow, without, has_ticket, ticket_in}
 use Rattle.ll_page.specs.Page.{Moment}
 use Rattle.ll_room.specs.RoomValue.{RoomValue, less}
 use Rattle.ll_room.specs.Kept.{IsKept, with_answer}
-use Rattle.ll_room.specs.Stored.{AreFew}
-use Rattle.ll_room.specs.Written.{WrittenOf}
-use Rattle.ll_room.proofs.WrittenLemmas.{none-written}
+use Rattle.ll_written.specs.Stored.{AreFew}
+use Rattle.ll_written.specs.Written.{WrittenOf}
+use Rattle.ll_written.proofs.WrittenLemmas.{none-written}
 use Rattle.std.proofs.lemmas.Bool.Decides.{nat_tests}
 use Rattle.ll_item.proofs.WithinLimits.{within}
 use Rattle.ll_item.specs.Settings.{Configuration, limit_broken}

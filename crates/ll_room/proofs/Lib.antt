@@ -9,6 +9,4 @@ pub mod PublishLemmas
 pub mod SettleLemmas
 pub mod StandLemmas
 pub mod StoreLemmas
-pub mod StoredLemmas
 pub mod TicketLemmas
-pub mod WrittenLemmas

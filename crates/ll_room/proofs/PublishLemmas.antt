@@ -23,9 +23,9 @@ use Rattle.ll_room.specs.Freed.{AreApart, freed, freed_slots, new_pages, new_sup
 use Rattle.ll_verdict.specs.Full.{event_end}
 use Rattle.ll_room.specs.RoomValue.{RoomValue}
 use Rattle.ll_room.specs.Kept.{IsKept}
-use Rattle.ll_room.specs.Stored.{AreFew}
-use Rattle.ll_room.specs.Written.{AreWritten, WrittenOf}
-use Rattle.ll_room.proofs.WrittenLemmas.{none-written, one-written}
+use Rattle.ll_written.specs.Stored.{AreFew}
+use Rattle.ll_written.specs.Written.{AreWritten, WrittenOf}
+use Rattle.ll_written.proofs.WrittenLemmas.{none-written, one-written}
 use Rattle.ll_room.specs.declared.publish.Coming.{Coming}
 
 -- the releases take none of these

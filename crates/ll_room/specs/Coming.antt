@@ -1,6 +1,6 @@
 -- For private contracts: what an item and its releases need, made before anything changes.
 use Rattle.std.specs.Prelude.{◌≡◌, ◌+◌, [], ◌∷◌, Option, length}
-use Rattle.ll_book.specs.Pages.{PagesOf}
+use Rattle.ll_written.specs.Pages.{PagesOf}
 use Rattle.ll_book.specs.declared.release.Release.{Release}
 use Rattle.ll_book.specs.Release.{Supply}
 use Rattle.ll_book.specs.Releases.{HasHolders}

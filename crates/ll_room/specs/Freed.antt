@@ -8,7 +8,7 @@ use Rattle.ll_store.specs.Media.{StoreValue}
 use Rattle.ll_store.specs.Stores.{stores}
 use Rattle.ll_rendition.specs.declared.rendition.Rendition.{Rendition}
 use Rattle.ll_verdict.specs.declared.entry.Slot.{Slot}
-use Rattle.ll_book.specs.Pages.{PagesOf}
+use Rattle.ll_written.specs.Pages.{PagesOf}
 use Rattle.ll_book.specs.Release.{Supply, given_if, takes}
 use Rattle.ll_book.specs.declared.release.Release.{Release}
 use Rattle.ll_book.specs.Releases.{first_release, part_of, second_release}

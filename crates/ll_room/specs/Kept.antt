@@ -3,8 +3,8 @@ use Rattle.std.specs.Prelude.{◌≡◌, ◌≤◌, ◌+◌, ◌*◌, ◌^◌, �
 use Rattle.ll_verdict.specs.Waiting.{AreBelow}
 use Rattle.ll_verdict.specs.declared.wanted.Wanted.{Wanted}
 use Rattle.ll_room.specs.RoomValue.{RoomValue, moment}
-use Rattle.ll_room.specs.Stored.{AreFew}
-use Rattle.ll_room.specs.Written.{AreWritten, WrittenOf}
+use Rattle.ll_written.specs.Stored.{AreFew}
+use Rattle.ll_written.specs.Written.{AreWritten, WrittenOf}
 
 pub record IsKept (h : RoomValue) (w : WrittenOf) : Type 0 where
   pub current : AreWritten (moment h) w.pages

@@ -6,6 +6,4 @@ pub mod Full
 pub mod Kept
 pub mod RoomValue
 pub mod StampedValue
-pub mod Stored
 pub mod Ticket
-pub mod Written

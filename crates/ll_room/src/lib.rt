@@ -13,7 +13,6 @@ mod replayer;
 mod room;
 mod settle;
 mod stamped;
-mod written;
 
 pub use asked::{Asked, Closed, Collected};
 pub use decision::Decision;

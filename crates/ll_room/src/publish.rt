@@ -16,13 +16,13 @@ ghost use Rattle.ll_room.specs.declared.stamped.Stamp.TheVariants as stamp;
 use crate::room::{EVENT_END, Room};
 use crate::stamped::{Stamp, Stamped};
 use ll_book::{
-    Holders, Pages, Release, first_release, holders_for, part_of, release_with, second_release,
-    takes_any,
+    Holders, Release, first_release, holders_for, part_of, release_with, second_release, takes_any,
 };
 use ll_item::{Item, Media};
 use ll_page::Shown;
 use ll_store::{arrive, expect};
 use ll_verdict::PublishFault;
+use ll_written::Pages;
 use std::alloc::AllocError;
 
 impl Room {

@@ -8,7 +8,6 @@ ghost use Rattle.ll_room.specs.Answers.{is_open};
 ghost use Rattle.ll_verdict.specs.Full.{is_full};
 ghost use Rattle.ll_room.specs.RoomValue.{room_value};
 
-use crate::written::Written;
 use ll_book::Book;
 use ll_item::Settings;
 use ll_page::{Rendition, Shown};
@@ -16,6 +15,7 @@ use ll_range::Ranges;
 use ll_store::{Store, new_stores};
 use ll_verdict::Entry;
 use ll_window::Window;
+use ll_written::Written;
 use std::alloc::{AllocError, Global};
 use std::marker::Model;
 use std::sync::Arc;

@@ -6,12 +6,12 @@ use Rattle.std.specs.BTreeMap.{insert_entry, is_at}
 use Rattle.std.specs.Map.{lookup, remove_entry, values_of}
 use Rattle.std.specs.Ordering.{nat_cmp}
 use Rattle.std.specs.Set.{remove_key}
-use Rattle.ll_order.specs.Numbers.{AreKeyed, AreRising, AreUnder, all_but, has_number}
-use Rattle.ll_order.specs.Places.{Adds, IsNext, IsOrder, Removes, stands}
-use Rattle.ll_order.specs.declared.place.Place.{Place}
-use Rattle.ll_order.proofs.Finds.{its_number, none_above}
-use Rattle.ll_order.proofs.Keyed.{keyed_left, keyed_pushed, looked_up, pushed, rising, taken_out}
-use Rattle.ll_order.proofs.Orders.{order_left, order_pushed, order_undone}
+use Rattle.ll_book.specs.Numbers.{AreKeyed, AreRising, AreUnder, all_but, has_number}
+use Rattle.ll_book.specs.Places.{Adds, IsNext, IsOrder, Removes, stands}
+use Rattle.ll_book.specs.declared.place.Place.{Place}
+use Rattle.ll_book.proofs.Finds.{its_number, none_above}
+use Rattle.ll_book.proofs.Keyed.{keyed_left, keyed_pushed, looked_up, pushed, rising, taken_out}
+use Rattle.ll_book.proofs.Orders.{order_left, order_pushed, order_undone}
 use Rattle.ll_rooms.specs.Book.{IsBook, by_owner, by_ticket, every, id_of, kind_of, number_of, wait_in}
 use Rattle.ll_rooms.specs.Spots.{spot}
 use Rattle.ll_rooms.specs.Waits.{is_of, is_same, is_under, under, wait_of, without}

@@ -3,9 +3,9 @@ use Rattle.std.proofs.Common.{◌≡◌, ℕ, ◌<◌, ◌+◌, ◌==◌, List, 
 use Rattle.std.proofs.lemmas.Bool.Decides.{nat_tests}
 use Rattle.std.proofs.lemmas.Option.{none-some}
 use Rattle.std.specs.Set.{remove_key}
-use Rattle.ll_order.specs.Numbers.{AreRising, AreUnder, all_but, has_number}
-use Rattle.ll_order.proofs.Finds.{its_number}
-use Rattle.ll_order.proofs.Keyed.{all_above, itself, kept}
+use Rattle.ll_book.specs.Numbers.{AreRising, AreUnder, all_but, has_number}
+use Rattle.ll_book.proofs.Finds.{its_number}
+use Rattle.ll_book.proofs.Keyed.{all_above, itself, kept}
 
 below : (n m : ℕ) → n < m → (n == m) ≡ false
 below n m h = grind (arith, nat_tests, h)

@@ -4,11 +4,11 @@ use Rattle.std.proofs.lemmas.Option.{none-some}
 use Rattle.std.specs.Cmp.{first_so, nat_cmp_is, nat_cmp_total, second_so, tied_itself}
 use Rattle.std.specs.Ordering.{is_gt, nat_cmp, ordering_then}
 use Rattle.std.specs.declared.cmp.Ordering.TheVariants.{Less, Greater}
-use Rattle.ll_order.specs.Numbers.{AreRising, has_number}
-use Rattle.ll_order.specs.Places.{IsBefore, IsNext, IsOrder, place_cmp, stands}
-use Rattle.ll_order.specs.declared.place.Place.{Place}
-use Rattle.ll_order.proofs.Keyed.{itself, same}
-use Rattle.ll_order.proofs.Orders.{in_place, of_place}
+use Rattle.ll_book.specs.Numbers.{AreRising, has_number}
+use Rattle.ll_book.specs.Places.{IsBefore, IsNext, IsOrder, place_cmp, stands}
+use Rattle.ll_book.specs.declared.place.Place.{Place}
+use Rattle.ll_book.proofs.Keyed.{itself, same}
+use Rattle.ll_book.proofs.Orders.{in_place, of_place}
 use Rattle.ll_rooms.specs.Spots.{spot}
 use Rattle.ll_rooms.proofs.Firsts.{found_above, least_passes, none_passes}
 

@@ -1,9 +1,9 @@
 -- For private contracts: the rows of a book under their numbers, and the orders that they stand in.
 use Rattle.std.specs.Prelude.{ℕ, ◌+◌, Bool, true, List}
 use Rattle.std.specs.Map.{values_of}
-use Rattle.ll_order.specs.Numbers.{AreKeyed, AreUnder}
-use Rattle.ll_order.specs.Places.{IsOrder}
-use Rattle.ll_order.specs.declared.place.Place.{Place}
+use Rattle.ll_book.specs.Numbers.{AreKeyed, AreUnder}
+use Rattle.ll_book.specs.Places.{IsOrder}
+use Rattle.ll_book.specs.declared.place.Place.{Place}
 use Rattle.ll_rooms.specs.Spots.{spot}
 use Rattle.ll_rooms.specs.declared.owner.Owner.{Owner}
 use Rattle.ll_rooms.specs.declared.owner.Owner.TheVariants.{Get, Connection}

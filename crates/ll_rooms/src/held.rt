@@ -5,7 +5,7 @@ use crate::held_request::{HeldRequest, insert};
 use crate::owner::Owner;
 use crate::spot::first_of;
 use crate::wait::Wait;
-use ll_order::Order;
+use ll_book::Order;
 use ll_room::Parked;
 use std::alloc::Global;
 use std::collections::BTreeMap;

@@ -7,7 +7,7 @@ ghost use Rattle.ll_rooms.specs.Book.{by_owner, by_ticket, wait_in};
 use crate::owner::Owner;
 use crate::spot::spot;
 use crate::wait::Wait;
-use ll_order::Place;
+use ll_book::Place;
 use ll_room::Parked;
 use std::alloc::AllocFailed;
 use std::collections::BTreeMap;

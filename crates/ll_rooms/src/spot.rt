@@ -1,9 +1,9 @@
 //! Orders in which elements that share a key stand together, by their numbers.
 ghost use Rattle.std.specs.Prelude.{◌≡◌, ◌<◌, ℕ, false, IfNone, IfSome};
-ghost use Rattle.ll_order.specs.Places.{IsNext, stands};
+ghost use Rattle.ll_book.specs.Places.{IsNext, stands};
 ghost use Rattle.ll_rooms.specs.Spots.{spot};
 
-use ll_order::{Order, Place};
+use ll_book::{Order, Place};
 
 /// Where the element of this number stands, among those of the same key. A key has two parts.
 pub(crate) fn spot(group: u64, rank: u64, number: u64) -> Place

@@ -1,6 +1,6 @@
 -- A ticket stands for one request at most.
 use Rattle.std.proofs.Common.{◌∙◌, ap, subst, sym}
-use Rattle.ll_order.specs.Numbers.{AreRising}
+use Rattle.ll_book.specs.Numbers.{AreRising}
 use Rattle.ll_verdict.specs.Waiting.{found, ticket_in, without}
 use Rattle.ll_book.proofs.SlotLemmas.{nobody_found, none_found, one_found, slot_of}
 use Rattle.ll_book.proofs.book.Book.drop_ticket.Goals as goal

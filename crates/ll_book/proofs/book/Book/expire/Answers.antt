@@ -1,6 +1,6 @@
 -- One after another times out, the first deadline first.
 use Rattle.std.proofs.Common.{◌^◌, ◌∙◌, ap, filter, find, length, option_map, refl, subst, sym, arith}
-use Rattle.ll_order.specs.Numbers.{AreRising}
+use Rattle.ll_book.specs.Numbers.{AreRising}
 use Rattle.ll_verdict.specs.Waiting.{has_ticket, ticket_in}
 use Rattle.ll_verdict.specs.declared.reply.Settled.TheVariants.{Timeout}
 use Rattle.ll_book.specs.Release.{expired, is_over}

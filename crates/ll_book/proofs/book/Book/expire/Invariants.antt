@@ -1,6 +1,6 @@
 -- Those that are left over come to what they would have come to.
 use Rattle.std.proofs.Common.{◌≡◌, ◌+◌, ◌<◌, ◌^◌, ℕ, filter, find, length, option_map}
-use Rattle.ll_order.specs.Numbers.{AreRising}
+use Rattle.ll_book.specs.Numbers.{AreRising}
 use Rattle.ll_verdict.specs.Waiting.{has_ticket, ticket_in}
 use Rattle.ll_book.specs.Release.{expired, is_over}
 use Rattle.ll_book.proofs.book.Book.expire.Given as goal

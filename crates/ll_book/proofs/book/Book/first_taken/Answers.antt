@@ -1,6 +1,6 @@
 -- Who is found under the ticket of the first covered place waits; where there is none, the release takes nobody.
 use Rattle.std.proofs.Common.{subst}
-use Rattle.ll_order.specs.Numbers.{AreRising}
+use Rattle.ll_book.specs.Numbers.{AreRising}
 use Rattle.ll_verdict.specs.Waiting.{ticket_in}
 use Rattle.ll_book.specs.Orders.{NoneTaken}
 use Rattle.ll_book.proofs.TakeLemmas.{none_if, none_taken}

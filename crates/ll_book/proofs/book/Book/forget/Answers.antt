@@ -1,6 +1,6 @@
 -- A request leaves both orders.
 use Rattle.std.proofs.Common.{◌∙◌, ap, subst}
-use Rattle.ll_order.specs.Places.{Removes}
+use Rattle.ll_book.specs.Places.{Removes}
 use Rattle.ll_verdict.specs.Waiting.{found}
 use Rattle.ll_book.proofs.BookLemmas.{book_forgotten}
 use Rattle.ll_book.proofs.book.Book.forget.Goals as goal

@@ -1,6 +1,6 @@
 -- A request is put into both orders and stands last; where memory isn't found, it leaves them again.
 use Rattle.std.proofs.Common.{subst, sym, arith}
-use Rattle.ll_order.specs.Places.{Adds, IsOrder, Removes}
+use Rattle.ll_book.specs.Places.{Adds, IsOrder, Removes}
 use Rattle.ll_verdict.specs.State.{is_waiting}
 use Rattle.ll_verdict.specs.Waiting.{AreBelow, ticket_in}
 use Rattle.ll_book.specs.Orders.{IsBook, time_at}

@@ -1,8 +1,8 @@
 -- The holders, made one after another in the order of what is awaited, are those of the release in order of tickets.
 use Rattle.std.proofs.Common.{◌∙◌, ◌≡◌, ◌^◌, ap, None, find, refl, subst, sym, arith}
 use Rattle.std.specs.Ordering.{is_gt}
-use Rattle.ll_order.specs.Numbers.{AreRising}
-use Rattle.ll_order.specs.Places.{place_cmp}
+use Rattle.ll_book.specs.Numbers.{AreRising}
+use Rattle.ll_book.specs.Places.{place_cmp}
 use Rattle.ll_verdict.specs.Waiting.{has_ticket, ticket_in}
 use Rattle.ll_book.specs.Orders.{holder_at, is_held, is_passed, reply_under, reply_if, start}
 use Rattle.ll_book.specs.Release.{holders_of, takes}

@@ -1,7 +1,7 @@
 -- Those up to a place have their holders.
 use Rattle.std.proofs.Common.{◌≡◌, ◌≤◌, ◌+◌, ◌<◌, ◌^◌, ℕ, false, filter, find, length}
 use Rattle.std.specs.Ordering.{is_gt}
-use Rattle.ll_order.specs.Places.{place_cmp}
+use Rattle.ll_book.specs.Places.{place_cmp}
 use Rattle.ll_verdict.specs.Waiting.{has_ticket}
 use Rattle.ll_book.specs.Orders.{holder_at, is_held, is_passed, is_to_come, reply_under, reply_if, start}
 use Rattle.ll_book.specs.Release.{takes}

@@ -1,6 +1,6 @@
 -- One after another gets its reply.
 use Rattle.std.proofs.Common.{◌^◌, ◌∙◌, ap, filter, find, length, option_map, refl, subst, sym, arith}
-use Rattle.ll_order.specs.Numbers.{AreRising}
+use Rattle.ll_book.specs.Numbers.{AreRising}
 use Rattle.ll_verdict.specs.Waiting.{has_ticket, ticket_in}
 use Rattle.ll_book.specs.Release.{HoldersValue, takes}
 use Rattle.ll_book.proofs.BookLemmas.{few_pass, rising_changed}

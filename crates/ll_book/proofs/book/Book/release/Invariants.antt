@@ -1,6 +1,6 @@
 -- Those that are left over get the replies that are left over.
 use Rattle.std.proofs.Common.{◌≡◌, ◌+◌, ◌<◌, ◌^◌, ℕ, filter, find, length, option_map}
-use Rattle.ll_order.specs.Numbers.{AreRising}
+use Rattle.ll_book.specs.Numbers.{AreRising}
 use Rattle.ll_verdict.specs.Waiting.{has_ticket, ticket_in}
 use Rattle.ll_book.specs.Release.{released, takes}
 use Rattle.ll_book.proofs.ReplyLemmas.{HasReplies, replied}

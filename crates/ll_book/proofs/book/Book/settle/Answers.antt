@@ -1,6 +1,6 @@
 -- A request leaves both orders, and its reply is there.
 use Rattle.std.proofs.Common.{subst, sym}
-use Rattle.ll_order.specs.Places.{Removes}
+use Rattle.ll_book.specs.Places.{Removes}
 use Rattle.ll_book.specs.Orders.{IsWaiting}
 use Rattle.ll_book.proofs.BookLemmas.{book_given, found_above, some_room}
 use Rattle.ll_book.proofs.book.Book.settle.Goals as goal

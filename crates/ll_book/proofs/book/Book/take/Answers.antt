@@ -1,6 +1,6 @@
 -- The request whose reply is handed out is the only one of its ticket.
 use Rattle.std.proofs.Common.{◌∙◌, subst}
-use Rattle.ll_order.specs.Numbers.{AreRising}
+use Rattle.ll_book.specs.Numbers.{AreRising}
 use Rattle.ll_verdict.specs.Waiting.{ticket_in}
 use Rattle.ll_book.proofs.SlotLemmas.{left_ready, none_ready, passed}
 use Rattle.ll_book.proofs.book.Book.take.Goals as goal

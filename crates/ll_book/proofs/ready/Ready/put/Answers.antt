@@ -1,7 +1,7 @@
 -- A ticket goes to its place, where it has none.
 use Rattle.std.proofs.Common.{◌∙◌, ◌==◌, Ok, Err, Some, ap, cond, find, sym, subst}
 use Rattle.std.proofs.lemmas.List.Sorted.{searched}
-use Rattle.ll_order.specs.Numbers.{AreRising, has_number}
+use Rattle.ll_book.specs.Numbers.{AreRising, has_number}
 use Rattle.ll_book.specs.Orders.{Kept}
 use Rattle.ll_book.proofs.ReadyLemmas.{absent, find_put, itself_of, no_fall, put_at, put_rises, stands_at, there_already}
 use Rattle.ll_book.proofs.ready.Ready.put.Goals as goal

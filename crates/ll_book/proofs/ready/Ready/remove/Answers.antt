@@ -1,9 +1,9 @@
 -- The ticket's place is found, where it is among them.
 use Rattle.std.proofs.Common.{◌∙◌, Ok, Err, ap, sym, subst}
 use Rattle.std.proofs.lemmas.List.Sorted.{searched}
-use Rattle.ll_order.specs.Numbers.{AreRising, all_but}
-use Rattle.ll_order.proofs.Finds.{rising_but}
-use Rattle.ll_order.proofs.Keyed.{none_but}
+use Rattle.ll_book.specs.Numbers.{AreRising, all_but}
+use Rattle.ll_book.proofs.Finds.{rising_but}
+use Rattle.ll_book.proofs.Keyed.{none_but}
 use Rattle.ll_book.specs.Orders.{Kept}
 use Rattle.ll_book.proofs.ReadyLemmas.{absent, itself_of, left_at, no_fall}
 use Rattle.ll_book.proofs.ready.Ready.remove.Goals as goal

@@ -1,6 +1,6 @@
 -- What stands under a ticket is the request of this ticket.
 use Rattle.std.proofs.Common.{◌∙◌, ap, find}
-use Rattle.ll_order.proofs.Keyed.{looked_up}
+use Rattle.ll_book.proofs.Keyed.{looked_up}
 use Rattle.ll_verdict.specs.Waiting.{has_ticket, ticket_in}
 use Rattle.ll_book.proofs.slots.Slots.get.Goals as goal
 

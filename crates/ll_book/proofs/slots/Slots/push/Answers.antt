@@ -1,8 +1,8 @@
 -- A slot of a new ticket stands last.
 use Rattle.std.proofs.Common.{◌∙◌, ◌++◌, ◌∷◌, [], ap, sym, subst}
 use Rattle.std.specs.Map.{values_of}
-use Rattle.ll_order.specs.Numbers.{AreKeyed}
-use Rattle.ll_order.proofs.Keyed.{keyed_pushed, pushed}
+use Rattle.ll_book.specs.Numbers.{AreKeyed}
+use Rattle.ll_book.proofs.Keyed.{keyed_pushed, pushed}
 use Rattle.ll_verdict.specs.Waiting.{AreBelow, ticket_in}
 use Rattle.ll_book.proofs.SlotLemmas.{under}
 use Rattle.ll_book.proofs.slots.Slots.push.Goals as goal

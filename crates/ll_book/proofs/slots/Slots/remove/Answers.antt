@@ -1,8 +1,8 @@
 -- What is taken out under a ticket is the request of this ticket.
 use Rattle.std.proofs.Common.{◌∙◌, ap, find, sym, subst}
 use Rattle.std.specs.Map.{values_of}
-use Rattle.ll_order.specs.Numbers.{AreKeyed}
-use Rattle.ll_order.proofs.Keyed.{keyed_left, looked_up, taken_out}
+use Rattle.ll_book.specs.Numbers.{AreKeyed}
+use Rattle.ll_book.proofs.Keyed.{keyed_left, looked_up, taken_out}
 use Rattle.ll_verdict.specs.Waiting.{has_ticket, ticket_in, without}
 use Rattle.ll_book.proofs.slots.Slots.remove.Goals as goal
 

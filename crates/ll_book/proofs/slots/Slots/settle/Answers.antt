@@ -1,7 +1,7 @@
 -- The slot of a ticket gets its reply, where there is one.
 use Rattle.std.proofs.Common.{◌∙◌, ap, refl}
-use Rattle.ll_order.specs.Numbers.{changed}
-use Rattle.ll_order.proofs.Keyed.{keyed_changed}
+use Rattle.ll_book.specs.Numbers.{changed}
+use Rattle.ll_book.proofs.Keyed.{keyed_changed}
 use Rattle.ll_verdict.specs.Waiting.{ticket_in}
 use Rattle.ll_book.specs.Orders.{settle_with}
 use Rattle.ll_book.proofs.slots.Slots.settle.Goals as goal

@@ -9,7 +9,7 @@ use Rattle.ll_room.proofs.StoreLemmas.{stored}
 use Rattle.ll_room.specs.RoomValue.{RoomValue}
 use Rattle.ll_room.specs.contracts.room.Room.{the_view}
 use Rattle.ll_room.proofs.PublishLemmas.{shown-item, silent-item}
-use Rattle.ll_room.proofs.StoredLemmas.{few-length}
+use Rattle.ll_written.proofs.StoredLemmas.{few-length}
 use Rattle.ll_room.proofs.room.Room.accept_silently.Goals as goal
 
 pub drop_pages-requires : goal.drop_pages-requires

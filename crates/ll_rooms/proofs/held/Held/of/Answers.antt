@@ -1,6 +1,6 @@
 -- The row of the first number of this owner.
 use Rattle.std.proofs.Common.{◌≡◌, ℕ, ◌<◌, Some, ◌∙◌, ap, false, option_map, subst, sym}
-use Rattle.ll_order.specs.Places.{IsNext, stands}
+use Rattle.ll_book.specs.Places.{IsNext, stands}
 use Rattle.ll_rooms.specs.Book.{wait_in}
 use Rattle.ll_rooms.specs.Spots.{spot}
 use Rattle.ll_rooms.specs.Waits.{wait_of}

@@ -1,6 +1,6 @@
 -- A row is put into both orders and stands last; where no memory is found, it leaves them again.
 use Rattle.std.proofs.Common.{◌∙◌, ◌+◌, ◌++◌, ◌∷◌, [], ap, refl, subst}
-use Rattle.ll_order.specs.Places.{Adds, Removes}
+use Rattle.ll_book.specs.Places.{Adds, Removes}
 use Rattle.ll_rooms.specs.declared.held_request.HeldRequest.{HeldRequest}
 use Rattle.ll_rooms.proofs.BookLemmas.{book_more, book_ticket_undone, book_undone, fresh, waits_more}
 use Rattle.ll_rooms.proofs.held.Held.put.Goals as goal

@@ -1,7 +1,7 @@
 -- The row of the first number at this place under this ticket leaves the rows and both orders.
 use Rattle.std.proofs.Common.{Some, ◌∙◌, ap, map, option_map, subst, sym}
 use Rattle.std.specs.Map.{values_of}
-use Rattle.ll_order.specs.Places.{Removes}
+use Rattle.ll_book.specs.Places.{Removes}
 use Rattle.ll_rooms.specs.Book.{wait_in}
 use Rattle.ll_rooms.specs.Waits.{is_under, parked_of, under, without}
 use Rattle.ll_rooms.proofs.BookLemmas.{book_left, none_left, none_under, row_under, there_under, waits_left}

@@ -1,2 +1,0 @@
-pub mod Numbers
-pub mod Places

@@ -1,0 +1,2 @@
+pub mod StoredLemmas
+pub mod WrittenLemmas

@@ -1,0 +1,136 @@
+//! The playlists of a channel that were written, and what is rendered for its next ones.
+ghost use Rattle.std.specs.Prelude.{◌≡◌, ◌<◌, [], IfOk, length, position};
+ghost use Rattle.ll_page.specs.Page.{seen_of};
+ghost use Rattle.ll_written.specs.Stored.{AreFew};
+ghost use Rattle.ll_written.specs.Written.{AreWritten, is_of};
+
+use crate::pages::Pages;
+use ll_item::SkipKind;
+use ll_page::{Page, Pieces, Rendition, Shown};
+use std::alloc::{AllocError, Global};
+use std::marker::Model;
+
+/// What was written of a channel since its last item, and what was rendered before it. Each form of a rendition's playlist is written once, when
+/// it is first asked for; after that its page is shared.
+#[derive(Drop)]
+pub struct Written {
+    /// The pages of each rendition of which a playlist was asked for.
+    pages: Vec<Pages>,
+    /// What was rendered of the segments of each rendition, for its next playlist.
+    pieces: Vec<Pieces>,
+}
+
+impl Model for Written {
+    ghost use Rattle.ll_written.specs.Written.{WrittenOf};
+
+    ghost Value = { WrittenOf };
+
+    ghost view = { λ w. record { pages = w.pages.items; pieces = w.pieces.items } };
+}
+
+impl Written {
+    /// Nothing is written of a channel with these renditions.
+    pub fn new(alloc: Global, renditions: &[Rendition]) -> Result<Written, AllocError>
+        ensures pages { IfOk result (λ w. w.pages ≡ []) }
+        ensures pieces { IfOk result (λ w. AreFew w.pieces renditions.now) }
+    {
+        Ok(Written {
+            pages: Vec::new(alloc),
+            pieces: no_pieces(alloc, renditions)?,
+        })
+    }
+
+    /// The page of a rendition in this form, of the channel as it is shown. What was rendered of its segments, where something was, is shared.
+    /// It fails only where no memory is found.
+    pub fn page(
+        &mut self,
+        alloc: Global,
+        shown: &Shown,
+        rendition: usize,
+        form: Option<SkipKind>,
+    ) -> Result<Page, AllocError>
+        requires there { rendition < length shown.now.renditions }
+        requires current { AreWritten shown.now self.old.pages }
+        ensures page { IfOk result (λ p. p ≡ record { seen = seen_of shown.now rendition; form = form }) }
+        ensures current { AreWritten shown.now self.new.pages }
+        ensures pieces { self.new.pieces ≡ self.old.pieces }
+    {
+        if let Some(place) = place_of(&self.pages, rendition) {
+            return self.pages[place].page(alloc, form);
+        }
+        let before = self.pieces.get(rendition);
+        let mut pages = Pages::new(alloc, shown.again()?, rendition, before)?.unwrap();
+        let page = pages.page(alloc, form)?;
+        self.pages.push(pages)?;
+        Ok(page)
+    }
+
+    /// What is rendered of the segments of a rendition, where something is.
+    pub fn rendered(&self, rendition: usize) -> Option<&Pieces> {
+        match place_of(&self.pages, rendition) {
+            Some(place) => Some(self.pages[place].pieces()),
+            None => self.pieces.get(rendition),
+        }
+    }
+
+    /// Puts the pages of a later moment in the place of those that are there. Of these is left what is rendered of segments that these renditions
+    /// still show.
+    pub fn renew(&mut self, pages: Vec<Pages>, renditions: &[Rendition])
+        requires { length self.old.pieces ≡ length renditions.now }
+        ensures pages { self.new.pages ≡ pages.items }
+        ensures pieces { AreFew self.new.pieces renditions.now }
+    {
+        self.drop_pages(renditions);
+        self.pages = pages;
+    }
+
+    /// Drops all pages. Of these is left what is rendered of segments that these renditions still show.
+    pub fn drop_pages(&mut self, renditions: &[Rendition])
+        requires { length self.old.pieces ≡ length renditions.now }
+        ensures pages { self.new.pages ≡ [] }
+        ensures pieces { AreFew self.new.pieces renditions.now }
+    {
+        leave(&mut self.pages, &mut self.pieces);
+        trim(&mut self.pieces, renditions);
+    }
+}
+
+/// Leaves what is rendered of the segments of each rendition, for the pages of a later moment.
+fn leave(pages: &mut Vec<Pages>, pieces: &mut Vec<Pieces>)
+    ensures pages { pages.new.items ≡ [] }
+    ensures pieces { length pieces.new.items ≡ length pieces.old.items }
+{
+    while let Some(last) = pages.pop() {
+        if let Some(place) = pieces.get_mut(last.rendition()) {
+            *place = last.into_pieces();
+        }
+    }
+}
+
+/// Drops what is rendered of segments that these renditions show no more.
+fn trim(pieces: &mut Vec<Pieces>, renditions: &[Rendition])
+    requires { length pieces.old.items ≡ length renditions.now }
+    ensures { AreFew pieces.new.items renditions.now }
+{
+    for place in 0..renditions.len() {
+        pieces[place].keep_last(renditions[place].window.segment_count());
+    }
+}
+
+/// The place of a rendition's pages among these.
+fn place_of(pages: &[Pages], rendition: usize) -> Option<usize>
+    ensures { result ≡ position (is_of rendition) pages.now }
+{
+    pages.iter().position(|one| one.rendition() == rendition)
+}
+
+/// What is rendered of each of these renditions: nothing yet.
+fn no_pieces(alloc: Global, renditions: &[Rendition]) -> Result<Vec<Pieces>, AllocError>
+    ensures { IfOk result (λ pieces. AreFew pieces.items renditions.now) }
+{
+    let mut pieces = Vec::with_capacity(alloc, renditions.len())?;
+    for _ in 0..renditions.len() {
+        pieces.push(Pieces::new(alloc))?;
+    }
+    Ok(pieces)
+}
