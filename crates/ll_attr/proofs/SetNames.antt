@@ -7,10 +7,6 @@ use Rattle.ll_attr.specs.declared.attributes.AttrValue.{AttrValue}
 use Rattle.ll_attr.specs.declared.attributes.AttrFault.{AttrFault}
 use Rattle.ll_attr.specs.declared.attributes.AttrFault.TheVariants.{BadName, Twice}
 
-texts_push : (keys : List (Bor (List ℕ))) (name : Bor (List ℕ)) → texts (keys ++ name ∷ []) ≡ texts keys ++ name.now ∷ []
-texts_push [] name = refl
-texts_push (k ∷ keys) name = ap (λ more. k.now ∷ more) (texts_push keys name)
-
 any_texts : (name : Bor (List ℕ)) (keys : List (Bor (List ℕ))) → list_any (λ key. bytes_eq name.now key.now) keys ≡ list_any (bytes_eq name.now) (texts keys)
 any_texts name [] = refl
 any_texts name (k ∷ keys) = ap (λ b. bytes_eq name.now k.now || b) (any_texts name keys)
@@ -48,10 +44,6 @@ is_new false h = refl
 pub is_old : (x : Bool) → not x ≡ false → x ≡ true
 is_old true h = refl
 is_old false h = cc
-
-pub unnamed : (named twice : Bool) (v : Option AttrValue) (fault : AttrFault) → Some fault ≡ (if named then None else Some BadName) → Some fault ≡ fault_after named twice v
-unnamed true twice v fault h = cc
-unnamed false twice v fault h = h
 
 pub named_twice : (named twice : Bool) (v : Option AttrValue) → None ≡ (if named then None else Some BadName) → twice ≡ true → Some Twice ≡ fault_after named twice v
 named_twice true true v n t = refl

@@ -88,14 +88,6 @@ pub find_put : (n t : ℕ) (ns : List ℕ) → find (has_number itself_of n) (pu
 find_put n t [] = refl
 find_put n t (m ∷ ns) = find_by n t m ns (put_in t ns) (nat_lt m t) refl (find_put n t ns)
 
-pub length_put : (t : ℕ) (ns : List ℕ) → length (put_in t ns) ≡ suc (length ns)
-length_put t [] = refl
-length_put t (n ∷ ns) = by_one (nat_lt n t) (length_put t ns)
-  where
-    by_one : (b : Bool) → length (put_in t ns) ≡ suc (length ns) → length (put_by b t n ns (put_in t ns)) ≡ suc (suc (length ns))
-    by_one true h = ap suc h
-    by_one false h = refl
-
 -- a ticket at a place is found
 pub stands_at : (t i : ℕ) (ns : List ℕ) → i < length ns → get_or ns i 0 ≡ t → find (has_number itself_of t) ns ≡ Some t
 stands_at t i [] h e = absurd (omega (arith, h))

@@ -88,29 +88,6 @@ by_page false s new old h = refl
 abbrev pub wanted : Release → List Slot → List ℕ
 wanted which ss = map ticket_in (filter (takes which) ss)
 
--- each of these is above
-abbrev Above : ℕ → List ℕ → Type 0
-Above t [] = Unit
-Above t (n ∷ ns) = (t < n) × Above t ns
-
-above_lower : (low high : ℕ) (ns : List ℕ) → low < high → Above high ns → Above low ns
-above_lower low high [] h a = tt
-above_lower low high (n ∷ ns) h a = (omega (arith, h, a.0), above_lower low high ns h a.1)
-
-above_by : (t : ℕ) (s : Slot) (ss : List Slot) (b : Bool) → t < s.entry.ticket → Above t (map ticket_in ss) → Above t (map ticket_in (cond b (s ∷ ss) ss))
-above_by t s ss true h a = (h, a)
-above_by t s ss false h a = a
-
-wanted_above : (which : Release) (t : ℕ) (ss : List Slot) → AreRising ticket_in t ss → Above t (wanted which ss)
-wanted_above which t [] r = tt
-wanted_above which t (s ∷ ss) r = above_by t s (filter (takes which) ss) (takes which s) r.0 (wanted_above which t ss (lower ticket_in t s.entry.ticket ss r.0 r.1))
-
-none_here : (t : ℕ) (hs : List (ℕ × Settled)) → Above t (map (λ h. h.0) hs) → reply_under hs t ≡ None
-none_here t [] a = refl
-none_here t (h ∷ hs) a =
-    let apart : (h.0 == t) ≡ false = grind (arith, nat_tests, a.0) in
-    ap (λ b. cond b (Some h.1) (reply_under hs t)) (is_number t h.0 ∙ apart) ∙ none_here t hs a.1
-
 -- replies of lower tickets make no difference to what comes after
 skipped : (which : Release) (h : ℕ × Settled) (hs : List (ℕ × Settled)) (ss : List Slot) → AreRising ticket_in h.0 ss → map (replied which (h ∷ hs)) ss ≡ map (replied which hs) ss
 skipped which h hs [] r = refl

@@ -14,7 +14,7 @@ use Rattle.ll_book.specs.declared.place.Place.{Place}
 use Rattle.ll_book.proofs.Finds.{count_changed, find_changed, find_filter, its_number, kept_if, none_up_to, rising_filter, same_rising}
 use Rattle.ll_book.proofs.Orders.{in_place, of_place, place_total}
 use Rattle.ll_verdict.specs.State.{is_waiting}
-use Rattle.ll_verdict.specs.Waiting.{entry_in, found, has_ticket, ticket_in}
+use Rattle.ll_verdict.specs.Waiting.{found, has_ticket, ticket_in}
 use Rattle.ll_verdict.specs.declared.entry.Entry.{Entry}
 use Rattle.ll_verdict.specs.declared.entry.Slot.{Slot}
 use Rattle.ll_verdict.specs.declared.reply.Settled.{Settled}
@@ -146,18 +146,6 @@ pub none_taken : (which : Release) (ss : List Slot) → AreRising ticket_in 0 ss
 none_taken which ss r none =
     none_pass (takes which) ss r (λ s f t. none s f t (after_start which (want_at s) (covers_is which s.entry ∙ (both (is_waiting s) (frees which s.entry.wanted) t).1) (ticket_above s ss r f)))
 
-pub taken_waits : (which : Release) (after place : Place) (ss : List Slot) (e : Entry) → IsNextTaken which after place ss → Some e ≡ found place.number ss → IsWaiting e ss × (frees which e.wanted ≡ true)
-taken_waits which after place ss e next h =
-    let of = slot_of place.number e ss h in
-    let same_slot : of.0 ≡ next.slot = cc in
-    let parts = both (is_waiting of.0) (frees which of.0.entry.wanted) (ap (takes which) same_slot ∙ next.taken) in (
-      ap (λ n. find (has_ticket n) ss) of.3 ∙ of.1 ∙ ap Some (waits of.0 parts.0 ∙ ap (λ d. record { entry = d; settled = None }) of.2),
-      ap (λ (d : Entry). frees which d.wanted) (sym of.2) ∙ parts.1,
-    )
-
-pub taken_found : (which : Release) (after place : Place) (ss : List Slot) → IsNextTaken which after place ss → None ≡ found place.number ss → ⊥
-taken_found which after place ss next h = none-some next.slot.entry (h ∙ ap (option_map entry_in) next.there)
-
 -- whether any passes
 pub found_any : (p q : Slot → Bool) (s : Slot) (ss : List Slot) → find q ss ≡ Some s → p s ≡ true → list_any p ss ≡ true
 found_any p q s [] f h = absurd (none-some s f)
@@ -231,11 +219,6 @@ module _ (slots : List Slot) (times : List Place) (now : ℕ) (rising : AreRisin
         ap (λ n. find (has_ticket n) slots) its.3 ∙ its.1 ∙ ap Some (waits its.0 (ap is_waiting same_slot ∙ of.inside) ∙ ap (λ d. record { entry = d; settled = None }) its.2),
         subst (λ n. n ≤ now) (sym (ap (λ (d : Entry). d.deadline) (sym its.2) ∙ ap (λ (s : Slot). s.entry.deadline) same_slot ∙ ap (λ (p : Place). p.rank) of.at)) come,
       )
-
-  pub over_found : (place : Place) → IsNext origin place times → None ≡ found place.number slots → ⊥
-  over_found place next h =
-      let of = of_place ticket_in is_waiting time_at (λ z. refl) place slots times timed next.there in
-      none-some of.element.entry (h ∙ ap (option_map entry_in) of.there)
 
 -- ---- one after another
 

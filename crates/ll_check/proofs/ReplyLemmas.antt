@@ -1,11 +1,9 @@
 -- The replies that entries bring.
 use Rattle.std.proofs.Common.{◌≡◌, ℕ, List, [], ◌∷◌, ◌++◌, Option, None, Result, Ok, Err, IfOk, ap, ap₂, sym, subst, ◌∙◌}
-use Rattle.ll_attr.specs.Words.{pieces_at}
-use Rattle.ll_check.specs.EntryReplies.{IsBrought, brought_in}
+use Rattle.ll_check.specs.EntryReplies.{brought_in}
 use Rattle.ll_enter.specs.Brought.{brought_by}
 use Rattle.ll_check.specs.Found.{ChainValue, IsOf}
-use Rattle.ll_check.specs.Lines.{IsText}
-use Rattle.ll_entry.specs.Chain.{Chain, entry_at, joined, joined_by}
+use Rattle.ll_entry.specs.Chain.{Chain, joined, joined_by}
 use Rattle.ll_entry.specs.Entered.{event_of, fault_in}
 use Rattle.ll_entry.specs.Entries.{entry_in}
 use Rattle.ll_entry.specs.declared.entry.Recorded.{Recorded}
@@ -15,20 +13,6 @@ use Rattle.ll_item.specs.Settings.{Configuration}
 use Rattle.ll_room.specs.RoomValue.{RoomValue, Stands}
 use Rattle.ll_verdict.specs.Events.{Event}
 use Rattle.ll_verdict.specs.declared.reply.Reply.{Reply}
-
--- what the entry of a chunk's next line brings
-pub brought-line : (ch : Chain) (text : List ℕ) (lines : List (List ℕ)) (rest : List ℕ) (x : Option Reply) → IsText text lines (pieces_at 10 rest)
-    → ((now : Chain) × (joined ch (entry_in ch.version ch.settings text) ≡ Ok now)) × (x ≡ brought_in ch (entry_in ch.version ch.settings text))
-    → IsBrought ch text x lines
-brought-line ch text lines rest x is h =
-    let read = ap (entry_at ch.version ch.settings) is.read in record {
-      rest = rest;
-      are = is.are;
-      other = is.other;
-      now = h.0.0;
-      right = ap (joined ch) read ∙ h.0.1;
-      brings = h.1 ∙ ap (brought_in ch) (sym read);
-    }
 
 -- the entry of a line brings what its event does
 pub brought-of : (k : ChainValue) (ch : Chain) (text : List ℕ) (version : Version) (settings : Configuration) (room : RoomValue) (entry : Recorded)

@@ -1,5 +1,5 @@
 -- What lines come to, by what the first of them tell.
-use Rattle.std.proofs.Common.{◌≡◌, ℕ, List, ◌∷◌, Bool, true, false, cond, Option, Some, None, Result, Ok, Err, refl, ap, ap₂, sym, subst, ◌∙◌, bytes_eq, length, option_map, MatchOption}
+use Rattle.std.proofs.Common.{◌≡◌, ℕ, List, ◌∷◌, Bool, true, false, cond, Option, Some, None, Result, Ok, Err, refl, ap, ap₂, sym, subst, ◌∙◌, bytes_eq, length, option_map}
 use Rattle.ll_attr.specs.Words.{pieces_at}
 use Rattle.ll_check.proofs.Begun.{begun_parts}
 use Rattle.ll_check.specs.Found.{AreKept, ChainValue, IsAt, IsOf, so_far}
@@ -119,10 +119,6 @@ goes-on kept new p lines mid rest t g on =
     let m = on g.now g.at in
     record { now = m.next; at = m.at; same = g.same ∙ moved g.now m.next t mid rest m.by }
 
-pub goes-wrong : (kept : Option ChainValue) (p : Position) (lines mid : List (List ℕ)) (f : CheckFault) → GoesTo kept p lines mid
-    → ((q : Position) → IsAt kept q → checked_from q mid ≡ Err f) → checked_from p lines ≡ Err f
-goes-wrong kept p lines mid f g fails = g.same ∙ fails g.now g.at
-
 -- where no text is left between chunks
 pub over-at : (kept new : Option ChainValue) (q : Position) (rest : List ℕ) → IsAt kept q → IsOver kept new q rest
     → IsAt new (Between (so_far q)) × (checked_from q (pieces_at 10 rest) ≡ Ok (so_far q))
@@ -130,16 +126,3 @@ over-at kept new q rest at o = (
   subst (λ k. IsAt k (Between (so_far q))) (sym o.same) (subst (IsAt kept) o.between at),
   ap₂ (λ q r. checked_from q (pieces_at 10 r)) o.between o.none,
 )
-
-pub goes-over : (kept new : Option ChainValue) (p : Position) (lines : List (List ℕ)) (rest : List ℕ) → GoesTo kept p lines (pieces_at 10 rest)
-    → ((q : Position) → IsAt kept q → IsOver kept new q rest) → (now : Option Chain) × IsAt new (Between now) × (checked_from p lines ≡ Ok now)
-goes-over kept new p lines rest g over =
-    let o = over-at kept new g.now rest g.at (over g.now g.at) in
-    (so_far g.now, o.0, g.same ∙ o.1)
-
--- what is said of something that is there, or of nothing
-pub some-of : {A : Type 0} (o : Option A) (x : A) (N : Type 0) (S : A → Type 0) → o ≡ Some x → MatchOption o N S → S x
-some-of o x N S is h = subst (λ o. MatchOption o N S) is h
-
-pub none-of : {A : Type 0} (o : Option A) (N : Type 0) (S : A → Type 0) → o ≡ None → MatchOption o N S → N
-none-of o N S is h = subst (λ o. MatchOption o N S) is h

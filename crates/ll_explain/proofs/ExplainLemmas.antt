@@ -227,14 +227,6 @@ seeks-none kept new bytes entry ms n rest s over count =
     let o = over-at kept new s.now rest s.at (over s.now s.at) in
     no_entry bytes entry n (so_far s.now) (s.same ∙ o.1) (count (Between (so_far s.now)) o.0) s.ahead
 
-early_by : (entry n m : ℕ) → m ≡ n + 1 → IsAhead entry n → (entry ≡ 0) ⊎ (m ≤ entry)
-early_by entry n m is (inl none) = inl none
-early_by entry n m is (inr less) = inr (omega (arith, is, less))
-
-pub seeks-early : (kept : Option ChainValue) (entry ms : ℕ) (lines rest : List (List ℕ)) (n : ℕ) → Seeks kept entry ms lines rest
-    → ((q : Position) → IsAt kept q → n ≡ entries (so_far q) + 1) → (entry ≡ 0) ⊎ (n ≤ entry)
-seeks-early kept entry ms lines rest n s place = early_by entry (entries (so_far s.now)) n (place s.now s.at) s.ahead
-
 -- nothing is found wrong before the entry after those so far
 pub goes-later : (kept : Option ChainValue) (p : Position) (lines rest : List (List ℕ)) (n : ℕ) → GoesTo kept p lines rest
     → ((q : Position) → IsAt kept q → n ≡ entries (so_far q) + 1) → not_before n (checked_from p lines) ≡ true

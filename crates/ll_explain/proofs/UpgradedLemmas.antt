@@ -1,17 +1,17 @@
 -- What lines are in format 2, by what the first of them tell.
-use Rattle.std.proofs.Common.{◌≡◌, ℕ, List, [], ◌++◌, cond, length, Option, Some, None, Result, Ok, Err, OnOk, false, is_err, is_ok, true≢false, refl, ap, ap₂, sym, ◌∙◌, append_assoc, append-nil, option_map}
+use Rattle.std.proofs.Common.{◌≡◌, ℕ, List, [], ◌++◌, cond, length, Option, Some, None, Result, Ok, Err, OnOk, false, is_err, is_ok, true≢false, refl, ap, sym, ◌∙◌, append_assoc, option_map}
 use Rattle.std.specs.Option.{option_map_or}
 use Rattle.ll_attr.specs.Words.{pieces_at}
 use Rattle.ll_check.proofs.Places.{first-at}
-use Rattle.ll_check.proofs.StepLemmas.{GoesTo, moved, over-at}
-use Rattle.ll_check.specs.Found.{ChainValue, IsAt, so_far}
-use Rattle.ll_check.specs.Steps.{IsOver, Moves, Tells, full_entry}
+use Rattle.ll_check.proofs.StepLemmas.{GoesTo, moved}
+use Rattle.ll_check.specs.Found.{ChainValue, IsAt}
+use Rattle.ll_check.specs.Steps.{Moves, Tells, full_entry}
 use Rattle.ll_enter.specs.Full.{without_item}
 use Rattle.ll_explain.specs.Upgrade.{told_text, upgraded, upgraded_entry, upgraded_from, upgraded_line, where_right}
 use Rattle.ll_enter.specs.declared.full.FullEntry.{FullEntry}
 use Rattle.ll_check.specs.declared.told.Told.{Told}
 use Rattle.ll_check.specs.declared.told.Told.TheVariants as told
-use Rattle.ll_entry.specs.Chain.{Between, Chain, Inside, Position, checked, checked_from, counted, with_line}
+use Rattle.ll_entry.specs.Chain.{Between, Chain, Inside, Position, checked, checked_from, with_line}
 use Rattle.ll_entry.specs.Frame.{header_text, last_line}
 use Rattle.ll_entry.specs.Leads.{with_end}
 use Rattle.ll_entry.specs.declared.entry.Recorded.{Recorded}
@@ -90,18 +90,6 @@ writes-on kept new t lines mid rest text longer w on added =
 
 pub goes-writes : (kept : Option ChainValue) (lines rest : List (List ℕ)) (text : List ℕ) → Writes kept lines rest text → GoesTo kept (Between None) lines rest
 goes-writes kept lines rest text w = record { now = w.now; at = w.at; same = w.same }
-
--- nothing is left
-pub writes-over : (kept new : Option ChainValue) (bytes rest text : List ℕ) (n : ℕ) → Writes kept (pieces_at 10 bytes) (pieces_at 10 rest) text
-    → ((q : Position) → IsAt kept q → IsOver kept new q rest) → ((q : Position) → IsAt new q → Ok n ≡ counted (Ok (so_far q)))
-    → (checked bytes ≡ Ok n) × (text ≡ upgraded bytes)
-writes-over kept new bytes rest text n w over count =
-    let end = over w.now w.at in
-    let o = over-at kept new w.now rest w.at end in
-    let last : upgraded_from w.now (pieces_at 10 rest) ≡ [] = ap₂ (λ q r. upgraded_from q (pieces_at 10 r)) end.between end.none in (
-      ap counted (w.same ∙ o.1) ∙ sym (count (Between (so_far w.now)) o.0),
-      sym (append-nil text) ∙ ap (λ t. text ++ t) (sym last) ∙ sym w.written,
-    )
 
 pub added : {T E : Type 0} (r : Result T E) (new x y : List ℕ) → new ≡ cond (is_ok r) x y → OnOk r (new ≡ x)
 added (Ok v) new x y e = e

@@ -1,5 +1,5 @@
 -- How a connection was read, read by read.
-use Rattle.std.proofs.Common.{◌≡◌, ◌∙◌, ℕ, ◌+◌, ◌≤◌, Bool, true, false, Option, Some, None, ap, arith}
+use Rattle.std.proofs.Common.{◌≡◌, ◌∙◌, ℕ, ◌+◌, ◌≤◌, Option, Some, None, ap, arith}
 use Rattle.std.specs.Prelude.{is_some}
 use Rattle.ll_device.proofs.InwardLemmas.{looked_at-on}
 use Rattle.ll_device.specs.Inward.{Inward, looked_at}
@@ -18,18 +18,6 @@ IsReadWithin-then before mid after n more ends most p q h = (n + more, ends, h, 
 
 pub HasEnded-then : (before mid after : Option Inward) (n more : ℕ) → mid ≡ looked_at n 0 before → after ≡ looked_at more 1 mid → HasEnded before after
 HasEnded-then before mid after n more p q = (n + more, read-then before mid after n more 1 p q)
-
--- so many reads that gave bytes, and then perhaps a look at the other end
-pub IsReadWithin-stays : (stays : Bool) (before mid after : Option Inward) (n most : ℕ)
-    → mid ≡ looked_at n 0 before → after ≡ stays_or_ends stays mid → n ≤ most → IsReadWithin before after most
-IsReadWithin-stays true before mid after n most p q h = (n, 0, h, q ∙ p)
-IsReadWithin-stays false before mid after n most p q h = IsReadWithin-then before mid after n 0 1 most p q (omega (arith, h))
-
--- a look at one that stays adds nothing
-pub stayed : (stays : Bool) (before mid after : Option Inward) (n : ℕ)
-    → stays ≡ true → mid ≡ looked_at n 0 before → after ≡ stays_or_ends stays mid → after ≡ looked_at n 0 before
-stayed true before mid after n h p q = q ∙ p
-stayed false before mid after n h p q = absurd (cc)
 
 -- one who gets an answer stays
 pub stays-if-some : {A : Type 0} (answer : Option A) (a : A) (before after : Option Inward)

@@ -4,18 +4,14 @@ use Rattle.std.specs.Option.{unwrap_or}
 use Rattle.byteorder.specs.Endian.{big_number}
 use Rattle.ll_mp4.specs.Boxes.{Contents, Ended, Content, contents_in}
 use Rattle.ll_mp4.specs.Fragments as spec
-use Rattle.ll_mp4.specs.Fragments.{Run, and_run, durations, run_of, run_ticks, runs_of, tick_limit, width}
-use Rattle.ll_mp4.specs.Numbers.{◌>>=◌, has}
+use Rattle.ll_mp4.specs.Fragments.{Run, and_run, durations, run_of, run_ticks, runs_of, tick_limit}
+use Rattle.ll_mp4.specs.Numbers.{◌>>=◌}
 use Rattle.ll_mp4.specs.Runs.{ended, first_so_far}
 use Rattle.ll_mp4.specs.declared.fault.Fault.{Fault}
 use Rattle.ll_mp4.specs.declared.kind.Kind.TheVariants.{Trun}
 use Rattle.ll_mp4.specs.declared.track.Track.{Track}
 
 -- ---- samples
-
--- a sample that tells its duration has four bytes at least
-pub wide : (flags : ℕ) → has flags 0x000100 ≡ true → 4 ≤ width flags
-wide flags e = rw e (omega arith)
 
 one-less : (n w len : ℕ) → (n + 1) * w ≤ len → (w ≤ len) × (n * w ≤ len - w)
 one-less n w len h = let d : (n + 1) * w ≡ n * w + w = omega arith in (omega (arith, d, h), omega (arith, d, h))

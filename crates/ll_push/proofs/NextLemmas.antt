@@ -1,26 +1,23 @@
 -- The next message of an encoder's bytes.
-use Rattle.std.proofs.Common.{◌≡◌, ℕ, true, false, Bool, List, [], ◌∷◌, ◌++◌, Option, Some, None, Result, Ok, Err, IsOk, refl, ap, sym, subst, ◌∙◌, inl, inr, append_assoc, append-nil, take}
-use Rattle.std.specs.Io.KnownBytes.{Consumes, IsAtEnd, Keeps}
+use Rattle.std.proofs.Common.{◌≡◌, ℕ, true, Bool, List, [], ◌∷◌, ◌++◌, Option, Some, None, Result, Ok, Err, IsOk, refl, ap, sym, subst, ◌∙◌, inl, append_assoc, take}
+use Rattle.std.specs.Io.KnownBytes.{Consumes}
 use Rattle.ll_mp4.specs.Units.{Unit, Open, Refused, Closed, unit_of}
 use Rattle.ll_mp4.specs.declared.fault.Fault.{Fault}
-use Rattle.ll_push.specs.Messages.{MessageValue, Names, end_message, end_text, piece_message, piece_text, pieces_text}
+use Rattle.ll_push.specs.Messages.{MessageValue, Names, end_text, piece_message, piece_text, pieces_text}
 use Rattle.ll_push.specs.Next.{FrontGives, IsFaultNext, IsFed, IsFirst, IsFrontFault, IsNext, message_in}
 use Rattle.ll_push.specs.declared.fault.PushFault.{PushFault}
 use Rattle.ll_push.specs.declared.fault.PushFault.TheVariants.{Input}
-use Rattle.ll_push.specs.Publishing.{after_message, ending_fault, fault_after, messages}
+use Rattle.ll_push.specs.Publishing.{after_message, fault_after, messages}
 use Rattle.ll_mp4.specs.Pieces.{Piece, Init, Media}
 use Rattle.ll_mp4.specs.Laws.{after_given}
-use Rattle.ll_mp4.specs.Streams.{SplitterValue, Told, and_told, front, front_unit, given, judged, told_in, with_bytes}
+use Rattle.ll_mp4.specs.Streams.{SplitterValue, Told, front, front_unit, given, judged, told_in, with_bytes}
 use Rattle.ll_mp4.specs.declared.known.Known.{Known}
-use Rattle.ll_mp4.proofs.StreamLaws.{front-goes, front_is_first, given_then}
+use Rattle.ll_mp4.proofs.StreamLaws.{front-goes, given_then}
 
 -- what is told of the splitter and of the bytes that are left is what was told before
 abbrev pub Same : SplitterValue → List ℕ → SplitterValue → Option (List ℕ) → Type 0
 Same before input after left =
     (rest : List ℕ) × (left ≡ Some rest) × (told_in (with_bytes before input) ≡ told_in (with_bytes after rest))
-
-pub same-first : (s : SplitterValue) (input : List ℕ) (left : Option (List ℕ)) → left ≡ Some input → Same s input s left
-same-first s input left e = (input, e, refl)
 
 -- ---- bytes that are fed
 
@@ -109,51 +106,12 @@ next-piece names before input s after left message same gives =
 
 -- ---- the end
 
-abbrev nothing : Told
-nothing = record { pieces = []; fault = None }
-
--- where the input is at its end and nothing whole is at the front, nothing more is told
-told-nothing : (s : SplitterValue) → (front s).0 ≡ Ok None → told_in (with_bytes s []) ≡ nothing
-told-nothing s none =
-    ap (λ u. told_in (record { pace = s.pace; known = s.known; unread = u })) (append-nil s.unread)
-    ∙ front_is_first s ∙ ap (λ r. and_told r (told_in (front s).1)) none
-
-end-by : (before : SplitterValue) (input : List ℕ) (s : SplitterValue) (rest : List ℕ) (left : Option (List ℕ)) → Keeps (Some rest) left → IsAtEnd left
-    → (front s).0 ≡ Ok None → told_in (with_bytes before input) ≡ told_in (with_bytes s rest)
-    → (left ≡ Some []) × (told_in (with_bytes before input) ≡ nothing)
-end-by before input s rest None kept end none e = absurd kept
-end-by before input s rest (Some ys) kept end none e =
-    (ap (λ l. Some l) end, e ∙ ap (λ l. told_in (with_bytes s l)) (sym kept ∙ end) ∙ told-nothing s none)
-
--- what is told in all where the input has ended
-pub at-end : (names : Names) (before : SplitterValue) (input : List ℕ) (s mid after : SplitterValue) (left then : Option (List ℕ)) → Same before input s left
-    → FrontGives names s mid None → IsFed mid left after then false → (then ≡ Some []) × (told_in (with_bytes before input) ≡ nothing)
-at-end names before input s mid after left then same gives fed =
-    end-by before input s same.0 then (subst (λ l. Keeps l then) same.1 fed.0) fed.1 (none-found names s mid gives).0 same.2
-
-pub next-end : (names : Names) (before : SplitterValue) (input : List ℕ) (s mid after : SplitterValue) (left then : Option (List ℕ)) (message : MessageValue)
-    → Same before input s left → FrontGives names s mid None → IsFed mid left after then false → message ≡ end_message names
-    → IsNext names before input after then message
-next-end names before input s mid after left then message same gives fed e =
-    let end = at-end names before input s mid after left then same gives fed in (
-      [],
-      end.0,
-      subst (λ m. IsFirst names (told_in (with_bytes before input)) (told_in (with_bytes after [])) m) (sym e)
-          (subst (λ t. IsFirst names t (told_in (with_bytes after [])) (end_message names)) (sym end.1) (sym (append-nil (end_text names)), refl)),
-    )
-
 -- ---- faults
 
 pub fault-front : (before : SplitterValue) (input : List ℕ) (s after : SplitterValue) (left : Option (List ℕ)) (fault : Fault) → Same before input s left
     → (front s).0 ≡ Err fault → IsFaultNext before input after fault
 fault-front before input s after left fault same e =
     inl (ap (λ (t : Told). t.fault) (same.2 ∙ front-goes s same.0 ∙ ap (λ r. given_then same.0 (r, (front s).1)) e))
-
-pub fault-end : (names : Names) (before : SplitterValue) (input : List ℕ) (s mid after : SplitterValue) (left then : Option (List ℕ)) (fault : Fault)
-    → Same before input s left → FrontGives names s mid None → IsFed mid left after then false → ending_fault after ≡ Some fault
-    → IsFaultNext before input after fault
-fault-end names before input s mid after left then fault same gives fed e =
-    inr (ap (λ (t : Told). t.fault) (at-end names before input s mid after left then same gives fed).1, e)
 
 -- ---- as the code finds it
 

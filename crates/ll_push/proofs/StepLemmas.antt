@@ -41,19 +41,6 @@ taken-next p after input left message none names unsent next = (
   ap (λ u. fault_by u (told_in (with_bytes p.splitter input))) none ∙ next.2.1,
 )
 
--- one that no connection took anything of
-pub taken-unsent : (p after : PublisherValue) (input : List ℕ) (left : Option (List ℕ)) (message : MessageValue) → left ≡ Some input → p.unsent ≡ Some message
-    → after ≡ record p { unsent = None } → IsTaken p input after left message
-taken-unsent p after input left message l some e =
-    subst (λ x. IsTaken p input x left message) (sym e) (
-      input,
-      l,
-      refl,
-      refl,
-      ap (λ u. text_by p.names u (told_in (with_bytes p.splitter input))) some,
-      ap (λ u. fault_by u (told_in (with_bytes p.splitter input))) some,
-    )
-
 -- as the code finds it
 module _ (names : Names) (s then : SplitterValue) (u v : Option MessageValue) (p : PublisherValue) (is : record { names = names; splitter = s; unsent = u } ≡ p)
     (none : u ≡ None) (input : List ℕ) where
@@ -117,10 +104,6 @@ module _ (p : PublisherValue) (input : List ℕ) (base : Option (List ℕ)) (s :
 
   fault_is : fault_to_come p input ≡ fault_after message.said later
   fault_is = so_far.4 ∙ one.5
-
-  -- no message was sent after these
-  pub none-cut : AppendsPrefix base written (text_to_come p input)
-  none-cut = (so_far.0, text_to_come s so_far.1, so_far.3, so_far.5)
 
   module _ (now : Option (List ℕ)) where
     -- a prefix of this one was sent

@@ -25,7 +25,7 @@ use Rattle.ll_room.specs.RoomValue.{RoomValue}
 use Rattle.ll_room.specs.Kept.{IsKept}
 use Rattle.ll_written.specs.Stored.{AreFew}
 use Rattle.ll_written.specs.Written.{AreWritten, WrittenOf}
-use Rattle.ll_written.proofs.WrittenLemmas.{none-written, one-written}
+use Rattle.ll_written.proofs.WrittenLemmas.{one-written}
 use Rattle.ll_room.specs.declared.publish.Coming.{Coming}
 
 -- the releases take none of these
@@ -232,27 +232,6 @@ kept-change h w now first second x new final few k written stored apart is e f =
     f ∙ both-released (supply_in x) (first, second) h.slots new x.first x.second apart is.has_first is.has_second e in
     kept-item h w now x.shown.renditions final few k (one-written _ now.pages (pages_in x) (written ∙ is.pages) is.shown) stored is.many
     (ap (map ticket_in) slots ∙ same-tickets (supply_in x) (first, second) h.slots)
-
--- so is one after an item that releases nothing, with no page of before it
-pub kept-silent : (h : RoomValue) (w now : WrittenOf) (kept : List Rendition) → h.events < event_end → IsKept h w → now.pages ≡ [] → AreFew now.pieces kept
-    → length kept ≡ length h.renditions → IsKept (item_on kept h.slots h) now
-kept-silent h w now kept few k none stored many = kept-item h w now kept h.slots few k (none-written _ now.pages none) stored many refl
-
--- and one whose supply were dropped
-pub kept-dropped : (h : RoomValue) (w now : WrittenOf) → IsKept h w → now.pages ≡ [] → AreFew now.pieces h.renditions → IsKept h now
-kept-dropped h w now k none stored = record {
-  current = none-written _ now.pages none;
-  stored = stored;
-  target = k.target;
-  window = k.window;
-  each = k.each;
-  accepted = k.accepted;
-  asked = k.asked;
-  early = k.early;
-  below = k.below;
-  few = k.few;
-  counted = k.counted;
-}
 
 pub coming-of : (h now : RoomValue) (first second : Option Release) (x : Coming) → h ≡ now → IsComing now first second x → IsComing h first second x
 coming-of h now first second x e is = subst (λ (r : RoomValue). IsComing r first second x) (sym e) is

@@ -1,11 +1,11 @@
 -- The far segments are the first ones, and what they list is nothing.
-use Rattle.std.proofs.Common.{◌≡◌, ℕ, zero, suc, ◌+◌, ◌≤◌, ◌<◌, List, [], ◌∷◌, ◌++◌, Bool, true, false, Option, Some, None, length, length-append, length-set, nat_lt, drop, slice_get, slice_set, refl, ap, ap₂, sym, ◌∙◌, true≢false, arith}
+use Rattle.std.proofs.Common.{◌≡◌, ℕ, zero, suc, ◌+◌, ◌≤◌, ◌<◌, List, [], ◌∷◌, ◌++◌, true, false, Some, length, length-append, length-set, nat_lt, drop, slice_get, slice_set, refl, ap, ap₂, sym, ◌∙◌, true≢false, arith}
 use Rattle.std.proofs.lemmas.Bool.Decides.{nat_tests}
 use Rattle.ll_window.specs.declared.finished.Finished.{Finished}
 use Rattle.ll_window.specs.Hidden.{AreHidden, hidden}
 use Rattle.ll_window.specs.Rows.{Row, lasting}
 use Rattle.ll_window.specs.Window.{listed, shown_by}
-use Rattle.ll_window.proofs.SkipLemmas.{lasting-all, one-back}
+use Rattle.ll_window.proofs.SkipLemmas.{lasting-all}
 use Rattle.ll_window.proofs.WindowLemmas.{lasting-append, lasting-cons}
 
 is_far : (near x : ℕ) → near ≤ x → nat_lt x near ≡ false
@@ -98,9 +98,6 @@ lasting-after (q ∷ rs) zero r e =
 lasting-after (q ∷ rs) (suc n) r e = lasting-after rs n r e
 
 -- ---- the first segment leaves, or one comes last
-
-pub given-tail : (n : ℕ) (r : Row) (rs : List Row) → hidden (suc n) (r ∷ rs) ≡ r ∷ rs → hidden n rs ≡ rs
-given-tail n r rs e = grind (arith, e)
 
 pub given-more : (n : ℕ) (rs ss : List Row) → n ≤ length rs → hidden n rs ≡ rs → hidden n (rs ++ ss) ≡ rs ++ ss
 given-more zero rs ss le e = refl

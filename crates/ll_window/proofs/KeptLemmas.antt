@@ -272,20 +272,6 @@ kept_relisted c t f g ps p from k items hides goes_far same =
       far = λ some. let e = goes_far some in omega (arith, e, from);
     }
 
-pub told_relisted : (c : Configuration) (t : ℕ) (f g : Finished) (ps : List Part) (p : Progress) (k : Compact) → kept c f ps p ≡ k → t ≡ c.target → p.open_duration ≡ duration ps
-    → g.rows.items ≡ listed (3 * (t * 1000000)) p.open_duration f.rows.items → g.discontinuity ≡ f.discontinuity → kept c g ps p ≡ relisted k
-told_relisted c t f g ps p k is from lasts items same =
-    ap₂ (λ rs n. told c rs ps n p)
-    (items ∙ ap₂ (λ x n. listed (3 * (x * 1000000)) n f.rows.items) from lasts) same
-    ∙ ap relisted is
-
-none_empty : (ps : List Part) → length ps ≡ 0 → ps ≡ []
-none_empty [] e = refl
-none_empty (p ∷ ps) e = absurd (omega (arith, e))
-
-pub is_empty : (ps : List Part) (b : Bool) → b ≡ (length ps == 0) → b ≡ true → ps ≡ []
-is_empty ps b e h = none_empty ps (grind (arith, nat_tests))
-
 pub is_open : (ps : List Part) (b : Bool) → b ≡ (length ps == 0) → b ≡ false → ps ≡ [] → ⊥
 is_open [] b e h none = absurd (grind (arith, nat_tests))
 is_open (p ∷ ps) b e h none = absurd (grind (arith, none))

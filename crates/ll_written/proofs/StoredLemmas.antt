@@ -1,5 +1,5 @@
 -- Of each rendition there are at most as many pieces as its playlist shows segments.
-use Rattle.std.proofs.Common.{◌≡◌, ℕ, zero, suc, ◌+◌, ◌-◌, ◌≤◌, ◌<◌, List, [], ◌∷◌, ◌++◌, Some, None, length, take, drop, slice_get, slice_set, length-drop, take_all, refl, ap, sym, subst, arith}
+use Rattle.std.proofs.Common.{◌≡◌, ℕ, zero, suc, ◌+◌, ◌-◌, ◌≤◌, ◌<◌, List, [], ◌∷◌, ◌++◌, Some, None, length, take, drop, slice_get, slice_set, length-drop, refl, ap, sym, subst, arith}
 use Rattle.ll_page.specs.Pieces.{PiecesOf}
 use Rattle.ll_rendition.specs.declared.rendition.Rendition.{Rendition}
 use Rattle.ll_written.specs.Stored.{AreFew}
@@ -28,15 +28,6 @@ few-at n m ps ks x k one e at le h =
     let next : m ≡ suc n = omega (arith, one) in
     subst (λ i. AreFew (take i (slice_set ps n x)) (take i ks)) (sym next) (few-next n ps ks x k e at le h)
 
-pub few-all : (n : ℕ) (ps : List PiecesOf) (ks : List Rendition) → length ps ≡ length ks → n ≡ length ks → AreFew (take n ps) (take n ks) → AreFew ps ks
-few-all zero [] [] e n h = tt
-few-all zero (p ∷ ps) ks e n h = absurd (omega (arith, e, n))
-few-all zero [] (k ∷ ks) e n h = absurd (omega (arith, n))
-few-all (suc n) [] [] e m h = absurd (omega (arith, m))
-few-all (suc n) [] (k ∷ ks) e m h = absurd (omega (arith, e))
-few-all (suc n) (p ∷ ps) [] e m h = absurd (omega (arith, e))
-few-all (suc n) (p ∷ ps) (k ∷ ks) e m h = (h.0, few-all n ps ks (omega (arith, e)) (omega (arith, m)) h.1)
-
 -- where the first are dropped, no more are left
 pub few-left : {X : Type 0} (xs : List X) (n : ℕ) → length (drop (length xs - n) xs) ≤ n
 few-left xs n = let d = length-drop (length xs - n) xs in omega (arith, d)
@@ -48,9 +39,6 @@ none-few zero [] (q ∷ ks) x lt none h = (omega (arith, none), tt)
 none-few zero (p ∷ ps) (q ∷ ks) x lt none h = absurd h
 none-few (suc n) [] (q ∷ ks) x lt none h = absurd h
 none-few (suc n) (p ∷ ps) (q ∷ ks) x lt none h = (h.0, none-few n ps ks x (omega (arith, lt)) none h.1)
-
-pub every-place : (n : ℕ) (ps : List PiecesOf) (ks : List Rendition) → n ≡ length ks → AreFew ps (take n ks) → AreFew ps ks
-every-place n ps ks e h = subst (AreFew ps) (take_all n ks (omega (arith, e))) h
 
 -- at one more place nothing is rendered yet
 pub none-at : (n m : ℕ) (ps qs : List PiecesOf) (ks : List Rendition) (x : PiecesOf) → m ≡ n + 1 → qs ≡ ps ++ x ∷ [] → x ≡ record { finished = []; unfinished = None }
