@@ -27,7 +27,7 @@ pub trait Link: Writer + Drop {
         ensures there { result ≡ false → Self.inward self.new ≡ Self.inward self.old }
         ensures hung_up { result ≡ true → Self.inward self.new ≡ looked_at 0 1 (Self.inward self.old) };
 
-    /// It is told that what comes next for it may take long: a request of it is held.
+    /// It is told that what comes next for it may take long: a request of it is held, or a record is handed out first.
     fn will_wait(&mut self)
         ensures unwritten { Self.written self.new ≡ Self.written self.old }
         ensures steady { Self.failures self.new ≡ Self.failures self.old }

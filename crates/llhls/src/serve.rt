@@ -3,10 +3,10 @@ ghost use Rattle.std.specs.Prelude.{◌≡◌, ◌≤◌, ◌^◌, length};
 
 use ll_command::Fault;
 use ll_device::Door;
+use ll_format::UtcTime;
 use ll_hub::{Blanks, Clock, Hub, HubFault, Ledgers, Pass, Sink};
 use ll_item::Settings;
 use ll_link::{Role, serve_links, serve_players};
-use ll_format::UtcTime;
 use ll_server::{Config, ConfigFault, Log, Numbers, Records, Workers};
 use std::alloc::Global;
 use std::fs::File;
