@@ -42,6 +42,10 @@ start tests/edits_apply.py
 start tests/try_rows.sh
 # (It would have fewer crates side by side, since it plans several times the memory that a check takes.)
 show env RT_JOBS="${RT_JOBS:-$(nproc)}" rt ci
+# (`rt ci` passes over an edit that doesn't compile, which says nothing of a contract.)
+if grep -q '\.edit: BAD EDIT' "$log"; then
+    fail 'a must-fail edit does not compile'
+fi
 for name in log mutated_playlists mutated_records upgrades explained connections dropped mutated_heads short_devices large rows; do
     start "tests/$name.sh" "$program"
 done

@@ -4,8 +4,8 @@
 set -euo pipefail
 cd "$(dirname "${BASH_SOURCE[0]}")/.."
 . tests/copy.sh
-copy=$(mktemp -d)
-trap 'rm -rf "$copy"' EXIT
+copy=$(mktemp -d) said=$(mktemp)
+trap 'rm -rf "$copy" "$said"' EXIT
 if [ $# = 0 ]; then
     set -- $(printf '%s\n' edits/* crates/*/must-fail | sed 's|^crates/||; s|^edits/||; s|/must-fail$||' | sort -u)
 fi
@@ -16,4 +16,13 @@ for crate in "$@"; do
 done
 cd "$copy"
 # (an edit's own line tells what it came to)
-rt ci </dev/null 2>&1 | grep --line-buffered -E '\.edit: |NOT PROVED|^rt: |passed, '
+rt ci </dev/null 2>&1 | grep --line-buffered -E '\.edit: |NOT PROVED|^rt: |passed, ' | tee "$said" | grep --line-buffered -v ' passed, ' || true
+if [[ $(tail -n 1 "$said") =~ ^([0-9]+)\ passed,\ ([0-9]+)\ failed ]]; then
+    passed=${BASH_REMATCH[1]} failed=${BASH_REMATCH[2]}
+else
+    passed=0 failed=1
+fi
+# One that doesn't compile says nothing of a contract; `rt ci` passes over it.
+failed=$((failed + $(grep -c '\.edit: BAD EDIT' "$said" || true)))
+echo "$passed passed, $failed failed"
+[ "$failed" = 0 ]
