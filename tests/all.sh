@@ -38,6 +38,8 @@ finish() {
     commands=()
 }
 
+# What all crates stand on is proved first, by all processors; where the kit keeps it, the run below takes it from there, and else says what is wrong with it.
+rt ci ll_item >/dev/null 2>&1
 start tests/edits_apply.py
 start tests/try_rows.sh
 # (It would have fewer crates side by side, since it plans several times the memory that a check takes.)
