@@ -4,7 +4,7 @@ use Rattle.std.proofs.lemmas.List.Splits.{length-slice_split}
 use Rattle.ll_attr.specs.Words.{pieces_at}
 use Rattle.ll_directive.specs.Files.{media_by}
 use Rattle.ll_directive.specs.Targets.{names_in}
-use Rattle.ll_store.specs.declared.what.What.{What}
+use Rattle.ll_item.specs.declared.what.What.{What}
 
 -- a text has one part at least
 some_parts : (c : ℕ) (text : List ℕ) → pieces_at c text ≡ [] → ⊥

@@ -3,8 +3,8 @@ use Rattle.std.specs.Prelude.{ℕ, List, [], ◌∷◌, Bool, true, false, Optio
 use Rattle.ll_attr.specs.Words.{after, pieces_at}
 use Rattle.ll_format.specs.Words.{number}
 use Rattle.ll_line.specs.Uris.{map_uri, part_uri, segment_uri}
-use Rattle.ll_store.specs.declared.what.What.{What}
-use Rattle.ll_store.specs.declared.what.What.TheVariants as what
+use Rattle.ll_item.specs.declared.what.What.{What}
+use Rattle.ll_item.specs.declared.what.What.TheVariants as what
 
 -- the name of a file
 abbrev pub file_name : What → List ℕ

@@ -4,7 +4,7 @@ ghost use Rattle.ll_directive.specs.Files as spec;
 
 use ll_attr::{after, cut};
 use ll_format::number;
-use ll_store::What;
+use ll_item::What;
 
 /// What a file is for: a playlist, `live.m3u8`, or media.
 pub(crate) fn file_in(file: &str) -> Option<What>

@@ -11,6 +11,5 @@ mod want;
 
 pub use fault::TargetFault;
 pub use file::media_file;
-pub use ll_store::What;
 pub use target::{named_channel, read_target};
 pub use want::{Awaited, Want};

@@ -6,8 +6,7 @@ ghost use Rattle.ll_directive.specs.Targets as spec;
 
 use crate::file::file_in;
 use ll_attr::{after, cut};
-use ll_item::is_name;
-use ll_store::What;
+use ll_item::{What, is_name};
 
 /// What stands before the first separator, or the whole text, and what stands after it, or nothing.
 pub(crate) fn split(text: &str, separator: char) -> (&str, &str)

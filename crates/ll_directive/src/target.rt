@@ -10,8 +10,7 @@ use crate::path::{names_in, path_of, split};
 use crate::query::read_query;
 use crate::want::{Awaited, Want, awaits};
 use ll_attr::Text;
-use ll_item::SkipKind;
-use ll_store::What;
+use ll_item::{SkipKind, What};
 use percent_encoding::ascii_str;
 use std::alloc::Global;
 

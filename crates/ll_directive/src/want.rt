@@ -4,11 +4,10 @@ ghost use Rattle.ll_directive.specs.Files.{is_playlist};
 ghost use Rattle.ll_directive.specs.Targets as spec;
 ghost use Rattle.ll_directive.specs.Targets.{IsPlain, awaited_in, media_want};
 ghost use Rattle.ll_item.specs.Names.{is_name};
-ghost use Rattle.ll_store.specs.declared.what.What.TheVariants as what;
+ghost use Rattle.ll_item.specs.declared.what.What.TheVariants as what;
 
 use ll_attr::Text;
-use ll_item::{SkipKind, is_name};
-use ll_store::What;
+use ll_item::{SkipKind, What, is_name};
 use std::alloc::AllocError;
 use std::marker::Model;
 

@@ -19,8 +19,8 @@ use Rattle.ll_item.proofs.WithinLimits.{within}
 use Rattle.ll_item.specs.declared.item.Item.{Item}
 use Rattle.ll_item.specs.declared.item.Item.TheVariants as item
 use Rattle.ll_entry.specs.ItemLines.{IsWritable, item_line, part_line, init_line, break_line, end_line, range_line, unrange_line, flags_text, name_of}
-use Rattle.ll_store.specs.declared.what.What.{What}
-use Rattle.ll_store.specs.declared.what.What.TheVariants as what
+use Rattle.ll_item.specs.declared.what.What.{What}
+use Rattle.ll_item.specs.declared.what.What.TheVariants as what
 use Rattle.ll_verdict.specs.declared.reply.Outcome.{Outcome}
 use Rattle.ll_entry.specs.Entries.{reply_fields, place_fields, ask_fields, media_fields, file_fields, collect_fields, want_by, where_named, ask_of, media_in, media_of as request_of, collect_of, counted, entry_by, item_text, measured, media, publish_by, published, entry_in}
 use Rattle.ll_entry.specs.Blank.{blank_entry}

@@ -13,8 +13,8 @@ use Rattle.ll_format.specs.Words.{is_one_line}
 use Rattle.ll_format.proofs.FormatLaws.{WordLaws, key_again, key_takes, lacks}
 use Rattle.ll_format.proofs.WordLaws.{lacks_from, number-laws}
 use Rattle.ll_line.specs.Uris.{map_uri, part_uri, segment_uri}
-use Rattle.ll_store.specs.declared.what.What.{What}
-use Rattle.ll_store.specs.declared.what.What.TheVariants as what
+use Rattle.ll_item.specs.declared.what.What.{What}
+use Rattle.ll_item.specs.declared.what.What.TheVariants as what
 use Rattle.ll_entry.specs.Replies.{FileWithin, count, file, most}
 use Rattle.ll_entry.proofs.Cuts.{IsWord, cut_again, keyed}
 use Rattle.ll_entry.proofs.Numbers.{number-word}

@@ -14,8 +14,8 @@ use Rattle.ll_store.specs.Media.{StoreValue, last_of, media, media_in, part_at, 
 use Rattle.ll_store.specs.Parts.{before_parts, grouped, open_bytes, part_bytes, parts_in, segment_bytes}
 use Rattle.ll_store.specs.Sections.{and_section, kept_sections, section_of, sections, sections_from, with_section}
 use Rattle.ll_store.specs.declared.segment.Section.{Section}
-use Rattle.ll_store.specs.declared.what.What.{What}
-use Rattle.ll_store.specs.declared.what.What.TheVariants as what
+use Rattle.ll_item.specs.declared.what.What.{What}
+use Rattle.ll_item.specs.declared.what.What.TheVariants as what
 use Rattle.ll_window.specs.Compact.{Compact, compact, first_map, map_now}
 use Rattle.ll_window.specs.Segments.{segments}
 use Rattle.ll_entry.proofs.ItemBlanks.{compact-blank, filter-same, finished_of, told-blank}

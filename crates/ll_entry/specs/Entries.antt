@@ -14,8 +14,8 @@ use Rattle.ll_item.specs.declared.item.Item.{Item}
 use Rattle.ll_item.specs.declared.skip_kind.SkipKind.{SkipKind}
 use Rattle.ll_item.specs.declared.item.ItemFault.{ItemFault}
 use Rattle.ll_item.specs.declared.item.ItemFault.TheVariants as item
-use Rattle.ll_store.specs.declared.what.What.{What}
-use Rattle.ll_store.specs.declared.what.What.TheVariants as what
+use Rattle.ll_item.specs.declared.what.What.{What}
+use Rattle.ll_item.specs.declared.what.What.TheVariants as what
 use Rattle.ll_verdict.specs.declared.reply.Outcome.{Outcome}
 use Rattle.ll_entry.specs.Replies.{asked_for, awaited_of, count, file, name, or_dash, or_held, outcome, spaced, update, with_key}
 use Rattle.ll_entry.specs.declared.entry.EntryFault.{EntryFault}

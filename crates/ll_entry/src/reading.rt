@@ -11,9 +11,9 @@ use crate::entry::{EntryFault, Recorded};
 use crate::version::Version;
 use crate::words::{awaited, count, or_dash, or_held, outcome, update};
 use ll_attr::{Text, after};
-use ll_directive::{Want, What, media_file};
+use ll_directive::{Want, media_file};
 use ll_format::{number, until};
-use ll_item::{Item, MEDIA_LIMIT, Payload, Settings, SkipKind, cut_last, is_name};
+use ll_item::{Item, MEDIA_LIMIT, Payload, Settings, SkipKind, What, cut_last, is_name};
 use ll_verdict::Outcome;
 use std::alloc::Global;
 

@@ -46,7 +46,7 @@ use Rattle.ll_item.specs.declared.item.ItemFault.{ItemFault}
 use Rattle.ll_item.specs.declared.settings.SettingsFault.{SettingsFault}
 use Rattle.ll_item.specs.declared.skip_kind.SkipKind.{SkipKind}
 use Rattle.ll_item.specs.declared.skip_kind.SkipKind.TheVariants.{V2, Yes}
-use Rattle.ll_store.specs.declared.what.What.TheVariants as what
+use Rattle.ll_item.specs.declared.what.What.TheVariants as what
 use Rattle.ll_verdict.specs.Events.{Event}
 use Rattle.ll_verdict.specs.declared.reply.Outcome.{Outcome}
 use Rattle.ll_verdict.specs.declared.reply.Outcome.TheVariants.{Busy, Media, NotFound, Text, Timeout, TooFar}

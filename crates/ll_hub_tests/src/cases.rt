@@ -243,15 +243,10 @@ pub(crate) fn awaited<L: Ledgers, R: Wait + Abort>(
 
 /// How many items there are at a playlist and its last line, or the name of another reply.
 fn told(alloc: Global, reply: &Reply) -> Result<String, AllocError> {
-    let name = match reply {
-        Reply::Text(page) => return told_page(alloc, page.number(), page.text()),
-        Reply::Media(_) => "media",
-        Reply::NotFound => "NotFound",
-        Reply::TooFar => "TooFar",
-        Reply::Busy => "Busy",
-        Reply::Timeout => "Timeout",
-    };
-    String::from_str(alloc, name)
+    match reply {
+        Reply::Text(page) => told_page(alloc, page.number(), page.text()),
+        other => String::from_str(alloc, other.name()),
+    }
 }
 
 /// A number of items, and the last line of a playlist.

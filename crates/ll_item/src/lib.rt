@@ -1,4 +1,4 @@
-//! What a channel is configured to, what its publisher announces, with the lines that spell them, and which kinds of delta updates it has. Sections are those of
+//! What a channel is configured to, what its publisher announces, with the lines that spell them, what of a rendition may be asked for, and which kinds of delta updates it has. Sections are those of
 //! draft-pantos-hls-rfc8216bis.
 #![tactic(auto)]
 
@@ -13,6 +13,7 @@ mod part;
 mod settings;
 mod settings_line;
 mod skip_kind;
+mod what;
 mod words;
 
 pub use channels::Channels;
@@ -24,3 +25,4 @@ pub use name::is_name;
 pub use part::Part;
 pub use settings::{Settings, SettingsFault};
 pub use skip_kind::SkipKind;
+pub use what::What;

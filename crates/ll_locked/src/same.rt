@@ -2,8 +2,8 @@
 ghost use Rattle.std.specs.Prelude.{◌≡◌, Some};
 ghost use Rattle.std.specs.Bool.{Decides};
 
-use ll_directive::{Awaited, What};
-use ll_item::SkipKind;
+use ll_directive::Awaited;
+use ll_item::{SkipKind, What};
 use ll_verdict::{Entry, Wanted};
 
 /// Whether what was found is this request.

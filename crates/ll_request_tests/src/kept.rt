@@ -3,8 +3,8 @@ ghost use Rattle.std.specs.Prelude.{◌≡◌};
 ghost use Rattle.ll_verdict.specs.Waiting.{AreBelow};
 
 use ll_book::{Book, ParkFault, Release, Released, release_law};
-use ll_directive::{Awaited, What};
-use ll_item::{Item, Payload, Settings};
+use ll_directive::Awaited;
+use ll_item::{Item, Payload, Settings, What};
 use ll_page::{Rendition, Shown};
 use ll_range::Ranges;
 use ll_verdict::{Entry, Settled, Wanted};

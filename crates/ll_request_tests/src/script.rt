@@ -185,7 +185,7 @@ impl Run {
 
     /// Writes down a reply.
     fn tell_reply(&mut self, rt: &impl Abort, reply: &Reply) {
-        self.tell(rt, name_of(reply));
+        self.tell(rt, reply.name());
         if let Reply::Text(page) = reply {
             self.played.pages.push_str(page.text()).expect(rt, "memory");
         }
@@ -218,18 +218,6 @@ impl Played {
     pub(crate) fn count(&self, answer: &str) -> usize {
         let lines = self.told.lines();
         lines.filter(|line| line.starts_with(answer)).count()
-    }
-}
-
-/// The name of a reply.
-fn name_of(reply: &Reply) -> &'static str {
-    match reply {
-        Reply::Text(_) => "Text",
-        Reply::Media(_) => "Media",
-        Reply::NotFound => "NotFound",
-        Reply::TooFar => "TooFar",
-        Reply::Busy => "Busy",
-        Reply::Timeout => "Timeout",
     }
 }
 

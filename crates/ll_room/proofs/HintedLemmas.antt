@@ -12,8 +12,8 @@ use Rattle.ll_item.specs.declared.item.Item.TheVariants as item
 use Rattle.ll_page.proofs.RenditionLemmas.{own-same, own-other}
 use Rattle.ll_store.proofs.NextPart.{next-came, next-never}
 use Rattle.ll_store.specs.Media.{media}
-use Rattle.ll_store.specs.declared.what.What.{What}
-use Rattle.ll_store.specs.declared.what.What.TheVariants as what
+use Rattle.ll_item.specs.declared.what.What.{What}
+use Rattle.ll_item.specs.declared.what.What.TheVariants as what
 use Rattle.ll_window.proofs.StepLemmas.{compact-snoc}
 use Rattle.ll_window.specs.Compact.{Compact, compact}
 use Rattle.ll_window.specs.Segments.{ended, open_segment, own, segments}

@@ -3,7 +3,7 @@ ghost use Rattle.ll_verdict.specs.Outcome.{outcome_of};
 ghost use Rattle.ll_room.specs.Decided.{IsDecidedOfOne, reply_here, reply_in};
 
 use crate::room::Room;
-use ll_directive::What;
+use ll_item::What;
 use ll_verdict::{Outcome, Wanted};
 
 /// What comes of a request when it is made: the first of these that applies. It tells all of its reply but the playlist's text or the bytes.

@@ -7,7 +7,7 @@ use Rattle.ll_page.specs.Page.{page_text}
 use Rattle.ll_publish.specs.Refusals.{refusal_line}
 use Rattle.ll_verdict.specs.declared.reply.Reply.{Reply}
 use Rattle.ll_verdict.specs.declared.reply.Reply.TheVariants as reply
-use Rattle.ll_verdict.specs.Names.{ask_fault_name}
+use Rattle.ll_verdict.specs.Names.{ask_fault_name, reply_name, reply_status}
 use Rattle.ll_verdict.specs.declared.fault.AskFault.{AskFault}
 use Rattle.ll_wire.specs.Response.{is_media_response}
 use Rattle.ll_script.specs.declared.clock.ClockRefusal.{ClockRefusal}
@@ -47,10 +47,7 @@ named_reply id status name = codes "reply " ++ (decimal id ++ (codes " " ++ (dec
 abbrev pub reply_lines : ℕ → Reply → List ℕ
 reply_lines id (reply.Text page) = text_reply id (length (page_text page)) (page_text page)
 reply_lines id (reply.Media piece) = text_reply id (length piece.bytes) (media_text piece.bytes)
-reply_lines id reply.NotFound = named_reply id 404 (codes "NotFound")
-reply_lines id reply.TooFar = named_reply id 400 (codes "TooFar")
-reply_lines id reply.Busy = named_reply id 503 (codes "Busy")
-reply_lines id reply.Timeout = named_reply id 503 (codes "Timeout")
+reply_lines id other = named_reply id (reply_status other) (reply_name other)
 
 -- the target of a request wants nothing
 abbrev pub fault_line : ℕ → TargetFault → List ℕ

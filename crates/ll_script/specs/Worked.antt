@@ -12,8 +12,8 @@ use Rattle.ll_script.specs.Answers.{clock_line, fault_line, reply_lines, sent_li
 use Rattle.ll_script.specs.Lines.{acts}
 use Rattle.ll_script.specs.declared.act.Act.TheVariants.{Offer, Refuse, Ask, Answer, Close, Clock, RefuseClock, Bytes, Drop}
 use Rattle.ll_script.specs.declared.clock.ClockRefusal.TheVariants as clock
-use Rattle.ll_store.specs.declared.what.What.{What}
-use Rattle.ll_store.specs.declared.what.What.TheVariants as what
+use Rattle.ll_item.specs.declared.what.What.{What}
+use Rattle.ll_item.specs.declared.what.What.TheVariants as what
 use Rattle.ll_verdict.specs.declared.piece.Piece.{Piece}
 use Rattle.ll_verdict.specs.declared.reply.Reply.TheVariants as reply
 use Rattle.ll_wire.specs.Response.{media_message}

@@ -29,10 +29,9 @@ pub fn reply_lines(alloc: Global, id: u64, reply: &Reply) -> Result<String, Allo
     match reply {
         Reply::Text(page) => text_reply(alloc, id, page.text().len() as u64, page.text()),
         Reply::Media(piece) => media_reply(alloc, id, &piece.bytes),
-        Reply::NotFound => named_reply(alloc, id, 404, "NotFound"),
-        Reply::TooFar => named_reply(alloc, id, 400, "TooFar"),
-        Reply::Busy => named_reply(alloc, id, 503, "Busy"),
-        Reply::Timeout => named_reply(alloc, id, 503, "Timeout"),
+        Reply::NotFound | Reply::TooFar | Reply::Busy | Reply::Timeout => {
+            named_reply(alloc, id, reply.status(), reply.name())
+        }
     }
 }
 

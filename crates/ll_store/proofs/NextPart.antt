@@ -20,8 +20,8 @@ use Rattle.ll_store.proofs.StoreStep.{end-open}
 use Rattle.ll_store.proofs.WindowBytes.{length-grouped, open_by}
 use Rattle.ll_store.specs.Media.{StoreValue, last_of, media, media_in, part_at, place_in, store}
 use Rattle.ll_store.specs.Parts.{open_bytes, part_bytes, segment_bytes}
-use Rattle.ll_store.specs.declared.what.What.{What}
-use Rattle.ll_store.specs.declared.what.What.TheVariants as what
+use Rattle.ll_item.specs.declared.what.What.{What}
+use Rattle.ll_item.specs.declared.what.What.TheVariants as what
 
 -- ---- a window and its store
 

@@ -7,8 +7,8 @@ use Rattle.ll_window.specs.Compact.{Compact, compact}
 use Rattle.ll_store.specs.Parts.{open_bytes, segment_bytes}
 use Rattle.ll_store.specs.declared.segment.Section.{Section}
 use Rattle.ll_store.specs.Sections.{kept_sections, section_of, sections}
-use Rattle.ll_store.specs.declared.what.What.{What}
-use Rattle.ll_store.specs.declared.what.What.TheVariants as what
+use Rattle.ll_item.specs.declared.what.What.{What}
+use Rattle.ll_item.specs.declared.what.What.TheVariants as what
 
 -- what is kept of the bytes of all items of a rendition
 pub record StoreValue : Type 0 where

@@ -10,7 +10,7 @@ use Rattle.ll_store.specs.Media.{StoreValue, media_in, store}
 use Rattle.ll_store.specs.Step.{grown, trimmed}
 use Rattle.ll_store.specs.Stock.{Stock}
 use Rattle.ll_store.specs.declared.arrival.Arrival.{Arrival}
-use Rattle.ll_store.specs.declared.what.What.{What}
+use Rattle.ll_item.specs.declared.what.What.{What}
 
 -- of all items of a channel, one for each of these renditions, the first of which has this index
 abbrev pub stores_from : Configuration → List Item → ℕ → List (List ℕ) → List StoreValue

@@ -8,7 +8,7 @@ ghost use Rattle.ll_store.specs.Sections.{section_of};
 
 use crate::blocks::Found;
 use crate::store::Store;
-use crate::what::What;
+use ll_item::What;
 use ll_window::Window;
 
 impl Store {

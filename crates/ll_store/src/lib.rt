@@ -9,7 +9,6 @@ mod laws;
 mod segment;
 mod store;
 mod stores;
-mod what;
 
 pub use arrival::Arrival;
 pub use blocks::{Blocks, Found};
@@ -17,4 +16,3 @@ pub use brought::Brought;
 pub use laws::store_law;
 pub use store::Store;
 pub use stores::{arrive, expect, find_at, new_stores};
-pub use what::What;

@@ -9,8 +9,7 @@ use crate::arrival::Arrival;
 use crate::blocks::Found;
 use crate::brought::Brought;
 use crate::store::Store;
-use crate::what::What;
-use ll_item::{Item, Settings};
+use ll_item::{Item, Settings, What};
 use ll_rendition::Rendition;
 use std::alloc::{AllocError, Global};
 

@@ -1,5 +1,5 @@
-use ll_directive::{Awaited, Want, What, read_target};
-use ll_item::SkipKind;
+use ll_directive::{Awaited, Want, read_target};
+use ll_item::{SkipKind, What};
 use std::alloc::{AllocError, Global};
 
 pub(crate) fn add_answer(

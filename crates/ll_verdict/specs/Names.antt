@@ -1,8 +1,26 @@
--- The names that players read in place of a playlist.
+-- Statuses (RFC 9110, section 15) and names of replies. Where there is no playlist and no media, players read the name in their place.
 use Rattle.std.specs.Prelude.{ℕ, List, codes}
 use Rattle.ll_verdict.specs.declared.fault.AskFault.{AskFault}
 use Rattle.ll_verdict.specs.declared.fault.AskFault.TheVariants.{RecordFull, Memory}
+use Rattle.ll_verdict.specs.declared.reply.Reply.{Reply}
+use Rattle.ll_verdict.specs.declared.reply.Reply.TheVariants.{Text, Media, NotFound, TooFar, Busy, Timeout}
 
 abbrev pub ask_fault_name : AskFault → List ℕ
 ask_fault_name RecordFull = codes "RecordFull"
 ask_fault_name Memory = codes "Memory"
+
+abbrev pub reply_status : Reply → ℕ
+reply_status (Text page) = 200
+reply_status (Media piece) = 200
+reply_status NotFound = 404
+reply_status TooFar = 400
+reply_status Busy = 503
+reply_status Timeout = 503
+
+abbrev pub reply_name : Reply → List ℕ
+reply_name (Text page) = codes "Text"
+reply_name (Media piece) = codes "Media"
+reply_name NotFound = codes "NotFound"
+reply_name TooFar = codes "TooFar"
+reply_name Busy = codes "Busy"
+reply_name Timeout = codes "Timeout"

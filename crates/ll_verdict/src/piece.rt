@@ -1,4 +1,5 @@
-use ll_store::{Blocks, What};
+use ll_item::What;
+use ll_store::Blocks;
 
 /// Media that a player gets: a segment, a part or a Media Initialization Section. Its bytes are shared with all who hold them.
 #[derive(Drop)]

@@ -1,4 +1,5 @@
 ghost use Rattle.std.specs.Prelude.{◌≡◌};
+ghost use Rattle.ll_verdict.specs.Names.{reply_name, reply_status};
 ghost use Rattle.ll_verdict.specs.Outcome.{outcome_of};
 
 use crate::piece::Piece;
@@ -80,6 +81,32 @@ impl Reply {
             Reply::TooFar => Outcome::TooFar,
             Reply::Busy => Outcome::Busy,
             Reply::Timeout => Outcome::Timeout,
+        }
+    }
+
+    /// The status of its response (RFC 9110, section 15).
+    pub fn status(&self) -> u16
+        ensures { result ≡ reply_status self.now }
+    {
+        match self {
+            Reply::Text(_) | Reply::Media(_) => 200,
+            Reply::NotFound => 404,
+            Reply::TooFar => 400,
+            Reply::Busy | Reply::Timeout => 503,
+        }
+    }
+
+    /// Its name, which players read where there is no playlist and no media.
+    pub fn name(&self) -> &'static str
+        ensures { result.now ≡ reply_name self.now }
+    {
+        match self {
+            Reply::Text(_) => "Text",
+            Reply::Media(_) => "Media",
+            Reply::NotFound => "NotFound",
+            Reply::TooFar => "TooFar",
+            Reply::Busy => "Busy",
+            Reply::Timeout => "Timeout",
         }
     }
 }

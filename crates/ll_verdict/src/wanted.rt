@@ -1,5 +1,5 @@
-use ll_directive::{Awaited, What};
-use ll_item::SkipKind;
+use ll_directive::Awaited;
+use ll_item::{SkipKind, What};
 
 /// What a request asks of one rendition of a channel.
 #[derive(Clone, Copy, PartialEq, Eq)]

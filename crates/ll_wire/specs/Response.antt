@@ -4,9 +4,9 @@ use Rattle.std.specs.List.{starts_with}
 use Rattle.ll_page.specs.Page.{page_text}
 use Rattle.ll_directive.specs.Targets.{fault_name}
 use Rattle.ll_directive.specs.Targets as target
-use Rattle.ll_verdict.specs.Names.{ask_fault_name}
+use Rattle.ll_verdict.specs.Names.{ask_fault_name, reply_name, reply_status}
 use Rattle.ll_verdict.specs.declared.reply.Reply.{Reply}
-use Rattle.ll_verdict.specs.declared.reply.Reply.TheVariants.{Text, Media, NotFound, TooFar, Busy, Timeout}
+use Rattle.ll_verdict.specs.declared.reply.Reply.TheVariants.{Text, Media}
 use Rattle.ll_wire.specs.declared.fault.HeadFault.{HeadFault}
 use Rattle.ll_wire.specs.declared.fault.HeadFault.TheVariants.{BadHead, HeadTooLarge, BadHost, BadMethod, BadBody}
 use Rattle.ll_wire.specs.declared.answer.Answer.{Answer}
@@ -26,14 +26,6 @@ head_fault_name BadHost = codes "BadHost"
 head_fault_name BadMethod = codes "BadMethod"
 head_fault_name BadBody = codes "BadBody"
 
-abbrev pub reply_status : Reply → ℕ
-reply_status (Text page) = 200
-reply_status (Media piece) = 200
-reply_status NotFound = 404
-reply_status TooFar = 400
-reply_status Busy = 503
-reply_status Timeout = 503
-
 -- ---- what an answer is made of
 
 abbrev pub status_of : Answer → ℕ
@@ -49,10 +41,7 @@ named name = name ++ 10 ∷ []
 abbrev pub reply_body : Reply → List ℕ
 reply_body (Text page) = page_text page
 reply_body (Media piece) = piece.bytes
-reply_body NotFound = named (codes "NotFound")
-reply_body TooFar = named (codes "TooFar")
-reply_body Busy = named (codes "Busy")
-reply_body Timeout = named (codes "Timeout")
+reply_body other = named (reply_name other)
 
 -- the playlist or the media, or the name of the refusal and LF
 abbrev pub body_of : Answer → List ℕ

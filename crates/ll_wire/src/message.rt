@@ -36,10 +36,9 @@ fn reply_response(alloc: Global, reply: &Reply, keep: bool) -> Result<Message, A
     match reply {
         Reply::Text(page) => playlist(alloc, page, keep),
         Reply::Media(piece) => media(alloc, &piece.bytes, keep),
-        Reply::NotFound => refusal(alloc, 404, "NotFound", keep),
-        Reply::TooFar => refusal(alloc, 400, "TooFar", keep),
-        Reply::Busy => refusal(alloc, 503, "Busy", keep),
-        Reply::Timeout => refusal(alloc, 503, "Timeout", keep),
+        Reply::NotFound | Reply::TooFar | Reply::Busy | Reply::Timeout => {
+            refusal(alloc, reply.status(), reply.name(), keep)
+        }
     }
 }
 

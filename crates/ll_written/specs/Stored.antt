@@ -1,4 +1,4 @@
--- For private contracts: how much a room stores beside what it stands for.
+-- How much is kept of playlists that were written.
 use Rattle.std.specs.Prelude.{◌≤◌, List, [], ◌∷◌, length}
 use Rattle.ll_page.specs.Pieces.{PiecesOf}
 use Rattle.ll_rendition.specs.declared.rendition.Rendition.{Rendition}
