@@ -18,9 +18,9 @@ use ll_locked::{
     Asks, AtOnce, Channel, ChannelCounts, Clock, HubFault, Known, Ledgers, PassCounts, Publishes,
     Total, Tried,
 };
-use ll_record::{Chunk, ReadingFault};
+use ll_record::Chunk;
 use ll_room::Stamped;
-use ll_verdict::Entry;
+use ll_verdict::{ClockFault, Entry};
 use std::alloc::{AllocError, Global};
 use std::marker::Model;
 use std::sync::{Mutex, Wait};
@@ -171,7 +171,7 @@ impl<L: Ledgers> Counted<L> {
     }
 
     /// Tells the channel what its clock shows, in milliseconds.
-    pub(crate) fn tick(&mut self, ms: u64) -> Result<(), ReadingFault>
+    pub(crate) fn tick(&mut self, ms: u64) -> Result<(), ClockFault>
         ensures counts { spec.IsAsCounted self.old self.new }
         ensures told { (events : List Event) → IsRecorded self.old events → OnOk result (IsRecorded self.new (events ++ Clock ms ∷ [])) }
         ensures goes_on { GoesOn self.old self.new }

@@ -11,9 +11,8 @@ ghost use Rattle.ll_room.specs.declared.stamped.Stamp.TheVariants as stamp;
 use crate::counted::Counted;
 use ll_item::{Channels, Settings};
 use ll_locked::{ChannelCounts, HubFault, Known, Ledgers, Total, Tried};
-use ll_record::ReadingFault;
 use ll_room::Stamped;
-use ll_verdict::{Entry, Reply};
+use ll_verdict::{ClockFault, Entry, Reply};
 use std::alloc::{AllocError, Global};
 use std::marker::Model;
 use std::sync::atomic::{AtomicBool, AtomicU64, Ordering};
@@ -164,7 +163,7 @@ impl<L: Ledgers> ChannelLocks<L> {
     }
 
     /// Tells the channel at this place what the clock shows, in milliseconds.
-    pub(crate) fn tick<R: Wait>(&self, rt: &R, channel: usize, ms: u64) -> Result<(), ReadingFault>
+    pub(crate) fn tick<R: Wait>(&self, rt: &R, channel: usize, ms: u64) -> Result<(), ClockFault>
         requires { channel < length self.now }
         ensures { IfErr result (λ f. IsReadingRefused ms f) }
     {
@@ -273,7 +272,7 @@ impl<L: Ledgers> ChannelLock<L> {
     }
 
     /// Tells the channel what the clock shows, in milliseconds.
-    fn tick<R: Wait>(&self, rt: &R, ms: u64) -> Result<(), ReadingFault>
+    fn tick<R: Wait>(&self, rt: &R, ms: u64) -> Result<(), ClockFault>
         ensures { IfErr result (λ f. IsReadingRefused ms f) }
     {
         let mut state = self.lock(rt);

@@ -4,9 +4,8 @@ ghost use Rattle.std.specs.Prelude.{◌≡◌};
 use crate::cases::{FIRST, Stopped, ask, finished_with, hub_of_one, push_finished, reply, seat};
 use crate::rows::{push, push_three, same};
 use ll_hub::{Blanks, Hub, HubAsked, HubFault, Ledgers, Pass, RoomFault};
-use ll_record::ReadingFault;
 use ll_room::AskFault;
-use ll_verdict::Reply;
+use ll_verdict::{ClockFault, Reply};
 use std::alloc::Global;
 use std::marker::Brand;
 use std::process::Abort;
@@ -58,8 +57,7 @@ fn is_full(asked: &Result<bool, HubFault>) -> bool {
     matches!(
         asked,
         Err(HubFault::Room {
-            fault: RoomFault::Ask(AskFault::RecordFull)
-                | RoomFault::Clock(ReadingFault::RecordFull),
+            fault: RoomFault::Ask(AskFault::RecordFull) | RoomFault::Clock(ClockFault::RecordFull),
             ..
         })
     )

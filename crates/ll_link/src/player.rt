@@ -15,10 +15,10 @@ use bytes::Bytes;
 use ll_device::{Failed, Link, write_all, write_both};
 use ll_directive::{TargetFault, Want};
 use ll_hub::{Claim, Clock, HubAsked, HubFault, Ledgers, Pass, RoomFault, Sink, Waited};
-use ll_record::ReadingFault;
 use ll_room::AskFault;
 use ll_server::Gate;
 use ll_session::Session;
+use ll_verdict::ClockFault;
 use ll_wire::{Answer, Slices};
 use std::sync::Wait;
 use std::time::{self, Duration};
@@ -374,12 +374,12 @@ fn unavailable(fault: HubFault) -> Result<Answer, LinkFault>
             ..
         } => Ok(Answer::Unavailable(fault)),
         HubFault::Room {
-            fault: RoomFault::Clock(ReadingFault::RecordFull),
+            fault: RoomFault::Clock(ClockFault::RecordFull),
             ..
         } => Ok(Answer::Unavailable(AskFault::RecordFull)),
         HubFault::Memory
         | HubFault::Room {
-            fault: RoomFault::Clock(ReadingFault::Memory),
+            fault: RoomFault::Clock(ClockFault::Memory),
             ..
         } => Ok(Answer::Unavailable(AskFault::Memory)),
         _ => Err(LinkFault::Hub),

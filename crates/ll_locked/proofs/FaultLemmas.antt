@@ -3,8 +3,8 @@ use Rattle.std.proofs.Common.{◌≡◌, ◌≤◌, ◌<◌, ◌^◌, ℕ, List,
 use Rattle.std.specs.Prelude.{IfErr, IsErrOf}
 use Rattle.ll_item.specs.Settings.{Configuration}
 use Rattle.ll_record.specs.Recording.{Recording}
-use Rattle.ll_record.specs.declared.fault.ReadingFault.{ReadingFault}
-use Rattle.ll_record.specs.declared.fault.ReadingFault.TheVariants as reading
+use Rattle.ll_verdict.specs.declared.fault.ClockFault.{ClockFault}
+use Rattle.ll_verdict.specs.declared.fault.ClockFault.TheVariants as reading
 use Rattle.ll_verdict.specs.declared.fault.AskFault.{AskFault}
 use Rattle.ll_verdict.specs.declared.fault.AskFault.TheVariants as unasked
 use Rattle.ll_locked.specs.Channel.{IsChannel}
@@ -20,7 +20,7 @@ filled r ps place c k number settings full =
     record { recording = r; events = k.events; number = number; settings = settings; recorded = k.recorded; full = full }
 
 -- a reading that is refused
-pub why : {T : Type 0} (r : Recording) (ps : List Ticket) (ms : ℕ) (told : Result T ReadingFault) → IsChannel r ps → (IsErrOf told reading.ClockRange → 2 ^ 60 < ms)
+pub why : {T : Type 0} (r : Recording) (ps : List Ticket) (ms : ℕ) (told : Result T ClockFault) → IsChannel r ps → (IsErrOf told reading.ClockRange → 2 ^ 60 < ms)
     → (IsErrOf told reading.RecordFull → (ms ≤ 2 ^ 60) × (is_filled r ≡ true)) → (IsErrOf told reading.Memory → (ms ≤ 2 ^ 60) × (is_filled r ≡ false))
     → IfErr told (λ f. IsReadingRefused ms f)
 why r ps ms (Ok done) k range full memory = tt

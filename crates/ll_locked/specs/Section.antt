@@ -5,8 +5,8 @@ use Rattle.ll_directive.specs.Targets.{WantValue}
 use Rattle.ll_item.specs.Settings.{Configuration}
 use Rattle.ll_item.specs.declared.item.Item.{Item}
 use Rattle.ll_record.specs.Recording.{IsRecorded, Recording, of_channel, record_refusal}
-use Rattle.ll_record.specs.declared.fault.ReadingFault.{ReadingFault}
-use Rattle.ll_record.specs.declared.fault.ReadingFault.TheVariants as reading
+use Rattle.ll_verdict.specs.declared.fault.ClockFault.{ClockFault}
+use Rattle.ll_verdict.specs.declared.fault.ClockFault.TheVariants as reading
 use Rattle.ll_verdict.specs.declared.fault.AskFault.{AskFault}
 use Rattle.ll_verdict.specs.declared.fault.AskFault.TheVariants as unasked
 use Rattle.ll_room.specs.declared.stamped.Stamp.TheVariants as stamp
@@ -108,7 +108,7 @@ pub record IsMadeBy (shows : ℕ → Type 0) (old new : Recording) (want : WantV
   pub told : (events : List Event) → IsRecorded old events → IsToldAfter old.room.settings (events ++ Clock ms ∷ []) want answer
 
 -- why a reading is refused: the first of these
-abbrev pub IsReadingFault : Recording → ℕ → ReadingFault → Type 0
+abbrev pub IsReadingFault : Recording → ℕ → ClockFault → Type 0
 IsReadingFault r ms reading.ClockRange = 2 ^ 60 < ms
 IsReadingFault r ms reading.RecordFull = (ms ≤ 2 ^ 60) × (is_filled r ≡ true)
 IsReadingFault r ms reading.Memory = (ms ≤ 2 ^ 60) × (is_filled r ≡ false)
@@ -119,7 +119,7 @@ IsRequestFault r unasked.RecordFull = is_filled r ≡ true
 IsRequestFault r unasked.Memory = is_filled r ≡ false
 
 -- a reading that the clock shows is refused, and nothing has changed
-pub record IsUnread (shows : ℕ → Type 0) (old new : Recording) (fault : ReadingFault) : Type 0 where
+pub record IsUnread (shows : ℕ → Type 0) (old new : Recording) (fault : ClockFault) : Type 0 where
   pub ms : ℕ
   pub shown : shows ms
   pub refused : IsReadingFault old ms fault

@@ -5,8 +5,8 @@ use Rattle.ll_item.specs.Settings.{Configuration}
 use Rattle.ll_item.specs.declared.item.Item.{Item}
 use Rattle.ll_record.specs.Chunk.{ChunkValue, IsChunk, IsFaithful}
 use Rattle.ll_record.specs.Recording.{IsRecorded, Recording, is_record_full, record_refusal}
-use Rattle.ll_record.specs.declared.fault.ReadingFault.{ReadingFault}
-use Rattle.ll_record.specs.declared.fault.ReadingFault.TheVariants as reading
+use Rattle.ll_verdict.specs.declared.fault.ClockFault.{ClockFault}
+use Rattle.ll_verdict.specs.declared.fault.ClockFault.TheVariants as reading
 use Rattle.ll_verdict.specs.declared.fault.AskFault.TheVariants as unasked
 use Rattle.ll_verdict.specs.Full.{is_full, refusal_after}
 use Rattle.ll_verdict.specs.Events.{Event, asks, items, time}
@@ -62,7 +62,7 @@ IsAskRefused shows place c Memory = ⊤
 IsAskRefused shows place c fault = ⊥
 
 -- why a reading is refused: the first of these; where a record is full, that of some channel is
-abbrev pub IsReadingRefused : ℕ → ReadingFault → Type 0
+abbrev pub IsReadingRefused : ℕ → ClockFault → Type 0
 IsReadingRefused ms reading.ClockRange = 2 ^ 60 < ms
 IsReadingRefused ms reading.RecordFull = (ms ≤ 2 ^ 60) × (place : ℕ) × (c : Configuration) × IsFilled place c
 IsReadingRefused ms reading.Memory = ms ≤ 2 ^ 60

@@ -19,9 +19,9 @@ use crate::same::is_entry;
 use crate::total::Total;
 use ll_directive::Want;
 use ll_item::{Item, Settings};
-use ll_record::{Chunk, ReadingFault, Recorder};
+use ll_record::{Chunk, Recorder};
 use ll_room::{Asked, Closed, Collected, Parked, Stamped, Stored};
-use ll_verdict::{Entry, Reply};
+use ll_verdict::{ClockFault, Entry, Reply};
 use std::alloc::{AllocError, Global};
 use std::collections::VecDeque;
 use std::marker::Model;
@@ -209,7 +209,7 @@ impl Channel {
     }
 
     /// Tells the channel what its clock shows, in milliseconds.
-    pub fn tick(&mut self, ms: u64) -> Result<(), ReadingFault>
+    pub fn tick(&mut self, ms: u64) -> Result<(), ClockFault>
         ensures counts { spec.IsAsCounted self.old self.new }
         ensures told { (events : List Event) → IsRecorded self.old events → OnOk result (IsRecorded self.new (events ++ Clock ms ∷ [])) }
         ensures goes_on { GoesOn self.old self.new }

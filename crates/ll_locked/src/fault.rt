@@ -1,6 +1,4 @@
-use ll_record::ReadingFault;
-use ll_room::AskFault;
-use ll_verdict::PublishFault;
+use ll_verdict::{AskFault, ClockFault, PublishFault};
 use thiserror::Error;
 
 /// Why a channel's room refuses a call.
@@ -14,7 +12,7 @@ pub enum RoomFault {
     Ask(AskFault),
     /// A reading of the clock.
     #[error("{0}")]
-    Clock(ReadingFault),
+    Clock(ClockFault),
 }
 
 /// Why a hub refuses a call.

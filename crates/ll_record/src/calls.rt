@@ -14,14 +14,13 @@ ghost use Rattle.ll_entry.specs.ItemLines.{IsTyped};
 ghost use Rattle.ll_verdict.specs.Events.{Event, Ask, Clock, Publish};
 ghost use Rattle.ll_verdict.specs.Verdict.{at_once, held};
 
-use crate::fault::ReadingFault;
 use crate::lines::Lines;
 use crate::recorder::{RECORD_END, Recorder};
 use ll_directive::Want;
 use ll_entry::{ask_line, clock_line, publish_line};
 use ll_item::Item;
 use ll_room::{AskFault, Asked, LAST_TIME, Room, Stamped};
-use ll_verdict::{Outcome, PublishFault};
+use ll_verdict::{ClockFault, Outcome, PublishFault};
 use std::alloc::{AllocError, Global};
 
 impl Recorder {
@@ -107,13 +106,13 @@ impl Recorder {
     }
 
     /// A reading of the clock, in milliseconds, as [`ll_room::Room::clock`] takes it.
-    pub fn clock(&mut self, ms: u64) -> Result<(), ReadingFault>
+    pub fn clock(&mut self, ms: u64) -> Result<(), ClockFault>
         ensures passed { (events : List Event) → IsRecorded self.old events → OnOk result (IsRecorded self.new (events ++ Clock ms ∷ [])) }
         ensures within { OnOk result ((ms ≤ 2 ^ 60) × ((is_record_full self.old || is_full self.old.room.events) ≡ false)) }
-        ensures range { IsErrOf result ReadingFault.ClockRange → 2 ^ 60 < ms }
-        ensures full { IsErrOf result ReadingFault.RecordFull
+        ensures range { IsErrOf result ClockFault.ClockRange → 2 ^ 60 < ms }
+        ensures full { IsErrOf result ClockFault.RecordFull
             → (ms ≤ 2 ^ 60) × ((is_record_full self.old || is_full self.old.room.events) ≡ true) }
-        ensures memory { IsErrOf result ReadingFault.Memory
+        ensures memory { IsErrOf result ClockFault.Memory
             → (ms ≤ 2 ^ 60) × ((is_record_full self.old || is_full self.old.room.events) ≡ false) }
         ensures still_open { tickets self.new.room ≡ tickets self.old.room }
         ensures goes_on { GoesOn self.old self.new }
@@ -127,15 +126,15 @@ impl Recorder {
             calls,
         } = self;
         if ms > LAST_TIME {
-            return Err(ReadingFault::ClockRange);
+            return Err(ClockFault::ClockRange);
         }
         if *calls >= RECORD_END || room.is_full() {
-            return Err(ReadingFault::RecordFull);
+            return Err(ClockFault::RecordFull);
         }
         room.settings().within_limits();
         let line = clock_line(ms);
         let Ok(()) = lines.reserve(line.len(), room.open_requests()) else {
-            return Err(ReadingFault::Memory);
+            return Err(ClockFault::Memory);
         };
         match room.clock(ms) {
             Ok(()) => {

@@ -4,13 +4,11 @@
 
 mod calls;
 mod chunk;
-mod fault;
 mod lines;
 mod recorder;
 mod settle;
 mod sink;
 
 pub use chunk::Chunk;
-pub use fault::ReadingFault;
 pub use recorder::Recorder;
 pub use sink::Sink;

@@ -2,9 +2,9 @@
 use crate::tools::{CHANNEL, Tools};
 use ll_directive::{Want, read_target};
 use ll_item::{Item, Payload, Settings};
-use ll_record::{Chunk, ReadingFault, Recorder};
+use ll_record::{Chunk, Recorder};
 use ll_room::{AskFault, Asked, Parked, Stamped, Stored};
-use ll_verdict::{PublishFault, Reply};
+use ll_verdict::{ClockFault, PublishFault, Reply};
 use std::alloc::Global;
 use std::sync::Wait;
 
@@ -173,7 +173,7 @@ impl Row {
     fn clock(&mut self, ms: u64) -> Answer {
         match self.recorder.clock(ms) {
             Ok(()) => Answer::Read,
-            Err(ReadingFault::Memory) => Answer::Memory,
+            Err(ClockFault::Memory) => Answer::Memory,
             Err(_) => Answer::Other,
         }
     }

@@ -12,7 +12,7 @@ use Rattle.ll_script.specs.Answers.{clock_line, fault_line}
 use Rattle.ll_script.specs.Lines.{acts}
 use Rattle.ll_script.specs.declared.act.Act.{Act}
 use Rattle.ll_script.specs.declared.act.Act.TheVariants.{Declare, Offer, Refuse, Ask, Answer, Close, Clock, RefuseClock, Bytes, Drop}
-use Rattle.ll_script.specs.declared.clock.ClockRefusal.TheVariants as refused
+use Rattle.ll_verdict.specs.declared.fault.ClockFault.TheVariants as refused
 use Rattle.ll_verdict.specs.declared.reply.Reply.{Reply}
 use Rattle.ll_rooms.specs.World as rooms
 use Rattle.ll_rooms.specs.declared.answer.ActAnswer as answer

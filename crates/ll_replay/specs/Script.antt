@@ -4,16 +4,13 @@ use Rattle.ll_connection.specs.Turn as connection
 use Rattle.ll_connection.specs.Visit.{Luck}
 use Rattle.ll_rooms.specs.declared.owner.Owner.{Owner}
 use Rattle.ll_rooms.specs.declared.owner.Owner.TheVariants.{Get, Connection}
-use Rattle.ll_room.specs.declared.fault.ClockFault.{ClockFault}
-use Rattle.ll_room.specs.declared.fault.ClockFault.TheVariants as fault
 use Rattle.ll_publish.specs.Refusals.{no_line, ok_line, refusal_of}
 use Rattle.ll_script.specs.Answers.{clock_line, fault_line, reply_lines, unasked_line}
 use Rattle.ll_script.specs.Lines.{acts, starved}
 use Rattle.ll_script.specs.declared.act.Act.{Act}
 use Rattle.ll_script.specs.declared.act.Act.TheVariants.{Declare, Offer, Refuse, Ask, Answer, Close, Clock, RefuseClock, Bytes, Drop}
 use Rattle.ll_verdict.specs.declared.fault.AskFault.TheVariants as unasked
-use Rattle.ll_script.specs.declared.clock.ClockRefusal.{ClockRefusal}
-use Rattle.ll_script.specs.declared.clock.ClockRefusal.TheVariants as refused
+use Rattle.ll_verdict.specs.declared.fault.ClockFault.TheVariants as refused
 use Rattle.ll_rooms.specs.World as rooms
 use Rattle.ll_verdict.specs.declared.reply.Reply.{Reply}
 use Rattle.ll_rooms.specs.World.{all_settings, silent}
@@ -68,10 +65,6 @@ start = record { rooms = rooms.start; connections = []; lines = 0; last_id = Non
 
 -- ---- answers
 
-abbrev pub clock_refusal : ClockFault → ClockRefusal
-clock_refusal fault.ClockRange = refused.ClockRange
-clock_refusal fault.RecordFull = refused.RecordFull
-
 -- a reply to a `get` line; one to a connection is put out there
 abbrev pub reply_text : Owner → Reply → List ℕ
 reply_text (Get id) reply = reply_lines id reply
@@ -85,7 +78,7 @@ unavailable_text (Connection n) = []
 abbrev pub spelled : answer.ActAnswer → List ℕ
 spelled (said.Accepted count) = ok_line count
 spelled (said.Refused reason) = no_line (refusal_of reason)
-spelled (said.ClockRefused reason) = clock_line (clock_refusal reason)
+spelled (said.ClockRefused reason) = clock_line reason
 spelled (said.Replied owner reply) = reply_text owner reply
 spelled (said.Unavailable owner) = unavailable_text owner
 

@@ -12,9 +12,8 @@ ghost use Rattle.ll_replay.specs.Script as script;
 use crate::outcome::RunFault;
 use ll_device::{Failed, Writer, write_all};
 use ll_publish::{Refusal, no_line, ok_line};
-use ll_room::ClockFault;
 use ll_rooms::{ActAnswer, Owner};
-use ll_script::{ClockRefusal, clock_line, reply_lines, unasked_line};
+use ll_script::{clock_line, reply_lines, unasked_line};
 use ll_verdict::{AskFault, Reply};
 use std::alloc::{AllocError, Global};
 
@@ -65,21 +64,11 @@ pub(crate) fn spell_one(alloc: Global, answer: ActAnswer) -> Result<String, Allo
     match answer {
         ActAnswer::Accepted(count) => ok_line(alloc, count),
         ActAnswer::Refused(reason) => no_line(alloc, Refusal::from(reason)),
-        ActAnswer::ClockRefused(reason) => clock_line(alloc, clock_refusal(reason)),
+        ActAnswer::ClockRefused(reason) => clock_line(alloc, reason),
         ActAnswer::Replied(Owner::Get(id), reply) => reply_lines(alloc, id, &reply),
         ActAnswer::Unavailable(Owner::Get(id)) => unasked_line(alloc, id, AskFault::RecordFull),
         ActAnswer::Replied(Owner::Connection(_), _)
         | ActAnswer::Unavailable(Owner::Connection(_)) => { Ok(String::new(alloc)) }
-    }
-}
-
-/// Why a reading is refused, by its name in answers.
-pub(crate) fn clock_refusal(fault: ClockFault) -> ClockRefusal
-    ensures { result ≡ script.clock_refusal fault }
-{
-    match fault {
-        ClockFault::ClockRange => ClockRefusal::ClockRange,
-        ClockFault::RecordFull => ClockRefusal::RecordFull,
     }
 }
 

@@ -18,8 +18,8 @@ use ll_directive::{TargetFault, Want};
 use ll_item::{Channels, Item, Settings};
 use ll_publish::Refusal;
 use ll_rooms::{ActAnswer, AskStop, Owner, Rooms};
-use ll_script::{Act, Acts, ClockRefusal, LineFault, clock_line, fault_line, read_line};
-use ll_verdict::Reply;
+use ll_script::{Act, Acts, LineFault, clock_line, fault_line, read_line};
+use ll_verdict::{ClockFault, Reply};
 use std::alloc::{AllocError, Global};
 use std::marker::Model;
 
@@ -267,7 +267,7 @@ impl Driver {
             Act::Close(id) => Ok(Done::quiet(self.close(id))),
             Act::Clock { place, ms } => self.clock(place, ms),
             Act::RefuseClock => {
-                let late = clock_line(self.alloc, ClockRefusal::ClockRange)?;
+                let late = clock_line(self.alloc, ClockFault::ClockRange)?;
                 Ok(Done::quiet(Some(late.into_bytes())))
             }
             Act::Bytes { number, piece } => {

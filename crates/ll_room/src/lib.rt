@@ -5,7 +5,6 @@
 mod ask;
 mod asked;
 mod decision;
-mod fault;
 mod laws;
 mod parked;
 mod publish;
@@ -16,7 +15,6 @@ mod stamped;
 
 pub use asked::{Asked, Closed, Collected};
 pub use decision::Decision;
-pub use fault::ClockFault;
 pub use laws::event_limit_law;
 pub use ll_verdict::AskFault;
 pub use parked::{Parked, Stored};

@@ -1,5 +1,5 @@
 //! A room whose requests are known by their numbers alone.
-ghost use Rattle.std.specs.Prelude.{◌≡◌, ◌≢◌, ◌+◌, ◌<◌, ◌≤◌, ◌^◌, ◌++◌, ◌∷◌, [], List, IfOk, IfErr, IsErrOf, OnErr, OnOk, None, Some, is_some, option_map, false, true};
+ghost use Rattle.std.specs.Prelude.{◌≡◌, ◌≢◌, ◌+◌, ◌<◌, ◌≤◌, ◌^◌, ◌++◌, ◌∷◌, [], List, IfOk, IfErr, IsErrOf, OnErr, OnOk, Err, None, Some, is_some, option_map, false, true};
 ghost use Rattle.ll_verdict.specs.Waiting.{reply_at};
 ghost use Rattle.ll_verdict.specs.Events.{Event, Ask, Clock, Close, Collect, Publish};
 ghost use Rattle.ll_verdict.specs.State.{state_of};
@@ -13,13 +13,12 @@ ghost use Rattle.ll_room.specs.declared.stamped.Stamp.TheVariants as stamp;
 
 use crate::asked::{Asked, Closed, Collected};
 use crate::decision::Decision;
-use crate::fault::ClockFault;
 use crate::parked::Parked;
 use crate::room::Room;
 use crate::stamped::Stamped;
 use ll_directive::Want;
 use ll_item::{Item, Settings};
-use ll_verdict::{AskFault, PublishFault, Reply};
+use ll_verdict::{AskFault, ClockFault, PublishFault, Reply};
 use std::alloc::{AllocError, Global};
 use std::marker::Model;
 
@@ -139,6 +138,7 @@ impl Replayer {
         ensures within { OnOk result ((ms ≤ 2 ^ 60) × (self.old.events < event_end)) }
         ensures range { IsErrOf result ClockFault.ClockRange → 2 ^ 60 < ms }
         ensures full { IsErrOf result ClockFault.RecordFull → (ms ≤ 2 ^ 60) × (event_end ≤ self.old.events) }
+        ensures memory { result ≢ Err ClockFault.Memory }
         ensures settings { self.new.settings ≡ self.old.settings }
         ensures unchanged { OnErr result (self.new ≡ self.old) }
     {

@@ -1,16 +1,15 @@
 //! What becomes of held requests: their replies are handed out, they are given up, or their time is over.
-ghost use Rattle.std.specs.Prelude.{◌≡◌, ◌≢◌, ◌≤◌, ◌<◌, ◌^◌, ◌++◌, ◌∷◌, [], List, true, false, IsErrOf, OnOk, OnErr, Some, None};
+ghost use Rattle.std.specs.Prelude.{◌≡◌, ◌≢◌, ◌≤◌, ◌<◌, ◌^◌, ◌++◌, ◌∷◌, [], List, true, false, IsErrOf, OnOk, OnErr, Err, Some, None};
 ghost use Rattle.ll_verdict.specs.Events.{Event, Collect, Close, Clock};
 ghost use Rattle.ll_room.specs.Answers as answers;
 ghost use Rattle.ll_verdict.specs.Full.{event_end};
 ghost use Rattle.ll_room.specs.RoomValue.{IsSame, Stands, less, tickets};
 
 use crate::asked::{Closed, Collected};
-use crate::fault::ClockFault;
 use crate::parked::Parked;
 use crate::room::{EVENT_END, Room};
 use crate::stamped::{Stamp, Stamped};
-use ll_verdict::Reply;
+use ll_verdict::{ClockFault, Reply};
 
 /// The largest reading of a clock, in milliseconds.
 pub const LAST_TIME: u64 = 1 << 60;
@@ -71,6 +70,7 @@ impl Room {
         ensures within { OnOk result ((ms ≤ 2 ^ 60) × (self.old.events < event_end)) }
         ensures range { IsErrOf result ClockFault.ClockRange → 2 ^ 60 < ms }
         ensures full { IsErrOf result ClockFault.RecordFull → (ms ≤ 2 ^ 60) × (event_end ≤ self.old.events) }
+        ensures memory { result ≢ Err ClockFault.Memory }
         ensures still_open { tickets self.new ≡ tickets self.old }
         ensures same { IsSame self.old self.new }
         ensures unchanged { OnErr result (self.new ≡ self.old) }

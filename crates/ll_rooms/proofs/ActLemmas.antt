@@ -24,7 +24,7 @@ use Rattle.ll_room.specs.declared.asked.Asked.TheVariants.{Now, Held}
 use Rattle.ll_room.specs.declared.asked.Closed.TheVariants as given_up
 use Rattle.ll_room.specs.declared.asked.Collected.{Collected}
 use Rattle.ll_room.specs.declared.asked.Collected.TheVariants.{Got, Still, Stranger}
-use Rattle.ll_room.specs.declared.fault.ClockFault.TheVariants.{ClockRange, RecordFull}
+use Rattle.ll_verdict.specs.declared.fault.ClockFault.TheVariants.{ClockRange, RecordFull}
 use Rattle.ll_rooms.specs.Waits.{is_of, is_under, under, wait_of, without}
 use Rattle.ll_rooms.specs.declared.owner.Owner.{Owner}
 use Rattle.ll_rooms.specs.declared.wait.Wait.{Wait}

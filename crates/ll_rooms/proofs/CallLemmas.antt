@@ -14,8 +14,8 @@ use Rattle.ll_room.specs.Ticket.{Ticket}
 use Rattle.ll_room.specs.declared.asked.Asked.TheVariants.{Held}
 use Rattle.ll_verdict.specs.Full.{event_end}
 use Rattle.ll_room.specs.declared.asked.Collected.TheVariants.{Got}
-use Rattle.ll_room.specs.declared.fault.ClockFault.{ClockFault}
-use Rattle.ll_room.specs.declared.fault.ClockFault.TheVariants.{ClockRange, RecordFull}
+use Rattle.ll_verdict.specs.declared.fault.ClockFault.{ClockFault}
+use Rattle.ll_verdict.specs.declared.fault.ClockFault.TheVariants.{ClockRange, RecordFull, Memory}
 use Rattle.ll_rooms.specs.Waits.{is_under, parked_of, under, without}
 use Rattle.ll_rooms.specs.declared.owner.Owner.{Owner}
 use Rattle.ll_rooms.specs.declared.wait.Wait.{Wait}
@@ -116,10 +116,11 @@ abbrev pub count_is : StampedValue ℕ → ℕ
 count_is m = m.value
 
 pub clock_refused : (old : Kept) (w : World) (i ms : ℕ) (f : ClockFault) (h h2 : RoomValue) → old ≡ kept_world w → slice_get old.rooms i ≡ Some h → h2 ≡ h
-    → (f ≡ ClockRange → 2 ^ 60 < ms) → (f ≡ RecordFull → (ms ≤ 2 ^ 60) × (event_end ≤ h.events))
+    → (f ≡ ClockRange → 2 ^ 60 < ms) → (f ≡ RecordFull → (ms ≤ 2 ^ 60) × (event_end ≤ h.events)) → (f ≡ Memory → ⊥)
     → Leads (kept_of (slice_set old.rooms i h2) old.waits old.events) (Some (ClockRefused f)) w (clock i ms w)
-clock_refused old w i ms ClockRange h h2 e at u range full = clock_range old w i ms h h2 e at u (range refl)
-clock_refused old w i ms RecordFull h h2 e at u range full = clock_full old w i ms h h2 e at u (full refl).0 (full refl).1
+clock_refused old w i ms ClockRange h h2 e at u range full memory = clock_range old w i ms h h2 e at u (range refl)
+clock_refused old w i ms RecordFull h h2 e at u range full memory = clock_full old w i ms h h2 e at u (full refl).0 (full refl).1
+clock_refused old w i ms Memory h h2 e at u range full memory = absurd (memory refl)
 
 pub none_left : (xs : List Wait) → None ≡ slice_get xs 0 → xs ≡ []
 none_left [] h = refl

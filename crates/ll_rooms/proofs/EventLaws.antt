@@ -6,7 +6,7 @@ use Rattle.ll_rooms.specs.declared.owner.Owner.{Owner}
 use Rattle.ll_rooms.specs.declared.wait.Wait.{Wait}
 use Rattle.ll_item.specs.declared.item.Item.{Item}
 use Rattle.ll_verdict.specs.Full.{is_full, refusal_after}
-use Rattle.ll_room.specs.declared.fault.ClockFault.{ClockFault}
+use Rattle.ll_verdict.specs.declared.fault.ClockFault.{ClockFault}
 use Rattle.ll_verdict.specs.Events.{Event, Publish, Ask, Collect, Close, Clock}
 use Rattle.ll_verdict.specs.Verdict.{Request, at_once, held, reply}
 use Rattle.ll_rendition.specs.declared.fault.PublishFault.{PublishFault}

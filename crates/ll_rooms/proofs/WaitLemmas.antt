@@ -20,7 +20,7 @@ use Rattle.ll_verdict.proofs.StateLemmas.{at_once-is, state-snoc}
 use Rattle.ll_verdict.proofs.StepLemmas.{along}
 use Rattle.ll_verdict.specs.Full.{is_full, refusal_after}
 use Rattle.ll_room.specs.RoomValue.{AreDistinct, among, less}
-use Rattle.ll_room.specs.declared.fault.ClockFault.{ClockFault}
+use Rattle.ll_verdict.specs.declared.fault.ClockFault.{ClockFault}
 use Rattle.ll_room.proofs.KeptLemmas.{below-filter, below-more}
 use Rattle.ll_verdict.proofs.WaitingLemmas.{open-ready}
 use Rattle.ll_room.proofs.SettleLemmas.{fewer}

@@ -1,6 +1,5 @@
 use crate::owner::Owner;
-use ll_room::ClockFault;
-use ll_verdict::{PublishFault, Reply};
+use ll_verdict::{ClockFault, PublishFault, Reply};
 
 /// Why no memory was found for a request.
 #[derive(Clone, Copy, Debug, PartialEq, Eq)]

@@ -7,27 +7,16 @@ use Rattle.ll_page.specs.Page.{page_text}
 use Rattle.ll_publish.specs.Refusals.{refusal_line}
 use Rattle.ll_verdict.specs.declared.reply.Reply.{Reply}
 use Rattle.ll_verdict.specs.declared.reply.Reply.TheVariants as reply
-use Rattle.ll_verdict.specs.Names.{ask_fault_name, reply_name, reply_status}
+use Rattle.ll_verdict.specs.Names.{ask_fault_name, clock_fault_code, clock_fault_name, reply_name, reply_status}
 use Rattle.ll_verdict.specs.declared.fault.AskFault.{AskFault}
 use Rattle.ll_wire.specs.Response.{is_media_response}
-use Rattle.ll_script.specs.declared.clock.ClockRefusal.{ClockRefusal}
-use Rattle.ll_script.specs.declared.clock.ClockRefusal.TheVariants as clock
+use Rattle.ll_verdict.specs.declared.fault.ClockFault.{ClockFault}
 
 -- ---- the clock
 
-abbrev pub clock_code : ClockRefusal → ℕ
-clock_code clock.ClockRange = 1
-clock_code clock.RecordFull = 2
-clock_code clock.Memory = 3
-
-abbrev pub clock_name : ClockRefusal → List ℕ
-clock_name clock.ClockRange = codes "ClockRange"
-clock_name clock.RecordFull = codes "RecordFull"
-clock_name clock.Memory = codes "Memory"
-
 -- a reading of the clock is refused
-abbrev pub clock_line : ClockRefusal → List ℕ
-clock_line r = refusal_line (clock_code r) (clock_name r)
+abbrev pub clock_line : ClockFault → List ℕ
+clock_line fault = refusal_line (clock_fault_code fault) (clock_fault_name fault)
 
 -- ---- requests
 

@@ -11,7 +11,7 @@ use Rattle.ll_publish.specs.declared.refusal.Refusal.TheVariants as refused
 use Rattle.ll_script.specs.Answers.{clock_line, fault_line, reply_lines, sent_line, shut_line}
 use Rattle.ll_script.specs.Lines.{acts}
 use Rattle.ll_script.specs.declared.act.Act.TheVariants.{Offer, Refuse, Ask, Answer, Close, Clock, RefuseClock, Bytes, Drop}
-use Rattle.ll_script.specs.declared.clock.ClockRefusal.TheVariants as clock
+use Rattle.ll_verdict.specs.declared.fault.ClockFault.TheVariants as clock
 use Rattle.ll_item.specs.declared.what.What.{What}
 use Rattle.ll_item.specs.declared.what.What.TheVariants as what
 use Rattle.ll_verdict.specs.declared.piece.Piece.{Piece}

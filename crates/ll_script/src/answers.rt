@@ -3,22 +3,21 @@ ghost use Rattle.std.specs.Prelude.{◌≡◌, ◌++◌, IfOk, OnOk, decimal, le
 ghost use Rattle.std.specs.List.{concat};
 ghost use Rattle.ll_script.specs.Answers as spec;
 
-use crate::clock::ClockRefusal;
 use hex::encode;
 use itoa::Buffer;
 use ll_directive::TargetFault;
 use ll_item::Media;
 use ll_publish::refusal_line;
 use ll_store::Blocks;
-use ll_verdict::{AskFault, Reply};
+use ll_verdict::{AskFault, ClockFault, Reply};
 use ll_wire::{Slices, is_media_response};
 use std::alloc::{AllocError, Global};
 
 /// A reading of the clock is refused.
-pub fn clock_line(alloc: Global, refusal: ClockRefusal) -> Result<String, AllocError>
-    ensures { IfOk result (λ t. string_bytes t ≡ spec.clock_line refusal) }
+pub fn clock_line(alloc: Global, fault: ClockFault) -> Result<String, AllocError>
+    ensures { IfOk result (λ t. string_bytes t ≡ spec.clock_line fault) }
 {
-    refusal_line(alloc, refusal.code(), refusal.name())
+    refusal_line(alloc, fault.code(), fault.name())
 }
 
 /// A request gets the reply of its channel: a playlist or delta update after its length, media in hexadecimal digits after its length, or a

@@ -3,7 +3,6 @@
 
 mod act;
 mod answers;
-mod clock;
 mod hexadecimal;
 mod laws;
 mod piece;
@@ -11,7 +10,6 @@ mod reading;
 
 pub use act::{Act, Acts};
 pub use answers::{clock_line, fault_line, push_sent, push_shut, reply_lines, unasked_line};
-pub use clock::ClockRefusal;
 pub use laws::worked_lines;
 pub use piece::Piece;
 pub use reading::{LineFault, read_line};

@@ -28,7 +28,7 @@ use Rattle.ll_replay.specs.Stream.{come_to}
 use Rattle.ll_directive.specs.Targets.{WantValue}
 use Rattle.ll_item.specs.declared.item.Item.{Item}
 use Rattle.ll_verdict.specs.Full.{is_full, refusal_after}
-use Rattle.ll_room.specs.declared.fault.ClockFault.{ClockFault}
+use Rattle.ll_verdict.specs.declared.fault.ClockFault.{ClockFault}
 use Rattle.ll_rendition.specs.declared.fault.PublishFault.{PublishFault}
 use Rattle.ll_script_laws.proofs.ScriptLemmas.{done-keeps, lines-keep}
 use Rattle.ll_script_laws.specs.Laws.{DueLaw, FindsAsker, IsThere, WaitsLaw, moment, open_tickets}

@@ -13,7 +13,7 @@ use Rattle.ll_script.specs.Answers.{clock_line, fault_line, sent_line, shut_line
 use Rattle.ll_script.specs.Lines.{acts}
 use Rattle.ll_script.specs.declared.act.Act.{Act}
 use Rattle.ll_script.specs.declared.act.Act.TheVariants.{Bytes}
-use Rattle.ll_script.specs.declared.clock.ClockRefusal.TheVariants as refused
+use Rattle.ll_verdict.specs.declared.fault.ClockFault.TheVariants as refused
 use Rattle.ll_session.specs.Past.{Call, Past, conversation, past}
 use Rattle.ll_session.specs.Requests.{Entry, requests}
 use Rattle.ll_session.specs.Talk.{SessionValue, fresh}

@@ -27,6 +27,47 @@ impl AskFault {
     }
 }
 
+/// Why a reading of the clock is no event of its channel: the first of these that applies.
+#[derive(Clone, Copy, Debug, PartialEq, Eq, Error)]
+pub enum ClockFault {
+    /// The reading is above 2^60 milliseconds.
+    #[error("ClockRange")]
+    ClockRange,
+    /// The channel, or its record, has taken all events that it takes.
+    #[error("RecordFull")]
+    RecordFull,
+    /// No memory was found: a record needs some for a reading, a room needs none.
+    #[error("Memory")]
+    Memory,
+}
+
+impl ClockFault {
+    ghost use Rattle.std.specs.Prelude.{◌≡◌};
+    ghost use Rattle.ll_verdict.specs.Names.{clock_fault_name, clock_fault_code};
+
+    /// The number that is read in a script's answer.
+    pub fn code(self) -> u64
+        ensures { result ≡ clock_fault_code self }
+    {
+        match self {
+            ClockFault::ClockRange => 1,
+            ClockFault::RecordFull => 2,
+            ClockFault::Memory => 3,
+        }
+    }
+
+    /// The name that is read there.
+    pub fn name(self) -> &'static str
+        ensures { result.now ≡ clock_fault_name self }
+    {
+        match self {
+            ClockFault::ClockRange => "ClockRange",
+            ClockFault::RecordFull => "RecordFull",
+            ClockFault::Memory => "Memory",
+        }
+    }
+}
+
 impl From<AllocError> for AskFault {
     ghost use Rattle.std.specs.Prelude.{◌≡◌};
     ghost use Rattle.ll_verdict.specs.declared.fault.AskFault.TheVariants.{Memory};

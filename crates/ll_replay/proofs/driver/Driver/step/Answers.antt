@@ -3,7 +3,7 @@ use Rattle.std.proofs.Common.{Global, None, Some, Vec, ap, refl, subst, sym, ℕ
 use Rattle.ll_publish.specs.Refusals.{no_line}
 use Rattle.ll_script.specs.Answers.{clock_line}
 use Rattle.ll_script.specs.declared.act.Act.TheVariants.{Declare, Refuse, Answer, Close, RefuseClock, Drop}
-use Rattle.ll_script.specs.declared.clock.ClockRefusal.TheVariants as late
+use Rattle.ll_verdict.specs.declared.fault.ClockFault.TheVariants as late
 use Rattle.ll_replay.specs.Kept.{IsDone}
 use Rattle.ll_replay.specs.Script.{plain}
 use Rattle.ll_replay.proofs.DoneLemmas.{asked-is, came-is, done-is, line-says}

@@ -22,7 +22,8 @@ returns-in-Err c = record {
       let v = c.self.inside.rooms in
       clock_refused (kept_of v.items c.self.inside.held c.self.inside.events) w c.args.place c.args.ms c.in-Err.fault c.in_ok-room.room.now c.clock.new.self (c.self.view_is ∙ e)
       (slice_get_read v.items _ c.args.place c.in_ok-room.room.now v.ok.0 (c.in_ok-room.ensures.variant.0 refl) c.in_ok-room.ensures.value)
-      c.in-Err.ensures.unchanged (λ k. c.in-Err.ensures.range (ap Err k)) (λ k. c.in-Err.ensures.full (ap Err k));
+      c.in-Err.ensures.unchanged (λ k. c.in-Err.ensures.range (ap Err k)) (λ k. c.in-Err.ensures.full (ap Err k))
+      (λ k. c.in-Err.ensures.memory (ap Err k));
 }
 
 pub invariant_of-self-2 : goal.invariant_of-self-2
