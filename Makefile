@@ -2,7 +2,7 @@
 HERE := $(dir $(lastword $(MAKEFILE_LIST)))
 PREFIX ?= /usr/local
 
-.PHONY: help run build install test edits refused-memory bench demo
+.PHONY: help run build install test edits try refused-memory bench demo
 
 help:
 	@echo 'make run              runs the program on examples/first.script, and as a server, in a minute or two and before anything is proved'
@@ -10,6 +10,7 @@ help:
 	@echo 'make install          does that and copies it to PREFIX/bin, and its manual page to PREFIX/share/man (PREFIX=$(PREFIX))'
 	@echo 'make test             proves and tests everything from nothing'
 	@echo 'make edits            tries all deliberate bugs that the prover must refuse (CRATES="NAME .." those of some crates)'
+	@echo 'make try              runs each row of input and output on the program before it is proved, with checks'
 	@echo 'make refused-memory   refuses each allocation of the program in turn'
 	@echo 'make bench            measures speed and memory'
 	@echo 'make demo             builds the program where it is not built, and shows a picture: ffmpeg, push and serve'
@@ -29,6 +30,9 @@ test: kit
 
 edits: kit
 	@$(HERE)tests/edits.sh $(CRATES)
+
+try: kit
+	@$(HERE)tests/try_rows.sh
 
 refused-memory: kit
 	@$(HERE)tests/refused_memory.sh

@@ -1,8 +1,8 @@
 #!/usr/bin/env bash
-# Proves every crate from nothing and runs the crates' tests. Beside that, each must-fail edit is looked for in its file, and each row of tests/rows runs as `rt try --cases` builds the program, with checks and
-# from the sources alone. Then each row runs on the proved program, as each compiler of the toolchain builds it; beside these, on the proved program, devices
+# Proves every crate from nothing and runs the crates' tests. Beside that, each must-fail edit is looked for in its file, and a tenth of the rows run as `rt try --cases` builds the program, with checks and
+# from the sources alone (`make try` runs all of them so). Then each row runs on the proved program, as each compiler of the toolchain builds it; beside these, on the proved program, devices
 # that give and take a few bytes at a time, large inputs, mutated playlists, mutated records, records in format 2, entries that are explained, the bytes of connections cut in every way, connections that end too early, and mutated heads; calls whose memory is refused;
-# then, by themselves, the server with real sockets and what stands in front of it; and then what mostly waits: what is published to it, its records, and a player that watches it. The last line is the sum.
+# and the server's log, what is published to it and its records, which mostly wait. Then, by themselves, the server with real sockets, what stands in front of it, and a player that watches it. The last line is the sum.
 . "$(dirname "${BASH_SOURCE[0]}")/common.sh" || exit 2
 cd "$root" || exit 2
 program=crates/llhls/out/llhls
@@ -16,15 +16,21 @@ show() {
     add "${PIPESTATUS[0]}" "$log" "$@"
 }
 
-# start WORDS..: runs a command beside others, once a processor is free; `finish` shows what each has said, and adds its numbers.
+# begin WORDS..: runs a command beside others; `finish` shows what each has said, and adds its numbers.
 commands=()
-start() {
+begin() {
     local number=${#commands[@]}
-    while [ "$(jobs -rp | wc -l)" -ge "$(nproc)" ]; do
-        wait -n
-    done
     commands+=("$*")
     { "$@" >"$room/$number" 2>&1; echo $? >"$room/$number.status"; } &
+}
+
+# start WORDS..: does so once a processor is free, beside those that mostly wait.
+waiting=0
+start() {
+    while [ "$(jobs -rp | wc -l)" -ge $(($(nproc) + waiting)) ]; do
+        wait -n
+    done
+    begin "$@"
 }
 
 finish() {
@@ -35,20 +41,24 @@ finish() {
         cat "$room/$number"
         add "$(<"$room/$number.status")" "$room/$number" "${commands[number]}"
     done
-    commands=()
+    commands=() waiting=0
 }
 
+start tests/edits_apply.py
+start tests/try_rows.sh 10
 # What all crates stand on is proved first, by all processors; where the kit keeps it, the run below takes it from there, and else says what is wrong with it.
 rt ci ll_item >/dev/null 2>&1
-start tests/edits_apply.py
-start tests/try_rows.sh
 # (It would have fewer crates side by side, since it plans several times the memory that a check takes.)
 show env RT_JOBS="${RT_JOBS:-$(nproc)}" rt ci
 # (`rt ci` passes over an edit that doesn't compile, which says nothing of a contract.)
 if grep -q '\.edit: BAD EDIT' "$log"; then
     fail 'a must-fail edit does not compile'
 fi
-for name in log mutated_playlists mutated_records upgrades explained connections dropped mutated_heads short_devices large rows; do
+for name in log push record; do
+    begin "tests/$name.sh" "$program"
+    waiting=$((waiting + 1))
+done
+for name in mutated_playlists mutated_records upgrades explained connections dropped mutated_heads short_devices large rows; do
     start "tests/$name.sh" "$program"
 done
 if [ -e "$by_rattle" ]; then
@@ -56,11 +66,7 @@ if [ -e "$by_rattle" ]; then
 fi
 start tests/refused_calls.sh crates/ll_refused/out/ll_refused
 finish
-for name in serve edge; do
+for name in serve edge watch; do
     show "tests/$name.sh" "$program"
 done
-for name in push record watch; do
-    start "tests/$name.sh" "$program"
-done
-finish
 told_all
