@@ -1,10 +1,11 @@
 #!/usr/bin/env bash
-# Proves every crate from nothing and runs the crates' tests. Beside that, each must-fail edit is looked for in its file, and a tenth of the rows run as `rt try --cases` builds the program, with checks and
+# Proves every crate from nothing and runs the crates' tests, and looks for each must-fail edit in its file. Beside that, a tenth of the rows run as `rt try --cases` builds the program, with checks and
 # from the sources alone (`make try` runs all of them so). Then each row runs on the proved program, as each compiler of the toolchain builds it; beside these, on the proved program, devices
 # that give and take a few bytes at a time, large inputs, mutated playlists, mutated records, records in format 2, entries that are explained, the bytes of connections cut in every way, connections that end too early, and mutated heads; calls whose memory is refused;
 # and the server's log, what is published to it and its records, which mostly wait. Then, by themselves, the server with real sockets, what stands in front of it, and a player that watches it. The last line is the sum.
 . "$(dirname "${BASH_SOURCE[0]}")/common.sh" || exit 2
 cd "$root" || exit 2
+. tests/copy.sh
 program=crates/llhls/out/llhls
 # The build of the second compiler, where it makes one.
 by_rattle=$program.by-rattle
@@ -44,11 +45,18 @@ finish() {
     commands=() waiting=0
 }
 
+# chain_and_rows: proves the longest chain of crates. Once it is proved, there are fewer crates left than processors, and a tenth of the rows run as `rt try --cases` builds the program.
+chain_and_rows() {
+    prove "$room/chain" ll_link </dev/null >/dev/null 2>&1
+    tests/try_rows.sh 10
+}
+
 start tests/edits_apply.py
-start tests/try_rows.sh 10
-# What all crates stand on is proved first, by all processors; where the kit keeps it, the run below takes it from there, and else says what is wrong with it.
-rt ci ll_item >/dev/null 2>&1
-# (It would have fewer crates side by side, since it plans several times the memory that a check takes.)
+# (`prove` says why)
+prove "$room/base" ll_item </dev/null >/dev/null 2>&1
+begin chain_and_rows
+sleep 5
+# (With RT_JOBS it doesn't plan several times the memory that a check takes, which would have fewer crates side by side.)
 show env RT_JOBS="${RT_JOBS:-$(nproc)}" rt ci
 # (`rt ci` passes over an edit that doesn't compile, which says nothing of a contract.)
 if grep -q '\.edit: BAD EDIT' "$log"; then

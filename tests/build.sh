@@ -6,26 +6,24 @@ set -euo pipefail
 cd "$(dirname "${BASH_SOURCE[0]}")/.."
 . tests/copy.sh
 name=${1:-llhls}
-copy=$(mktemp -d)
-trap 'rm -rf "$copy"' EXIT
-copy_crates "$copy" "$name"
+room=$(mktemp -d)
+trap 'rm -rf "$room"' EXIT
+copy_crates "$room/all" "$name"
 made=$PWD/crates/$name/out
 mkdir -p "$made"
 
 # tell WHOLE: a line for each crate that is proved: how many functions it has, how long it took, and how many of how many that are.
 tell() {
-    local crate= functions= count=0 line seconds
-    local -A told
+    local crate= count=0 line
+    local -A functions told
     while IFS= read -r line; do
         case $line in
         '== '*) crate=${line#== } ;;
-        'logic=proved functions='*) functions=${line#*functions=} functions=${functions%% *} ;;
-        "rt: $crate proved")
-            count=$((count + 1))
-            # (its folder was made when its proof began)
-            seconds=$(($(date +%s) - $(stat -c %W "crates/$crate/out")))
-            told[$crate]=1
-            echo "$crate: $functions functions in $seconds s ($count of $1)"
+        'logic=proved functions='*) line=${line#*functions=} functions[$crate]=${line%% *} ;;
+        'rt: '*' proved')
+            line=${line#rt: } crate=${line% proved}
+            count=$((count + 1)) told[$crate]=1
+            echo "$crate: ${functions[$crate]-} functions in $(seconds "$crate") s ($count of $1)"
             ;;
         'rt: '*' is kept: '*)
             line=${line#rt: } crate=${line%% *}
@@ -38,18 +36,26 @@ tell() {
     done
 }
 
-# What most crates stand on is proved first, by all processors; where the kit keeps it, `rt ci` takes it from there.
-prove() {
-    if [ -d crates/ll_item ]; then
-        rt ci ll_item
+# seconds CRATE: how long ago its proof began, which is when its folder `out` was made.
+seconds() {
+    echo $(($(date +%s) - $(stat -c %W "$room"/*/crates/"$1"/out | sort -n | head -n 1)))
+}
+
+# Says what `rt ci` says.
+prove_all() {
+    if [ -d "$room/all/crates/ll_link" ]; then
+        # (`prove` says why)
+        prove "$room/base" ll_item
+        prove "$room/chain" ll_link &
+        sleep 5
     fi
+    cd "$room/all"
     rt ci
 }
 
-cd "$copy"
-if ! prove </dev/null 2>&1 | tee "$made/build.log" | tell "$(wc -l <crates.txt)" >&2; then
+if ! prove_all </dev/null 2>&1 | tee "$made/build.log" | tell "$(wc -l <"$room/all/crates.txt")" >&2; then
     echo "$made/build.log says why" >&2
     exit 1
 fi
-mv -f "crates/$name/out/$name" "$made/$name"
+mv -f "$room/all/crates/$name/out/$name" "$made/$name"
 echo "$made/$name"

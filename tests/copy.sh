@@ -26,3 +26,11 @@ copy_crates() {
         find "crates/$crate" -mindepth 1 -maxdepth 1 ! -name out ! -name must-fail -exec cp -r {} "$to/crates/$crate" \;
     done
 }
+
+# prove FOLDER NAME..: proves these crates and those that they stand on, in a copy of theirs at this folder. The kit keeps what it proves, and a run of `rt ci` over more crates takes it from there.
+# A run over all of them gives most crates one processor each. So those that many wait for are proved ahead of it, and the longest chain of crates that wait for one another beside it: that
+# run waits for what is being proved here.
+prove() {
+    copy_crates "$@"
+    (cd "$1" && rt ci)
+}
