@@ -48,7 +48,7 @@ finish() {
 # chain_and_rows: proves the longest chain of crates. Once it is proved, there are fewer crates left than processors, and a tenth of the rows run as `rt try --cases` builds the program.
 chain_and_rows() {
     prove "$room/chain" ll_link </dev/null >/dev/null 2>&1
-    tests/try_rows.sh 10
+    nice -n 5 tests/try_rows.sh 10
 }
 
 start tests/edits_apply.py
@@ -57,7 +57,7 @@ prove "$room/base" ll_item </dev/null >/dev/null 2>&1
 begin chain_and_rows
 sleep 5
 # (With RT_JOBS it doesn't plan several times the memory that a check takes, which would have fewer crates side by side.)
-show env RT_JOBS="${RT_JOBS:-$(nproc)}" rt ci
+show env RT_JOBS="${RT_JOBS:-$(nproc)}" nice -n 5 rt ci
 # (`rt ci` passes over an edit that doesn't compile, which says nothing of a contract.)
 if grep -q '\.edit: BAD EDIT' "$log"; then
     fail 'a must-fail edit does not compile'

@@ -50,7 +50,7 @@ prove_all() {
         sleep 5
     fi
     cd "$room/all"
-    rt ci
+    nice -n 5 rt ci
 }
 
 if ! prove_all </dev/null 2>&1 | tee "$made/build.log" | tell "$(wc -l <"$room/all/crates.txt")" >&2; then

@@ -28,8 +28,8 @@ copy_crates() {
 }
 
 # prove FOLDER NAME..: proves these crates and those that they stand on, in a copy of theirs at this folder. The kit keeps what it proves, and a run of `rt ci` over more crates takes it from there.
-# A run over all of them gives most crates one processor each. So those that many wait for are proved ahead of it, and the longest chain of crates that wait for one another beside it: that
-# run waits for what is being proved here.
+# A run over all of them gives most crates one processor each. So those that many wait for are proved ahead of it, and the longest chain of crates that wait for one another beside it: the run
+# over all waits for what is being proved here, and is niced, since all else has time.
 prove() {
     copy_crates "$@"
     (cd "$1" && rt ci)
