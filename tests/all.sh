@@ -47,13 +47,13 @@ finish() {
 
 # chain_and_rows: proves the longest chain of crates. Once it is proved, there are fewer crates left than processors, and a tenth of the rows run as `rt try --cases` builds the program.
 chain_and_rows() {
-    prove "$room/chain" ll_link </dev/null >/dev/null 2>&1
+    prove_chain "$room" </dev/null >/dev/null 2>&1
     nice -n 5 tests/try_rows.sh 10
 }
 
 start tests/edits_apply.py
-# (`prove` says why)
-prove "$room/base" ll_item </dev/null >/dev/null 2>&1
+# (`prove_chain` says why)
+prove "$room/ll_item" ll_item </dev/null >/dev/null 2>&1
 begin chain_and_rows
 sleep 5
 # (With RT_JOBS it doesn't plan several times the memory that a check takes, which would have fewer crates side by side.)

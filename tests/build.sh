@@ -44,9 +44,9 @@ seconds() {
 # Says what `rt ci` says.
 prove_all() {
     if [ -d "$room/all/crates/ll_link" ]; then
-        # (`prove` says why)
-        prove "$room/base" ll_item
-        prove "$room/chain" ll_link &
+        # (`prove_chain` says why)
+        prove "$room/ll_item" ll_item
+        prove_chain "$room" &
         sleep 5
     fi
     cd "$room/all"

@@ -27,10 +27,19 @@ copy_crates() {
     done
 }
 
-# prove FOLDER NAME..: proves these crates and those that they stand on, in a copy of theirs at this folder. The kit keeps what it proves, and a run of `rt ci` over more crates takes it from there.
-# A run over all of them gives most crates one processor each. So those that many wait for are proved ahead of it, and the longest chain of crates that wait for one another beside it: the run
-# over all waits for what is being proved here, and is niced, since all else has time.
+# prove FOLDER NAME..: proves these crates and those that they stand on, in a copy of theirs at this folder.
 prove() {
     copy_crates "$@"
     (cd "$1" && rt ci)
+}
+
+# prove_chain FOLDER: proves the longest chain of crates that wait for one another, in copies of theirs below this folder, once its first ones are proved there. It runs beside a run of `rt ci` over all
+# crates, which waits for what is being proved here and takes it, since the kit keeps that. A run gives a crate that is ready beside others one processor; these runs are short, so that a crate of the
+# chain is alone in its own, and gets two. The run over all is niced: all else has time.
+prove_chain() {
+    local crate
+    for crate in ll_page ll_book ll_room ll_locked ll_hub ll_link; do
+        prove "$1/$crate" "$crate" || return
+        rm -rf "${1:?}/$crate"
+    done
 }
