@@ -38,7 +38,7 @@ prove() {
 # chain is alone in its own, and gets two. The run over all is niced: all else has time.
 prove_chain() {
     local crate
-    for crate in ll_page ll_book ll_room ll_locked ll_hub ll_link; do
+    for crate in ll_page ll_book ll_room ll_locked ll_hub ll_link llhls; do
         prove "$1/$crate" "$crate" || return
         rm -rf "${1:?}/$crate"
     done
