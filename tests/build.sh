@@ -19,9 +19,12 @@ tell() {
     while IFS= read -r line; do
         case $line in
         '== '*) crate=${line#== } ;;
-        'logic=proved functions='*) line=${line#*functions=} functions[$crate]=${line%% *} ;;
+        'logic=proved functions='*)
+            line=${line#*functions=} functions[$crate]=${line%% *}
+            ;;
         'rt: '*' proved')
             line=${line#rt: } crate=${line% proved}
+            [ -n "${told[$crate]-}" ] && continue
             count=$((count + 1)) told[$crate]=1
             echo "$crate: ${functions[$crate]-} functions in $(seconds "$crate") s ($count of $1)"
             ;;

@@ -40,6 +40,5 @@ prove_chain() {
     local crate
     for crate in ll_page ll_book ll_room ll_locked ll_hub ll_link llhls; do
         prove "$1/$crate" "$crate" || return
-        rm -rf "${1:?}/$crate"
     done
 }
