@@ -45,7 +45,7 @@ finish() {
     commands=() waiting=0
 }
 
-# chain_and_rows: proves the longest chain of crates. Once it is proved, there are fewer crates left than processors, and a tenth of the rows run as `rt try --cases` builds the program.
+# chain_and_rows: proves the longest chain of crates; then a tenth of the rows run as `rt try --cases` builds the program.
 chain_and_rows() {
     prove_chain "$room" </dev/null >/dev/null 2>&1
     nice -n 5 tests/try_rows.sh 10

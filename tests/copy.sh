@@ -35,9 +35,10 @@ prove() {
 
 # prove_chain FOLDER: proves the longest chain of crates that wait for one another, in copies of theirs below this folder, once its first ones are proved there. It runs beside a run of `rt ci` over all
 # crates, which waits for what is being proved here and takes it, since the kit keeps that. A run gives a crate that is ready beside others one processor; these runs are short, so that a crate of the
-# chain is alone in its own, and gets two. The run over all is niced: all else has time.
+# chain is alone in its own, and gets two. The run over all is niced: all else has time. Where nothing is kept, each of these runs would begin anew, so there is none.
 prove_chain() {
     local crate
+    prove "$1/ll_attr" ll_attr | grep ' is kept: ' || return 0
     for crate in ll_page ll_book ll_room ll_locked ll_hub ll_link llhls; do
         prove "$1/$crate" "$crate" || return
     done
