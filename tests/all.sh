@@ -45,20 +45,13 @@ finish() {
     commands=() waiting=0
 }
 
-# chain_and_rows: proves the longest chain of crates; then a tenth of the rows run as `rt try --cases` builds the program.
-chain_and_rows() {
-    prove_chain "$room" </dev/null >/dev/null 2>&1
-    nice -n 5 tests/try_rows.sh 10
-}
-
 start tests/edits_apply.py
 start tests/build_lines.sh
-# (`prove_chain` says why)
-prove "$room/ll_item" ll_item </dev/null >/dev/null 2>&1
-begin chain_and_rows
-sleep 5
-# (With RT_JOBS it doesn't plan several times the memory that a check takes, which would have fewer crates side by side.)
-show env RT_JOBS="${RT_JOBS:-$(nproc)}" nice -n 5 rt ci
+# (With RT_JOBS a run doesn't plan several times the memory that a check takes, which would have fewer crates side by side.)
+lanes=${RT_JOBS:-$(nproc)}
+prove_chain "$room" crates.txt </dev/null >/dev/null 2>&1
+begin nice -n 5 tests/try_rows.sh 10
+show env RT_JOBS="$lanes" nice -n 5 rt ci
 # (`rt ci` passes over an edit that doesn't compile, which says nothing of a contract.)
 if grep -q '\.edit: BAD EDIT' "$log"; then
     fail 'a must-fail edit does not compile'

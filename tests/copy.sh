@@ -33,13 +33,25 @@ prove() {
     (cd "$1" && rt ci)
 }
 
-# prove_chain FOLDER: proves the longest chain of crates that wait for one another, in copies of theirs below this folder, once its first ones are proved there. It runs beside a run of `rt ci` over all
-# crates, which waits for what is being proved here and takes it, since the kit keeps that. A run gives a crate that is ready beside others one processor; these runs are short, so that a crate of the
-# chain is alone in its own, and gets two. The run over all is niced: all else has time. Where nothing is kept, each of these runs would begin anew, so there is none.
+# prove_chain FOLDER FILE: proves, in copies below this folder, the crates of this file of the form of crates.txt that don't stand on ll_link; and ll_link first of all. Most crates wait for one another
+# in one long chain, up to ll_link. A run of `rt ci` over all crates gives one processor to a crate that is ready beside others, and two to one that is ready alone in its run: so
+# the chain has runs of its own, and that over the rest is niced, waits for what these prove, and takes it. It goes on when this ends, and the caller proves what is left. `lanes` is how many crates
+# it proves side by side, empty for as many as `rt ci` finds memory for.
 prove_chain() {
-    local crate
+    # (on the processors that ll_attr and ll_item leave idle)
+    (sleep 5 && RT_JOBS=2 prove "$1/beside" ll_device ll_mp4 ll_line) &
+    # Where the chain's first crates were proved before, little is left.
+    prove "$1/ll_item" ll_item | tee "$1/item.log"
+    grep -q ' proved$' "$1/item.log" || return 0
+    # Where the kit keeps nothing, each run would begin anew.
     prove "$1/ll_attr" ll_attr | grep ' is kept: ' || return 0
-    for crate in ll_page ll_book ll_room ll_locked ll_hub ll_link llhls; do
-        prove "$1/$crate" "$crate" || return
-    done
+    (renice -n 5 "$BASHPID" && sleep 5 && RT_JOBS=$lanes prove "$1/rest" $(without_link "$2")) &
+    prove "$1/ll_page" ll_page
+    RT_JOBS=1 prove "$1/ll_hub" ll_hub
+    prove "$1/ll_link" ll_link
+}
+
+# without_link FILE: the names of the crates of this file that don't stand on ll_link.
+without_link() {
+    sed 's/ *#.*//' "$1" | awk -F ': *' '$1 != "" && $1 != "ll_link" && " " $2 " " !~ / ll_link / { print $1 }'
 }
