@@ -25,3 +25,4 @@ pub mod SkipLines
 pub mod SplitLemmas
 pub mod TextLemmas
 pub mod TextProof
+pub mod WorkedExamples

@@ -3,6 +3,7 @@
 #![tactic(auto)]
 
 ghost use Rattle.ll_laws.specs.Laws.{CompanionLaw, OwnSegmentLaw, ReadableLaw, TextLaw};
+ghost use Rattle.ll_laws.specs.Worked.{WorkedPlaylists};
 
 /// The promise to players, on texts: the text of a delta update, applied to the text of a full playlist of the same rendition
 /// that is not older than the skip limit, is the text of the full playlist of the update's own moment (section 6.2.5.1).
@@ -27,4 +28,9 @@ pub fn own_segment_law()
 /// texts stand where they may, MAP lines where they must, and no two date ranges have one ID.
 pub fn readable_law()
     ensures { ReadableLaw }
+{}
+
+/// What the definitions say of small streams: the whole texts of seven playlists and of four delta updates, byte for byte.
+pub fn worked_playlists()
+    ensures { WorkedPlaylists }
 {}

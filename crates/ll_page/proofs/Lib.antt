@@ -6,4 +6,3 @@ pub mod RangeTexts
 pub mod RenditionLemmas
 pub mod ShownLemmas
 pub mod Texts
-pub mod WorkedExamples

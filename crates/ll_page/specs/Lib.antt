@@ -6,7 +6,6 @@ pub mod Pieces
 pub mod Playlist
 pub mod Spelling
 pub mod View
-pub mod Worked
 pub use Rattle.ll_line.specs.Formats
 pub use Rattle.ll_line.specs.Line
 pub use Rattle.ll_line.specs.Meaning

@@ -2,7 +2,6 @@
 //! draft-pantos-hls-rfc8216bis-13.
 #![tactic(auto)]
 
-mod laws;
 mod page;
 mod piece;
 mod pieces;
@@ -11,7 +10,6 @@ mod segment_lines;
 mod shown;
 mod view;
 
-pub use laws::worked_playlists;
 pub use ll_item::SkipKind;
 pub use ll_line::{Control, DateRange, DateTime, Line, PartLine, Report, Skip, Uri, push_line};
 pub use ll_rendition::Rendition;

@@ -7,7 +7,7 @@ use Rattle.ll_format.specs.Times.{time_of, digits_2, digits_3, digits_4}
 use Rattle.ll_item.specs.Settings.{configuration_of}
 use Rattle.ll_line.specs.Text.{line_text}
 use Rattle.ll_line.specs.Uris.{segment_uri, part_uri, map_uri, report_uri}
-use Rattle.ll_page.specs.Worked.{WorkedPlaylists}
+use Rattle.ll_laws.specs.Worked.{WorkedPlaylists}
 
 pub worked : WorkedPlaylists
 unfolding line_text segment_uri part_uri map_uri report_uri seconds digits configuration_of nth_date time_of digits_2 digits_3 digits_4
