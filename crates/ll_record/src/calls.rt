@@ -1,13 +1,14 @@
 //! Items, requests and readings, each with its line.
-ghost use Rattle.std.specs.Prelude.{◌≡◌, ◌≢◌, ◌+◌, ◌*◌, ◌<◌, ◌≤◌, ◌^◌, ◌++◌, ◌∷◌, [], List, IfErr, IfOk, IsErrOf, None, OnErr, OnOk, Some, length, string_bytes, true, false, ◌||◌};
+ghost use Rattle.std.specs.Prelude.{◌≡◌, ◌≢◌, ◌+◌, ◌*◌, ◌<◌, ◌≤◌, ◌^◌, ◌++◌, ◌∷◌, [], List, IfErr, IfOk, IsErrOf, MatchResult, None, OnErr, OnOk, Some, length, string_bytes, true, false, ◌||◌};
 ghost use Rattle.ll_entry.specs.Lines.{IsSpelled, entry_line};
 ghost use Rattle.ll_entry.specs.declared.entry.Recorded.TheVariants as recorded;
 ghost use Rattle.ll_item.specs.Items.{rendition_of};
 ghost use Rattle.ll_item.specs.Settings.{Configuration};
 ghost use Rattle.ll_record.specs.Kept.{spare};
-ghost use Rattle.ll_record.specs.Recording.{GoesOn, IsRecorded, is_record_full, of_channel, record_refusal};
+ghost use Rattle.ll_record.specs.Recording.{GoesOn, IsRecorded, is_record_full, of_channel, record_end, record_refusal};
 ghost use Rattle.ll_room.specs.Answers.{asked, new_tickets, others};
 ghost use Rattle.ll_verdict.specs.Full.{event_end, is_full};
+ghost use Rattle.ll_room.specs.Full.{refusal_by};
 ghost use Rattle.ll_room.specs.RoomValue.{tickets};
 ghost use Rattle.ll_room.specs.declared.stamped.Stamp.TheVariants as stamp;
 ghost use Rattle.ll_entry.specs.ItemLines.{IsTyped};
@@ -38,6 +39,42 @@ impl Recorder {
         ensures goes_on { GoesOn self.old self.new }
         ensures unchanged { OnErr result (self.new ≡ self.old) }
     {
+        if let Err(fault) = self.test(&item) {
+            return Err(fault);
+        }
+        match self.take_in(item) {
+            Ok(count) => Ok(count),
+            Err(AllocError) => Err(PublishFault::Memory),
+        }
+    }
+
+    /// The first rule that refuses an item; that the record is full comes after the others.
+    fn test(&self, item: &Item) -> Result<(), PublishFault>
+        ensures allowed { OnOk result (refusal_by self.now.room item.now ≡ None) }
+        ensures space { OnOk result (self.now.calls < record_end) }
+        ensures refused { (events : List Event) → IsRecorded self.now events
+            → MatchResult result (λ u. record_refusal self.now events item.now ≡ None) (λ f. record_refusal self.now events item.now ≡ Some f) }
+        ensures rule { IfErr result (λ f. f ≢ PublishFault.Memory) }
+    {
+        if let Err(fault) = self.room.test(item) {
+            return Err(fault);
+        }
+        if self.calls >= RECORD_END {
+            return Err(PublishFault::RecordFull);
+        }
+        Ok(())
+    }
+
+    /// Accepts an item that nothing refuses, as [`Recorder::test`] tells. It fails only where no memory is found, and then changes nothing.
+    fn take_in(&mut self, item: Item) -> Result<Stamped<u64>, AllocError>
+        requires allowed { refusal_by self.old.room item ≡ None }
+        requires space { self.old.calls < record_end }
+        ensures accepted { (events : List Event) → IsRecorded self.old events → OnOk result (IsRecorded self.new (events ++ Publish item ∷ [])) }
+        ensures count { IfOk result (λ n. n ≡ record { room = self.old.room.channel; stamp = stamp.Publish item; value = self.old.room.count + 1 }) }
+        ensures still_open { tickets self.new.room ≡ tickets self.old.room }
+        ensures goes_on { GoesOn self.old self.new }
+        ensures unchanged { OnErr result (self.new ≡ self.old) }
+    {
         let Recorder {
             alloc,
             room,
@@ -45,24 +82,12 @@ impl Recorder {
             at: _,
             calls,
         } = self;
-        if let Err(fault) = room.test(&item) {
-            return Err(fault);
-        }
-        if *calls >= RECORD_END {
-            return Err(PublishFault::RecordFull);
-        }
         room.settings().within_limits();
-        let Ok(line) = item_line(*alloc, room, lines, &item) else {
-            return Err(PublishFault::Memory);
-        };
-        match room.accept(item) {
-            Ok(count) => {
-                lines.put(line.as_str());
-                *calls += 1;
-                Ok(count)
-            }
-            Err(_) => Err(PublishFault::Memory),
-        }
+        let line = item_line(*alloc, room, lines, &item)?;
+        let count = room.accept(item)?;
+        lines.put_line(line);
+        *calls += 1;
+        Ok(count)
     }
 
     /// Makes a request, as [`ll_room::Room::ask`] does.
@@ -79,6 +104,28 @@ impl Recorder {
         ensures goes_on { GoesOn self.old self.new }
         ensures unchanged { OnErr result (self.new ≡ self.old) }
     {
+        if self.calls >= RECORD_END || self.room.is_full() {
+            return Err(AskFault::RecordFull);
+        }
+        match self.make_request(want) {
+            Ok(asked) => Ok(asked),
+            Err(AllocError) => Err(AskFault::Memory),
+        }
+    }
+
+    /// Makes a request, which can still be recorded. It fails only where no memory is found, and then changes nothing.
+    fn make_request(&mut self, want: Want) -> Result<Asked, AllocError>
+        requires few { is_full self.old.room.events ≡ false }
+        requires space { self.old.calls < record_end }
+        ensures answer { (events : List Event) → IsRecorded self.old events
+            → IfOk result (λ a. a ≡ asked self.old.room want (at_once self.old.room.settings (held self.old.room.settings events) events want)) }
+        ensures asked { (events : List Event) → IsRecorded self.old events
+            → OnOk result (IsRecorded self.new (events ++ Ask (of_channel self.old.room.settings want) ∷ [])) }
+        ensures opened { IfOk result (λ a. tickets self.new.room ≡ tickets self.old.room ++ new_tickets a) }
+        ensures newest { IfOk result (λ a. others a (tickets self.new.room) ≡ tickets self.old.room) }
+        ensures goes_on { GoesOn self.old self.new }
+        ensures unchanged { OnErr result (self.new ≡ self.old) }
+    {
         let Recorder {
             alloc,
             room,
@@ -86,23 +133,14 @@ impl Recorder {
             at: _,
             calls,
         } = self;
-        if *calls >= RECORD_END || room.is_full() {
-            return Err(AskFault::RecordFull);
-        }
         room.settings().within_limits();
         let decision = room.decide(&want);
         let outcome = decision.outcome(room);
-        let Ok(line) = request_line(*alloc, room, lines, &want, outcome) else {
-            return Err(AskFault::Memory);
-        };
-        match room.ask_decided(want, decision) {
-            Ok(asked) => {
-                lines.put(line.as_str());
-                *calls += 1;
-                Ok(asked)
-            }
-            Err(AllocError) => Err(AskFault::Memory),
-        }
+        let line = request_line(*alloc, room, lines, &want, outcome)?;
+        let asked = room.ask_decided(want, decision)?;
+        lines.put_line(line);
+        *calls += 1;
+        Ok(asked)
     }
 
     /// A reading of the clock, in milliseconds, as [`ll_room::Room::clock`] takes it.

@@ -1,5 +1,5 @@
 //! The lines of a record, in memory that is found before an event and not after it.
-ghost use Rattle.std.specs.Prelude.{◌≡◌, ◌≤◌, ◌+◌, ◌*◌, ◌++◌, [], OnOk, length, true};
+ghost use Rattle.std.specs.Prelude.{◌≡◌, ◌≤◌, ◌+◌, ◌*◌, ◌++◌, [], OnOk, length, string_bytes, true};
 ghost use Rattle.std.specs.Str.{is_utf8};
 ghost use Rattle.ll_record.specs.Kept.{spare};
 ghost use Rattle.ll_entry.specs.Leads.{with_end};
@@ -58,6 +58,16 @@ impl Lines {
             unreachable!();
         }
         self.text.push_reserved(b'\n');
+    }
+
+    /// Adds this line and its end, in memory that is there.
+    pub(crate) fn put_line(&mut self, line: String)
+        requires { length (string_bytes line) + 1 ≤ self.old.free }
+        ensures lines { self.new.lines ≡ self.old.lines ++ with_end (string_bytes line) }
+        ensures text { is_utf8 (string_bytes line) ≡ true }
+        ensures free { self.old.free ≤ self.new.free + (length (string_bytes line) + 1) }
+    {
+        self.put(line.as_str());
     }
 
     /// The lines.
