@@ -153,15 +153,15 @@ fn meet(
     if header.at == 0 {
         return begin_another(alloc, chain, header.version, settings);
     }
-    let Some(chain) = chain else {
-        return Err(CheckKind::Gap);
-    };
-    if !is_same(chain.settings(), &settings) {
-        return Err(CheckKind::OtherChannel);
+    match chain {
+        Some(chain) if is_same(chain.settings(), &settings) => {
+            chain.version = header.version;
+            chain.inside = true;
+            Ok(())
+        }
+        Some(_) => Err(CheckKind::OtherChannel),
+        None => Err(CheckKind::Gap),
     }
-    chain.version = header.version;
-    chain.inside = true;
-    Ok(())
 }
 
 /// Begins another chain, of a channel of these settings.

@@ -23,8 +23,7 @@ pub fn check(alloc: Global, bytes: &[u8]) -> Result<u64, CheckFault>
     ensures memory { IfErr result (λ f. f.kind ≡ CheckKind.Memory → not_before f.entry (checked_from (Between None) (pieces_at 10 bytes.now)) ≡ true) }
 {
     let mut checker = Checker::new(alloc);
-    checker.read(bytes)?;
-    checker.count()
+    checker.count_in(bytes)
 }
 
 /// A record that is checked as it comes. What is kept of it follows the channel, not how long the record is.
@@ -64,6 +63,17 @@ impl Checker {
             rest = more;
         }
         Ok(())
+    }
+
+    /// How many entries a file of chunks has, before which nothing came.
+    fn count_in(&mut self, bytes: &[u8]) -> Result<u64, CheckFault>
+        requires { self.old ≡ None }
+        ensures value { IfOk result (λ n. checked bytes.now ≡ Ok n) }
+        ensures wrong { IfErr result (λ f. f.kind ≢ CheckKind.Memory → checked bytes.now ≡ Err f) }
+        ensures memory { IfErr result (λ f. f.kind ≡ CheckKind.Memory → not_before f.entry (checked_from (Between None) (pieces_at 10 bytes.now)) ≡ true) }
+    {
+        self.read(bytes)?;
+        self.count()
     }
 
     /// How many entries the chunks have so far. A record has one chunk or more.
