@@ -1,7 +1,7 @@
 //! What lies under a channel's lock: the channel, and its shares of what was counted. Each method is one locked section.
-ghost use Rattle.std.specs.Prelude.{◌≡◌, ◌+◌, ◌++◌, ◌∷◌, [], List, IfErr, IfOk, IsTrue, MatchBool, OnErr, OnOk, filter, length};
+ghost use Rattle.std.specs.Prelude.{◌≡◌, ◌+◌, ◌<◌, ◌++◌, ◌∷◌, [], List, IfErr, IfOk, IsTrue, MatchBool, OnErr, OnOk, filter, length};
 ghost use Rattle.ll_verdict.specs.Waiting as waiting;
-ghost use Rattle.ll_hub.specs.Counted.{IsLeftBy, IsUnaskedBy, IsUnpublishedBy};
+ghost use Rattle.ll_hub.specs.Counted.{IsLeftBy, IsUnaskedBy, IsUncountedBy, IsUnpublishedBy};
 ghost use Rattle.ll_locked.specs.Ledgers.{blank, with_ask, with_publish};
 ghost use Rattle.ll_locked.specs.Section as spec;
 ghost use Rattle.ll_locked.specs.Told.{IsAccepted, IsHandedOut, IsReadingRefused, IsTotal, IsTotalOf};
@@ -16,13 +16,14 @@ use ll_directive::Want;
 use ll_item::{Item, Settings};
 use ll_locked::{
     Asks, AtOnce, Channel, ChannelCounts, Clock, HubFault, Known, Ledgers, PassCounts, Publishes,
-    Total, Tried,
+    Tally, Total, Tried,
 };
 use ll_record::Chunk;
 use ll_room::Stamped;
 use ll_verdict::{ClockFault, Entry};
 use std::alloc::{AllocError, Global};
 use std::marker::Model;
+use std::sync::ledger::{Ledger, Share};
 use std::sync::{Mutex, Wait};
 
 /// A channel whose accepted items and whose requests are counted.
@@ -96,23 +97,13 @@ impl<L: Ledgers> Counted<L> {
         ensures uncounted { OnErr result (theirs.new ≡ theirs.old) }
         ensures unchanged { OnErr result (self.new ≡ self.old) }
     {
-        self.channel.meet(known)?;
-        let mine = &mut self.counts;
-        if !tally
-            .lock(rt)
-            .count_one(&mut mine.publishes, &mut theirs.publishes)
-        {
-            return Err(HubFault::Short);
+        let mine = &mut self.counts.publishes;
+        count_met(rt, &self.channel, known, tally, mine, &mut theirs.publishes)?;
+        let told = self.channel.publish(known, item);
+        if told.is_err() {
+            take_back(rt, tally, mine, &mut theirs.publishes);
         }
-        match self.channel.publish(known, item) {
-            Ok(count) => Ok(count),
-            Err(fault) => {
-                tally
-                    .lock(rt)
-                    .undo(&mut mine.publishes, &mut theirs.publishes);
-                Err(fault)
-            }
-        }
+        told
     }
 
     /// Counts a request, reads the clock and makes the request. A request that is refused isn't counted.
@@ -136,18 +127,13 @@ impl<L: Ledgers> Counted<L> {
         ensures counted { OnOk result (theirs.new ≡ with_ask theirs.old) }
         ensures uncounted { OnErr result (theirs.new ≡ theirs.old) }
     {
-        self.channel.meet(known)?;
-        let mine = &mut self.counts;
-        if !tally.lock(rt).count_one(&mut mine.asks, &mut theirs.asks) {
-            return Err(HubFault::Short);
+        let mine = &mut self.counts.asks;
+        count_met(rt, &self.channel, known, tally, mine, &mut theirs.asks)?;
+        let told = self.channel.ask(known, clock, want);
+        if told.is_err() {
+            take_back(rt, tally, mine, &mut theirs.asks);
         }
-        match self.channel.ask(known, clock, want) {
-            Ok(answer) => Ok(answer),
-            Err(fault) => {
-                tally.lock(rt).undo(&mut mine.asks, &mut theirs.asks);
-                Err(fault)
-            }
-        }
+        told
     }
 
     /// Hands out the reply to a held request, where it is there.
@@ -206,4 +192,43 @@ impl<L: Ledgers> Counted<L> {
         let Counted { channel, counts } = self;
         (channel.finish(), counts)
     }
+}
+
+/// Meets the channel, and counts one for it and for the pass. Where it fails, nothing is counted.
+fn count_met<C: Ledger, P: Ledger, R: Wait>(
+    rt: &R,
+    channel: &Channel,
+    known: Known<'_>,
+    tally: &Mutex<Tally<C, P>>,
+    mine: &mut Share<C>,
+    theirs: &mut Share<P>,
+) -> Result<(), HubFault>
+    requires { (0 < mine.old.parts) × (0 < theirs.old.parts) }
+    ensures met { OnOk result (spec.IsMet channel.now known.entry.place known.entry.settings.now known.entry.seen) }
+    ensures refused { IfErr result (λ f. IsUncountedBy channel.now known.entry.place known.entry.settings.now known.entry.seen f) }
+    ensures counted { OnOk result ((mine.new.amount ≡ mine.old.amount + 1) × (theirs.new.amount ≡ theirs.old.amount + 1)) }
+    ensures uncounted { OnErr result ((mine.new.amount ≡ mine.old.amount) × (theirs.new.amount ≡ theirs.old.amount)) }
+    ensures parts { (mine.new.parts ≡ mine.old.parts) × (theirs.new.parts ≡ theirs.old.parts) }
+{
+    channel.meet(known)?;
+    if tally.lock(rt).count_one(mine, theirs) {
+        Ok(())
+    } else {
+        Err(HubFault::Short)
+    }
+}
+
+/// Takes back what was counted for a channel and for a pass.
+fn take_back<C: Ledger, P: Ledger, R: Wait>(
+    rt: &R,
+    tally: &Mutex<Tally<C, P>>,
+    mine: &mut Share<C>,
+    theirs: &mut Share<P>,
+)
+    requires { (0 < mine.old.amount) × (0 < theirs.old.amount) }
+    ensures mine { mine.new.amount + 1 ≡ mine.old.amount }
+    ensures theirs { theirs.new.amount + 1 ≡ theirs.old.amount }
+    ensures parts { (mine.new.parts ≡ mine.old.parts) × (theirs.new.parts ≡ theirs.old.parts) }
+{
+    tally.lock(rt).undo(mine, theirs);
 }

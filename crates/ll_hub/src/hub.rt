@@ -1,8 +1,9 @@
 //! The hub: a lock for each channel, and the totals of what its callers count.
-ghost use Rattle.std.specs.Prelude.{◌≡◌, ◌+◌, ◌≤◌, None, Some, IfErr, IfOk, MatchOption, OnErr, OnOk, false, length, map, slice_get, sum};
+ghost use Rattle.std.specs.Prelude.{◌≡◌, ◌+◌, ◌≤◌, [], None, Some, IfErr, IfOk, MatchOption, OnErr, OnOk, false, length, map, slice_get, sum, vec_capacity};
 ghost use Rattle.ll_item.specs.Channels.{channel_of_name};
 ghost use Rattle.ll_hub.specs.Calls as calls;
 ghost use Rattle.ll_hub.specs.Passes.{new_pass};
+ghost use Rattle.ll_locked.specs.Ledgers.{IsRest, all_parts, blank};
 
 use crate::claim::Claim;
 use crate::locks::ChannelLocks;
@@ -11,7 +12,8 @@ use crate::totals::Totals;
 use ll_directive::Want;
 use ll_item::{Item, Settings};
 use ll_locked::{
-    Asks, AtOnce, Blanks, Clock, HubFault, Ledgers, Opened, PassCounts, Publishes, RoomFault, Seats,
+    Asks, AtOnce, Blanks, ChannelCounts, Clock, HubFault, Ledgers, Opened, PassCounts, Publishes,
+    RoomFault, Seats, Total,
 };
 use ll_record::{Chunk, Sink};
 use ll_room::Stamped;
@@ -92,15 +94,8 @@ impl<L: Ledgers> Hub<L> {
             publishes,
             asks,
         } = blanks.open::<L>();
-        let mut locks = ChannelLocks::new(alloc);
-        for settings in channels {
-            if locks.add(settings, rest.give()).is_err() {
-                locks.end();
-                return Err(AllocError);
-            }
-        }
         Ok(Hub {
-            locks,
+            locks: lock_each(alloc, channels, &mut rest)?,
             seats: Mutex::new(Seats::new(rest, passes)),
             publishes: Mutex::new(publishes),
             asks: Mutex::new(asks),
@@ -333,6 +328,21 @@ impl<L: Ledgers> Hub<L> {
             self.end();
             return Err(HubFault::Memory);
         };
+        self.settle(passes, &mut channels)?;
+        Ok(Totals { channels })
+    }
+
+    /// Closes what is held, tells what each channel has come to, and spends the hub and the passes. Where fewer passes come back than were
+    /// given, it fails, and hub and passes are spent too: Short.
+    fn settle(self, passes: Vec<Pass<L>>, channels: &mut Vec<Total>) -> Result<(), HubFault>
+        requires none { channels.old.items ≡ [] }
+        requires room { length self ≤ vec_capacity channels.old }
+        ensures totals { OnOk result (calls.AreTotals self channels.new.items) }
+        ensures each { length channels.new.items ≡ length self }
+        ensures publishes { OnOk result (sum (map (λ c. c.publishes) channels.new.items) ≡ sum (map (λ p. p.publishes) passes.items)) }
+        ensures asks { OnOk result (sum (map (λ c. c.asks) channels.new.items) ≡ sum (map (λ p. p.asks) passes.items)) }
+        ensures refused { IfErr result (λ f. calls.IsFinishFault (length passes.items) f) }
+    {
         let Hub {
             locks,
             seats,
@@ -344,7 +354,7 @@ impl<L: Ledgers> Hub<L> {
             passes: rest,
             given,
         } = seats.into_inner();
-        let at_home = locks.finish(&mut channels, &mut all);
+        let at_home = locks.finish(channels, &mut all);
         let returned = passes.len() as u64;
         let mut both = gather(rest, passes);
         if returned != given {
@@ -358,7 +368,7 @@ impl<L: Ledgers> Hub<L> {
             .into_inner()
             .compare(&mut all.publishes, &mut both.publishes);
         asks.into_inner().compare(&mut all.asks, &mut both.asks);
-        Ok(Totals { channels })
+        Ok(())
     }
 
     /// Closes what is held, and spends the hub.
@@ -371,6 +381,27 @@ impl<L: Ledgers> Hub<L> {
         } = self;
         locks.end();
     }
+}
+
+/// These channels, to which nothing has happened, under a lock each. Each gets its shares from the rest.
+fn lock_each<L: Ledgers>(
+    alloc: Global,
+    channels: Vec<Settings>,
+    rest: &mut ChannelCounts<L>,
+) -> Result<ChannelLocks<L>, AllocError>
+    requires most { length channels.items ≤ 1024 }
+    requires rest { rest.old ≡ blank all_parts }
+    ensures locks { IfOk result (λ l. l ≡ channels.items) }
+    ensures rest { OnOk result (IsRest rest.new (length channels.items)) }
+{
+    let mut locks = ChannelLocks::new(alloc);
+    for settings in channels {
+        if locks.add(settings, rest.give()).is_err() {
+            locks.end();
+            return Err(AllocError);
+        }
+    }
+    Ok(locks)
 }
 
 /// The shares of all these passes, with the rest.

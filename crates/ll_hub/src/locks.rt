@@ -1,12 +1,14 @@
 //! The channels of a hub, under a lock each.
-ghost use Rattle.std.specs.Prelude.{◌≡◌, ◌+◌, ◌<◌, ◌≤◌, ◌++◌, ◌∷◌, [], None, Some, IfErr, IfOk, IfSome, IsTrue, MatchOption, OnErr, OnOk, false, length, map, slice_get, sum, vec_capacity};
+ghost use Rattle.std.specs.Prelude.{◌≡◌, ◌+◌, ◌<◌, ◌≤◌, ◌++◌, ◌∷◌, [], None, Some, IfErr, IfOk, IfSome, IsTrue, MatchOption, OnErr, OnOk, false, length, map, slice_get, sum, vec_capacity, vec_len};
 ghost use Rattle.ll_item.specs.Channels.{channel_of_name};
 ghost use Rattle.ll_hub.specs.Calls as calls;
 ghost use Rattle.ll_locked.specs.Ledgers.{blank};
 ghost use Rattle.ll_item.specs.Settings.{Configuration};
 ghost use Rattle.ll_locked.specs.Section.{IsAt};
 ghost use Rattle.ll_locked.specs.Told.{IsDecided, IsReadingRefused, IsTotal};
+ghost use Rattle.ll_room.specs.RoomValue.{room_value};
 ghost use Rattle.ll_room.specs.declared.stamped.Stamp.TheVariants as stamp;
+ghost use Rattle.ll_verdict.specs.State.{state_of};
 
 use crate::counted::Counted;
 use ll_item::{Channels, Settings};
@@ -104,9 +106,7 @@ impl<L: Ledgers> ChannelLocks<L> {
         ensures added { OnOk result (self.new ≡ self.old ++ settings ∷ []) }
         ensures unchanged { OnErr result (self.new ≡ self.old) }
     {
-        let own = settings.copy(self.alloc)?;
-        self.locks.reserve(1)?;
-        let channel = Counted::new(self.alloc, self.locks.len(), own, counts)?;
+        let channel = new_channel(self.alloc, &mut self.locks, &settings, counts)?;
         match self.channels.add(self.alloc, settings) {
             Ok(()) => {}
             Err(AllocError) => {
@@ -389,6 +389,23 @@ impl<L: Ledgers> ChannelLock<L> {
         } = self;
         state.into_inner().finish();
     }
+}
+
+/// A channel for the place after these locks, to which nothing has happened, and room for its lock.
+fn new_channel<L: Ledgers>(
+    alloc: Global,
+    locks: &mut Vec<ChannelLock<L>>,
+    settings: &Settings,
+    counts: ChannelCounts<L>,
+) -> Result<Counted<L>, AllocError>
+    requires { counts ≡ blank 1 }
+    ensures new { IfOk result (λ c. c ≡ record { room = room_value (vec_len locks.old) settings.now (state_of settings.now []); at = 0; lines = []; calls = 0 }) }
+    ensures room { OnOk result (vec_len locks.new < vec_capacity locks.new) }
+    ensures len { vec_len locks.new ≡ vec_len locks.old }
+{
+    let own = settings.copy(alloc)?;
+    locks.reserve(1)?;
+    Counted::new(alloc, locks.len(), own, counts)
 }
 
 /// What is left of a limit that runs from `start`: nothing, where it is over or the clock can't be read.

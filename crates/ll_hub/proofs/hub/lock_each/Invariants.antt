@@ -1,6 +1,6 @@
 use Rattle.std.specs.Prelude.{◌≡◌, length}
 use Rattle.ll_locked.specs.Ledgers.{IsRest}
-use Rattle.ll_hub.proofs.hub.Hub.new.Given as goal
+use Rattle.ll_hub.proofs.hub.lock_each.Given as goal
 
 abbrev pub invariant-loop-settings : goal.invariant-loop-settings
 invariant-loop-settings g l = (l.locks ≡ l.yielded) × IsRest l.rest (length l.yielded)
