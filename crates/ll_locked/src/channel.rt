@@ -1,6 +1,7 @@
 //! What lies under a channel's lock. Each method is one locked section.
-ghost use Rattle.std.specs.Prelude.{◌≡◌, ◌+◌, ◌++◌, ◌∷◌, [], ℕ, List, IfErr, IfOk, MatchBool, None, Some, OnErr, OnOk, filter, length, position, if◌then◌else◌};
+ghost use Rattle.std.specs.Prelude.{◌≡◌, ◌≢◌, ◌+◌, ◌<◌, ◌++◌, ◌∷◌, [], ℕ, List, IfErr, IfOk, MatchBool, None, Some, OnErr, OnOk, filter, length, position, if◌then◌else◌};
 ghost use Rattle.std.specs.Bool.{Decides};
+ghost use Rattle.std.specs.VecDeque.{deque_capacity, deque_len};
 ghost use Rattle.ll_verdict.specs.Waiting as waiting;
 ghost use Rattle.ll_verdict.specs.Waiting.{found};
 ghost use Rattle.ll_locked.specs.Channel.{IsChannel, is_of, parked_for, ticket_at};
@@ -154,14 +155,7 @@ impl Channel {
         }
         match self.recorder.ask(want) {
             Ok(Asked::Now(reply)) => Ok(AtOnce::Now(reply)),
-            Ok(Asked::Held(parked)) => {
-                let ticket = parked.ticket();
-                self.parked.push_back_reserved(parked.store());
-                match opened(&self.recorder, ticket) {
-                    Some(entry) => Ok(AtOnce::Held(entry)),
-                    None => unreachable!(),
-                }
-            }
+            Ok(Asked::Held(one)) => Ok(AtOnce::Held(hold(&self.recorder, &mut self.parked, one))),
             Err(fault) => Err(known.refuses(RoomFault::Ask(fault))),
         }
     }
@@ -249,25 +243,46 @@ impl Channel {
         ensures of { (events : List Event) → IsRecorded self events → IsTotalOf self.room.settings events result }
         ensures total { IsTotal self.room.channel self.room.settings result }
     {
-        let Channel {
-            mut recorder,
-            mut parked,
-        } = self;
+        let Channel { recorder, parked } = self;
         let room = recorder.room();
         let ended = Total {
             publishes: room.count(),
             asks: room.asks(),
             held: parked.len() as u64,
         };
-        while let Some(one) = parked.pop_back() {
-            match recorder.close(one.into_parked()) {
-                Closed::Done => {}
-                Closed::Stranger(_one) => unreachable!(),
-            }
-        }
-        parked.destroy_empty();
+        close_each(recorder, parked);
         ended
     }
+}
+
+/// Keeps what stands for a request that the room holds, for which there is a place. Gives the request.
+fn hold(recorder: &Recorder, parked: &mut VecDeque<Stored>, one: Parked) -> Entry
+    requires place { deque_len parked.old < deque_capacity parked.old }
+    requires held { found one.ticket recorder.now.room.slots ≢ None }
+    ensures entry { Some result ≡ found one.ticket recorder.now.room.slots }
+    ensures kept { parked.new.items ≡ parked.old.items ++ one ∷ [] }
+{
+    let ticket = one.ticket();
+    parked.push_back_reserved(one.store());
+    match opened(recorder, ticket) {
+        Some(entry) => entry,
+        None => unreachable!(),
+    }
+}
+
+/// Closes each held request of a channel.
+fn close_each(recorder: Recorder, parked: VecDeque<Stored>)
+    requires { IsChannel recorder parked.items }
+{
+    let mut recorder = recorder;
+    let mut left = parked;
+    while let Some(one) = left.pop_back() {
+        match recorder.close(one.into_parked()) {
+            Closed::Done => {}
+            Closed::Stranger(_one) => unreachable!(),
+        }
+    }
+    left.destroy_empty();
 }
 
 /// The open request of this ticket.

@@ -1,6 +1,5 @@
-use Rattle.std.proofs.Common.{◌∙◌, ◌++◌, ◌∷◌, [], List, refl, subst, sym, ap, ap₂, append-nil}
+use Rattle.std.proofs.Common.{◌∙◌, ◌++◌, ◌∷◌, [], List, refl, subst, sym, ap, append-nil}
 use Rattle.std.proofs.lemmas.Option.{none-some}
-use Rattle.ll_verdict.specs.Waiting.{found}
 use Rattle.ll_verdict.specs.Events.{Clock, Event}
 use Rattle.ll_record.specs.Recording.{IsRecorded, of_channel}
 use Rattle.ll_room.specs.Answers.{new_tickets}
@@ -15,7 +14,7 @@ use Rattle.ll_locked.proofs.CountLemmas.{as-counted, has-asked}
 use Rattle.ll_locked.proofs.FaultLemmas.{ask-refused, filled, request-fault}
 use Rattle.ll_locked.proofs.ToldLemmas.{IsKept, IsMade, asks-held, asks-later, asks-now, held-entry, kept-beside, stays-beside, still-met, tells-now}
 use Rattle.ll_locked.proofs.channel.Channel.ask.Goals as goal
-use Rattle.ll_locked.proofs.channel.Channel.ask.Goals.{In-Ok, After-ticket-ticket}
+use Rattle.ll_locked.proofs.channel.Channel.ask.Goals.{In-Ok, In-Ok-Held}
 
 -- the reading is one that the clock shows, and is recorded
 read : (g : _) (c : In-Ok g) → IsClocked (g.C.Clock.shows c.args.clock.now) c.now.result c.self.inside.recorder c.clock.new.self
@@ -39,8 +38,8 @@ met g c =
     (subst (λ r. IsMet r c.args.known.place c.args.known.settings.now c.args.known.seen) (sym c.self.view_is) c.requires)
 
 -- the request is held, after any events that are recorded
-made : (g : _) (c : After-ticket-ticket g) (es : List Event) → IsRecorded c.clock.new.self es
-    → IsMade c.clock.new.self.room c.ask.new.self es c.args.want (Held c.in-Ok-Held.parked)
+made : (g : _) (c : In-Ok-Held g) (es : List Event) → IsRecorded c.clock.new.self es
+    → IsMade c.clock.new.self.room c.ask.new.self es c.args.want (Held c.in-Ok-Held.one)
 made g c es k = subst (IsMade c.clock.new.self.room c.ask.new.self es c.args.want) c.in-Ok-Held.field-0-is (record {
   answer = c.in-Ok-Held.ensures.answer es k;
   recorded = c.in-Ok-Held.ensures.asked es k;
@@ -49,23 +48,23 @@ made g c es k = subst (IsMade c.clock.new.self.room c.ask.new.self es c.args.wan
   newest = c.in-Ok-Held.ensures.newest;
 })
 
-kept : (g : _) (c : After-ticket-ticket g) (es : List Event) → IsRecorded c.clock.new.self es
-    → IsKept c.ask.new.self.room c.in-Ok-Held.parked c.clock.new.self.room.settings es c.args.want
-kept g c es k = asks-held c.clock.new.self.room c.ask.new.self es c.args.want c.in-Ok-Held.parked k.stands (made g c es k)
+kept : (g : _) (c : In-Ok-Held g) (es : List Event) → IsRecorded c.clock.new.self es
+    → IsKept c.ask.new.self.room c.in-Ok-Held.one c.clock.new.self.room.settings es c.args.want
+kept g c es k = asks-held c.clock.new.self.room c.ask.new.self es c.args.want c.in-Ok-Held.one k.stands (made g c es k)
 
-pub unreachable-requires : goal.unreachable-requires
-unreachable-requires g c =
-    let at = goal.at.unreachable-requires g c in
+pub hold-requires-clause-held : goal.hold-requires-clause-held
+hold-requires-clause-held g c none =
+    let at = goal.at.hold-requires-clause-held g c in
     let k = clocked g at.In-Ok in
-    let held = kept g at.After-ticket-ticket k.events k.recorded in
-    none-some held.entry (sym c.in-None.is ∙ c.opened.ensures ∙ ap (λ n. found n c.ask.new.self.room.slots) c.ticket-ticket.ensures ∙ held.found_it)
+    let held = kept g at.In-Ok-Held k.events k.recorded in
+    none-some held.entry (sym none ∙ held.found_it)
 
 pub invariant_of-self-in-Ok-Held : goal.invariant_of-self-in-Ok-Held
 invariant_of-self-in-Ok-Held g c =
     let at = goal.at.invariant_of-self-in-Ok-Held g c in
     let k = clocked g at.In-Ok in
-    kept-beside _ _ _ _ _ _ k (made g at.After-ticket-ticket k.events k.recorded)
-    (c.push_back_reserved.ensures.items ∙ ap₂ (λ (ps : List Ticket) (p : Ticket). ps ++ p ∷ []) c.reserve.ensures.items c.store.ensures)
+    kept-beside _ _ _ _ _ _ k (made g at.In-Ok-Held k.events k.recorded)
+    (c.hold.ensures.kept ∙ ap (λ (ps : List Ticket). ps ++ c.in-Ok-Held.one ∷ []) c.reserve.ensures.items)
 
 pub returns-in-Ok-Now-clause-asked : goal.returns-in-Ok-Now-clause-asked
 returns-in-Ok-Now-clause-asked g c =
@@ -80,23 +79,23 @@ returns-in-Ok-Now-clause-made g c =
     (made-by _ _ _ _ _ _ _ (read g at.In-Ok) c.in-Ok-Now.ensures.asked
     (λ es k. tells-now c.clock.new.self.room es c.args.want _ k.stands (sym c.in-Ok-Now.field-0-is ∙ c.in-Ok-Now.ensures.answer es k)))
 
-pub returns-in-Some-clause-asked : goal.returns-in-Some-clause-asked
-returns-in-Some-clause-asked g c =
-    let at = goal.at.returns-in-Some-clause-asked g c in
+pub returns-in-Ok-Held-clause-asked : goal.returns-in-Ok-Held-clause-asked
+returns-in-Ok-Held-clause-asked g c =
+    let at = goal.at.returns-in-Ok-Held-clause-asked g c in
     let k = clocked g at.In-Ok in
     asks-later c.clock.new.self k.events _ _ _ _ _ k.recorded.stands (met g at.In-Ok)
-    (held-entry _ _ _ _ _ _ _ (kept g at.After-ticket-ticket k.events k.recorded) c.ticket-ticket.ensures (sym c.in-Some.is ∙ c.opened.ensures))
+    (held-entry _ _ _ _ _ _ _ (kept g at.In-Ok-Held k.events k.recorded) refl c.hold.ensures.entry)
 
-pub returns-in-Some-clause-made : goal.returns-in-Some-clause-made
-returns-in-Some-clause-made g c =
-    let at = goal.at.returns-in-Some-clause-made g c in
-    subst (λ r. IsMadeBy (g.C.Clock.shows c.args.clock.now) r c.ask.new.self c.args.want (told.Held c.in-Some.entry)) c.self.view_is
+pub returns-in-Ok-Held-clause-made : goal.returns-in-Ok-Held-clause-made
+returns-in-Ok-Held-clause-made g c =
+    let at = goal.at.returns-in-Ok-Held-clause-made g c in
+    subst (λ r. IsMadeBy (g.C.Clock.shows c.args.clock.now) r c.ask.new.self c.args.want (told.Held c.hold.result)) c.self.view_is
     (made-by _ _ _ _ _ _ _ (read g at.In-Ok) c.in-Ok-Held.ensures.asked
-    (λ es k. held-entry _ _ _ _ _ _ _ (kept g at.After-ticket-ticket es k) c.ticket-ticket.ensures (sym c.in-Some.is ∙ c.opened.ensures)))
+    (λ es k. held-entry _ _ _ _ _ _ _ (kept g at.In-Ok-Held es k) refl c.hold.ensures.entry))
 
-pub returns-in-Some-clause-counted : goal.returns-in-Some-clause-counted
-returns-in-Some-clause-counted g c =
-    let at = goal.at.returns-in-Some-clause-counted g c in
+pub returns-in-Ok-Held-clause-counted : goal.returns-in-Ok-Held-clause-counted
+returns-in-Ok-Held-clause-counted g c =
+    let at = goal.at.returns-in-Ok-Held-clause-counted g c in
     let k = clocked g at.In-Ok in
     subst (λ r. HasAsked r c.ask.new.self) c.self.view_is
     (has-asked _ _ _ _ (of_channel c.clock.new.self.room.settings c.args.want) (counted g at.In-Ok) k.recorded.stands
