@@ -1,6 +1,5 @@
 -- How a connection was read, read by read.
-use Rattle.std.proofs.Common.{◌≡◌, ◌∙◌, ℕ, ◌+◌, ◌≤◌, Option, Some, None, ap, arith}
-use Rattle.std.specs.Prelude.{is_some}
+use Rattle.std.proofs.Common.{◌≡◌, ◌∙◌, ℕ, ◌+◌, ◌≤◌, Bool, true, false, Option, ap, arith}
 use Rattle.ll_device.proofs.InwardLemmas.{looked_at-on}
 use Rattle.ll_device.specs.Inward.{Inward, looked_at}
 use Rattle.ll_link.specs.Reads.{HasEnded, IsReadWithin, stays_or_ends}
@@ -19,8 +18,7 @@ IsReadWithin-then before mid after n more ends most p q h = (n + more, ends, h, 
 pub HasEnded-then : (before mid after : Option Inward) (n more : ℕ) → mid ≡ looked_at n 0 before → after ≡ looked_at more 1 mid → HasEnded before after
 HasEnded-then before mid after n more p q = (n + more, read-then before mid after n more 1 p q)
 
--- one who gets an answer stays
-pub stays-if-some : {A : Type 0} (answer : Option A) (a : A) (before after : Option Inward)
-    → answer ≡ Some a → after ≡ stays_or_ends (is_some answer) before → after ≡ before
-stays-if-some None a before after h q = absurd (cc)
-stays-if-some (Some b) a before after h q = q
+-- one who stays was not read
+pub stays-if-true : (stays : Bool) (before after : Option Inward) → stays ≡ true → after ≡ stays_or_ends stays before → after ≡ before
+stays-if-true true before after h q = q
+stays-if-true false before after h q = absurd (cc)

@@ -127,15 +127,35 @@ fn answer<L: Ledgers, P: Link, C: Clock, G: Gate, K: Sink, R: Wait + time::Clock
         let Some(want) = want else {
             return Ok(true);
         };
-        let Some(answer) = ask(service, link, pass, session, want)? else {
+        if !answer_one(service, link, pass, session, answers, want)? {
             return Ok(false);
-        };
-        if session.waiting() {
-            session.answered(&answer)?;
         }
-        send(service, link, session, answers)?;
     }
     unreachable!()
+}
+
+/// Answers a request. Says whether the player stays: false, where it hung up while the request was held.
+fn answer_one<L: Ledgers, P: Link, C: Clock, G: Gate, K: Sink, R: Wait + time::Clock>(
+    service: &Service<'_, L, C, G, K, R>,
+    link: &mut P,
+    pass: &mut Pass<L>,
+    session: &mut Session,
+    answers: &mut u64,
+    want: Want,
+) -> Result<bool, LinkFault>
+    ensures faults { IsTrue result (P.failures link.old) (P.failures link.new) }
+    ensures looked { IfOk result (λ stays. P.inward link.new ≡ stays_or_ends stays (P.inward link.old)) }
+    ensures unread { OnErr result (P.inward link.new ≡ P.inward link.old) }
+    ensures other { IfErr result (λ fault. fault ≢ LinkFault.Endless) }
+{
+    let Some(answer) = ask(service, link, pass, session, want)? else {
+        return Ok(false);
+    };
+    if session.waiting() {
+        session.answered(&answer)?;
+    }
+    send(service, link, session, answers)?;
+    Ok(true)
 }
 
 /// Sends the answers that are there, each head with the first bytes of its body in one write where the link takes it.

@@ -6,7 +6,7 @@ ghost use Rattle.ll_read.specs.Draft as spec;
 ghost use Rattle.ll_read.specs.Drafted.{takes_memory};
 ghost use Rattle.ll_line.specs.Line as line;
 ghost use Rattle.ll_format.specs.Words.{cut_at};
-ghost use Rattle.ll_line.specs.Meaning.{meant, date_time_text};
+ghost use Rattle.ll_line.specs.Meaning.{date_time_text, meant, part_meant, report_meant, skip_meant};
 ghost use Rattle.ll_line.specs.Uris.{uri_text};
 ghost use Rattle.ll_read.specs.Ranges.{range_at, has_id};
 
@@ -84,43 +84,16 @@ impl Draft {
                 }
                 put_range(&mut self.playlist.ranges, alloc, range.id, range.attributes)
             }
-            Line::Skipped(skip) => {
-                let removed = removed_ids(alloc, skip.removed)?;
-                self.playlist.skipped = Some(Skip {
-                    count: skip.count,
-                    removed,
-                });
-                Ok(())
-            }
+            Line::Skipped(skip) => self.skip(alloc, skip),
             Line::Map(uri) => {
                 self.map = Some(uri_copy(alloc, uri)?);
                 Ok(())
             }
             Line::Time(time) => self.open(alloc, time),
-            Line::Part(part) => {
-                let part = PartLine {
-                    duration: part.duration.0,
-                    uri: uri_copy(alloc, &part.uri)?,
-                    independent: part.independent,
-                };
-                put_part(&mut self.segment, part)
-            }
+            Line::Part(part) => self.add_part(alloc, part),
             Line::Uri(uri) => self.finish_segment(alloc, uri),
-            Line::RenditionReport(report) => {
-                self.close();
-                let report = Report {
-                    uri: uri_copy(alloc, &report.uri)?,
-                    number: report.number,
-                    index: report.index,
-                };
-                self.playlist.reports.push(report)?;
-                Ok(())
-            }
-            Line::Hint(uri) => {
-                self.close();
-                self.playlist.hint = Some(uri_copy(alloc, uri)?);
-                Ok(())
-            }
+            Line::RenditionReport(report) => self.add_report(alloc, report),
+            Line::Hint(uri) => self.add_hint(alloc, uri),
             _ => {
                 self.set(line);
                 Ok(())
@@ -151,6 +124,18 @@ impl Draft {
         }
     }
 
+    /// So many segments are skipped, and these removed date ranges listed.
+    fn skip(&mut self, alloc: Global, skip: &ll_line::Skip<'_>) -> Result<(), AllocError>
+        ensures { IfOk result (λ u. self.new ≡ spec.put (line.Skipped (skip_meant skip.now)) self.old) }
+    {
+        let removed = removed_ids(alloc, skip.removed)?;
+        self.playlist.skipped = Some(Skip {
+            count: skip.count,
+            removed,
+        });
+        Ok(())
+    }
+
     /// A segment begins at this time.
     fn open(&mut self, alloc: Global, time: &DateTime<'_>) -> Result<(), AllocError>
         ensures { IfOk result (λ u. self.new ≡ spec.put (line.Time (date_time_text time.now)) self.old) }
@@ -164,6 +149,18 @@ impl Draft {
         });
         self.broken = false;
         Ok(())
+    }
+
+    /// The segment has this part.
+    fn add_part(&mut self, alloc: Global, part: &ll_line::PartLine<'_>) -> Result<(), AllocError>
+        ensures { IfOk result (λ u. self.new ≡ spec.put (line.Part (part_meant part.now)) self.old) }
+    {
+        let part = PartLine {
+            duration: part.duration.0,
+            uri: uri_copy(alloc, &part.uri)?,
+            independent: part.independent,
+        };
+        put_part(&mut self.segment, part)
     }
 
     /// The segment has this URI.
@@ -181,6 +178,29 @@ impl Draft {
             duration,
             uri,
         })?;
+        Ok(())
+    }
+
+    /// Another rendition has come so far.
+    fn add_report(&mut self, alloc: Global, report: &ll_line::Report<'_>) -> Result<(), AllocError>
+        ensures { IfOk result (λ u. self.new ≡ spec.put (line.RenditionReport (report_meant report.now)) self.old) }
+    {
+        self.close();
+        let report = Report {
+            uri: uri_copy(alloc, &report.uri)?,
+            number: report.number,
+            index: report.index,
+        };
+        self.playlist.reports.push(report)?;
+        Ok(())
+    }
+
+    /// What comes next has this URI.
+    fn add_hint(&mut self, alloc: Global, uri: &Uri<'_>) -> Result<(), AllocError>
+        ensures { IfOk result (λ u. self.new ≡ spec.put (line.Hint (uri_text uri.now)) self.old) }
+    {
+        self.close();
+        self.playlist.hint = Some(uri_copy(alloc, uri)?);
         Ok(())
     }
 

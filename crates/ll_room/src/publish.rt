@@ -1,12 +1,12 @@
 //! A publisher's items: a test that tells the first rule that refuses one, and a step that memory alone can refuse.
-ghost use Rattle.std.specs.Prelude.{◌≡◌, ◌≢◌, ◌+◌, ◌<◌, ◌++◌, ◌∷◌, [], List, IfOk, IfErr, IsErrOf, OnOk, OnErr, MatchResult, None, Some, false};
+ghost use Rattle.std.specs.Prelude.{◌≡◌, ◌≢◌, ◌+◌, ◌<◌, ◌++◌, ◌∷◌, [], List, IfOk, IfErr, IsErrOf, OnOk, OnErr, MatchResult, None, Some, false, length};
 ghost use Rattle.ll_item.specs.Items.{rendition_of};
 ghost use Rattle.ll_item.specs.declared.item.Item.{Item};
-ghost use Rattle.ll_book.specs.Releases.{part_of, takes_any};
+ghost use Rattle.ll_book.specs.Releases.{HasHolders, part_of, takes_any};
 ghost use Rattle.ll_page.specs.View.{GoOn};
 ghost use Rattle.ll_verdict.specs.Events.{Event, Publish};
 ghost use Rattle.ll_room.specs.Freed.{AreApart, StoresGoOn, with_item, with_stores};
-ghost use Rattle.ll_room.specs.Coming.{IsComing, changed};
+ghost use Rattle.ll_room.specs.Coming.{IsComing, changed, pages_in, supply_in};
 ghost use Rattle.ll_room.specs.Freed as spec;
 ghost use Rattle.ll_verdict.specs.Full.{event_end, refusal_after};
 ghost use Rattle.ll_room.specs.Full.{refusal_by};
@@ -170,10 +170,28 @@ impl Room {
         let part = part_of(&item)?;
         let mut shown = self.shown.again()?;
         shown.accept(item)?;
-        let before = self.written.rendered(rendition);
-        let mut pages = Pages::new(self.alloc, shown.again()?, rendition, before)?.unwrap();
-        let first = holders_for(&self.book, self.alloc, first, &mut pages, &part)?;
-        let second = holders_for(&self.book, self.alloc, second, &mut pages, &part)?;
+        self.find_holders(rendition, shown, part, first, second)
+    }
+
+    /// Makes the pages and the holders that these releases need, for an item of this rendition with which the channel is as shown.
+    fn find_holders(
+        &self,
+        rendition: usize,
+        shown: Shown,
+        part: Option<Media>,
+        first: Option<Release>,
+        second: Option<Release>,
+    ) -> Result<Coming, AllocError>
+        requires there { rendition < length shown.renditions }
+        ensures rendition { IfOk result (λ x. x.rendition ≡ rendition) }
+        ensures shown { IfOk result (λ x. x.shown ≡ shown) }
+        ensures part { IfOk result (λ x. x.part ≡ part) }
+        ensures pages { IfOk result (λ x. x.pages.items ≡ pages_in x ∷ []) }
+        ensures first { IfOk result (λ x. HasHolders (supply_in x) first self.now.slots x.first) }
+        ensures second { IfOk result (λ x. HasHolders (supply_in x) second self.now.slots x.second) }
+    {
+        let mut pages = self.pages_of(rendition, &shown)?;
+        let (first, second) = self.holders_for_both(first, second, &mut pages, &part)?;
         Ok(Coming {
             rendition,
             shown,
@@ -182,6 +200,32 @@ impl Room {
             first,
             second,
         })
+    }
+
+    /// The pages of this rendition of the channel as shown, of which none is written.
+    fn pages_of(&self, rendition: usize, shown: &Shown) -> Result<Pages, AllocError>
+        requires { rendition < length shown.now.renditions }
+        ensures { IfOk result (λ p. p ≡ record { moment = shown.now; rendition = rendition }) }
+    {
+        let before = self.written.rendered(rendition);
+        Ok(Pages::new(self.alloc, shown.again()?, rendition, before)?.unwrap())
+    }
+
+    /// The holders of two releases, where there are these.
+    fn holders_for_both(
+        &self,
+        first: Option<Release>,
+        second: Option<Release>,
+        pages: &mut Pages,
+        part: &Option<Media>,
+    ) -> Result<(Option<Holders>, Option<Holders>), AllocError>
+        ensures first { IfOk result (λ both. HasHolders (record { pages = pages.old; part = part.now }) first self.now.slots both.0) }
+        ensures second { IfOk result (λ both. HasHolders (record { pages = pages.old; part = part.now }) second self.now.slots both.1) }
+        ensures pages { pages.new ≡ pages.old }
+    {
+        let first = holders_for(&self.book, self.alloc, first, pages, part)?;
+        let second = holders_for(&self.book, self.alloc, second, pages, part)?;
+        Ok((first, second))
     }
 
     /// Takes over what was made, and makes these releases. It takes no memory.

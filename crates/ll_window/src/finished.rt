@@ -8,7 +8,7 @@ ghost use Rattle.ll_window.specs.Rows as spec;
 ghost use Rattle.ll_window.specs.Segments.{duration};
 ghost use Rattle.ll_window.specs.Window.{window, gone, listed, shown_by, skipped_in};
 
-use crate::progress::Progress;
+use crate::progress::{Progress, one_if};
 use crate::segment::Segment;
 use ll_item::Part;
 use std::alloc::{AllocError, Global};
@@ -255,9 +255,7 @@ impl Finished {
         } else {
             self.near_lasting -= duration;
         }
-        if broken {
-            self.discontinuity += 1;
-        }
+        self.discontinuity += one_if(broken);
         true
     }
 }

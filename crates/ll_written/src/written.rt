@@ -59,8 +59,7 @@ impl Written {
             return self.pages[place].page(alloc, form);
         }
         let before = self.pieces.get(rendition);
-        let mut pages = Pages::new(alloc, shown.again()?, rendition, before)?.unwrap();
-        let page = pages.page(alloc, form)?;
+        let (pages, page) = first_page(alloc, shown, rendition, form, before)?;
         self.pages.push(pages)?;
         Ok(page)
     }
@@ -93,6 +92,23 @@ impl Written {
         leave(&mut self.pages, &mut self.pieces);
         trim(&mut self.pieces, renditions);
     }
+}
+
+/// The page in this form of a rendition of which none is written, and the pages that have it.
+fn first_page(
+    alloc: Global,
+    shown: &Shown,
+    rendition: usize,
+    form: Option<SkipKind>,
+    before: Option<&Pieces>,
+) -> Result<(Pages, Page), AllocError>
+    requires { rendition < length shown.now.renditions }
+    ensures pages { IfOk result (λ made. made.0 ≡ record { moment = shown.now; rendition = rendition }) }
+    ensures page { IfOk result (λ made. made.1 ≡ record { seen = seen_of shown.now rendition; form = form }) }
+{
+    let mut pages = Pages::new(alloc, shown.again()?, rendition, before)?.unwrap();
+    let page = pages.page(alloc, form)?;
+    Ok((pages, page))
 }
 
 /// Leaves what is rendered of the segments of each rendition, for the pages of a later moment.
