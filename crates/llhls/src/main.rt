@@ -19,6 +19,7 @@ use ll_command::{
     write_summary, write_upgraded,
 };
 use ll_device::{CountedReader, CountedWriter};
+use ll_mp4::Pace;
 use ll_push::{Ending as Published, Place};
 use std::marker::Brand;
 use std::net::SocketAddrV4;
@@ -70,60 +71,90 @@ enum Ending {
 fn called(rt: &HostRuntime) -> Result<Ending, Fault> {
     let words = words(rt)?;
     match Command::of(&words)? {
-        Command::Replay => replay::<Brand, Brand>(rt, Blank::new(2), Blank::new(2))?,
-        Command::Apply { base, delta } => {
-            let base = read_file(rt, base.as_str())?;
-            let delta = read_file(rt, delta.as_str())?;
-            write_applied(rt.alloc(), &base, &delta, &mut rt.stdout())?;
+        Command::Replay => {
+            replay::<Brand, Brand>(rt, Blank::new(2), Blank::new(2))?;
+            Ok(Ending::Done)
         }
-        Command::Check(record) => {
-            let record = read_file(rt, record.as_str())?;
-            if !write_checked(rt.alloc(), &record, &mut rt.stdout())? {
-                return Ok(Ending::BadRecord);
-            }
-        }
-        Command::Upgrade(record) => {
-            let record = read_file(rt, record.as_str())?;
-            if !write_upgraded(rt.alloc(), &record, &mut rt.stdout())? {
-                return Ok(Ending::BadRecord);
-            }
-        }
-        Command::Summarize(record) => {
-            let record = read_file(rt, record.as_str())?;
-            if !write_summary(rt.alloc(), &record, &mut rt.stdout())? {
-                return Ok(Ending::BadRecord);
-            }
-        }
-        Command::Explain { record, entry } => {
-            let record = read_file(rt, record.as_str())?;
-            if !write_explained(rt.alloc(), &record, entry, &mut rt.stdout())? {
-                return Ok(Ending::BadRecord);
-            }
-        }
-        Command::Serve(settings) => {
-            let settings = read_file(rt, settings.as_str())?;
-            return Ok(Ending::Serve(settings));
-        }
+        Command::Apply { base, delta } => apply(rt, base.as_str(), delta.as_str()),
+        Command::Check(record) => check(rt, record.as_str()),
+        Command::Upgrade(record) => upgrade(rt, record.as_str()),
+        Command::Summarize(record) => summarize(rt, record.as_str()),
+        Command::Explain { record, entry } => explain(rt, record.as_str(), entry),
+        Command::Serve(settings) => Ok(Ending::Serve(read_file(rt, settings.as_str())?)),
         Command::Push {
             address,
             channel,
             rendition,
             pace,
         } => {
-            let Ok(address) = address.as_str().parse::<SocketAddrV4>() else {
-                return Err(Fault::Usage);
-            };
             let place = Place {
                 channel: channel.as_str(),
                 rendition: rendition.as_str(),
             };
-            match publish::<Brand>(rt, address, place, pace, Blank::new(2))? {
-                Published::Whole => {}
-                Published::Refused(answer) => return Ok(Ending::Refused(answer)),
-            }
+            publish_input(rt, address.as_str(), place, pace)
         }
     }
+}
+
+/// Writes the playlist that a delta update makes of its base.
+fn apply(rt: &HostRuntime, base: &str, delta: &str) -> Result<Ending, Fault> {
+    let base = read_file(rt, base)?;
+    let delta = read_file(rt, delta)?;
+    write_applied(rt.alloc(), &base, &delta, &mut rt.stdout())?;
     Ok(Ending::Done)
+}
+
+/// Writes how many entries a record has, or how it isn't right.
+fn check(rt: &HostRuntime, path: &str) -> Result<Ending, Fault> {
+    let record = read_file(rt, path)?;
+    let right = write_checked(rt.alloc(), &record, &mut rt.stdout())?;
+    Ok(ending_of(right))
+}
+
+/// Writes a record in format 2, or how it isn't right.
+fn upgrade(rt: &HostRuntime, path: &str) -> Result<Ending, Fault> {
+    let record = read_file(rt, path)?;
+    let right = write_upgraded(rt.alloc(), &record, &mut rt.stdout())?;
+    Ok(ending_of(right))
+}
+
+/// Writes what a record holds, or how it isn't right.
+fn summarize(rt: &HostRuntime, path: &str) -> Result<Ending, Fault> {
+    let record = read_file(rt, path)?;
+    let right = write_summary(rt.alloc(), &record, &mut rt.stdout())?;
+    Ok(ending_of(right))
+}
+
+/// Writes what happened at an entry of a record, or how the record isn't right.
+fn explain(rt: &HostRuntime, path: &str, entry: u64) -> Result<Ending, Fault> {
+    let record = read_file(rt, path)?;
+    let right = write_explained(rt.alloc(), &record, entry, &mut rt.stdout())?;
+    Ok(ending_of(right))
+}
+
+/// What comes of a record that is right, or isn't.
+fn ending_of(right: bool) -> Ending {
+    if right {
+        Ending::Done
+    } else {
+        Ending::BadRecord
+    }
+}
+
+/// Publishes what an encoder writes to standard input.
+fn publish_input(
+    rt: &HostRuntime,
+    address: &str,
+    place: Place<'_>,
+    pace: Pace,
+) -> Result<Ending, Fault> {
+    let Ok(address) = address.parse::<SocketAddrV4>() else {
+        return Err(Fault::Usage);
+    };
+    match publish::<Brand>(rt, address, place, pace, Blank::new(2))? {
+        Published::Whole => Ok(Ending::Done),
+        Published::Refused(answer) => Ok(Ending::Refused(answer)),
+    }
 }
 
 /// Runs the script on standard input; its answers go to standard output.

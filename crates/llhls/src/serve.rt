@@ -8,10 +8,10 @@ use ll_hub::{Blanks, Clock, Hub, HubFault, Ledgers, Pass, Sink};
 use ll_item::Settings;
 use ll_link::{Role, serve_links, serve_players};
 use ll_server::{Config, ConfigFault, Log, Numbers, Records, Workers};
-use std::alloc::Global;
+use std::alloc::{AllocError, Global};
 use std::fs::File;
 use std::marker::Brand;
-use std::net::{Net, TcpListener, TcpStream};
+use std::net::{Net, SocketAddrV4, TcpListener, TcpStream};
 use std::rt::Files;
 use std::sync::Wait;
 use std::thread::Threads;
@@ -72,38 +72,10 @@ pub(crate) fn serve<
         + Wait
         + Sync,
 >(rt: &R, alloc: Global, settings: &[u8]) -> Result<(), Fault> {
-    let config = match Config::read(alloc, settings) {
-        Ok(config) => config,
-        Err(ConfigFault::BadLine(line)) => return Err(Fault::BadLine(line)),
-        Err(ConfigFault::Memory) => return Err(Fault::Memory),
-    };
-    let Ok(mut players) = Door::open(rt, config.players, Role::Player) else {
-        return Err(Fault::Listen);
-    };
-    let Ok(mut publishers) = Door::open(rt, config.publishers, Role::Publisher) else {
-        return Err(Fault::Listen);
-    };
-    let Ok(start) = Instant::now(rt) else {
-        return Err(Fault::Clock);
-    };
-    let Ok(records) = Records::open(rt, alloc, config.record.as_ref(), &config.channels) else {
-        return Err(Fault::Memory);
-    };
-    let Ok(log) = Log::open(rt, alloc, config.log.as_ref()) else {
-        return Err(Fault::Memory);
-    };
-    let Ok(numbers) = Numbers::new(alloc, &config.channels) else {
-        return Err(Fault::Memory);
-    };
-    let server = Server {
-        rt,
-        alloc,
-        watch: Watch { rt, start },
-        records,
-        numbers,
-        log,
-        workers: config.workers,
-    };
+    let config = read_config(alloc, settings)?;
+    let mut players = open_door(rt, config.players, Role::Player)?;
+    let mut publishers = open_door(rt, config.publishers, Role::Publisher)?;
+    let server = open_server(rt, alloc, &config)?;
     host::<Brand, R>(
         &server,
         config.channels,
@@ -111,6 +83,60 @@ pub(crate) fn serve<
         &mut players,
         &mut publishers,
     )
+}
+
+/// What a settings file tells.
+fn read_config(alloc: Global, settings: &[u8]) -> Result<Config, Fault> {
+    match Config::read(alloc, settings) {
+        Ok(config) => Ok(config),
+        Err(ConfigFault::BadLine(line)) => Err(Fault::BadLine(line)),
+        Err(ConfigFault::Memory) => Err(Fault::Memory),
+    }
+}
+
+/// The door at this address.
+fn open_door<'a, R: Net<Listener = TcpListener, Stream = TcpStream>>(
+    rt: &'a R,
+    address: SocketAddrV4,
+    role: Role,
+) -> Result<Door<'a, R>, Fault> {
+    match Door::open(rt, address, role) {
+        Ok(door) => Ok(door),
+        Err(_) => Err(Fault::Listen),
+    }
+}
+
+/// A server of these settings, with its files. Its time starts now.
+fn open_server<'a, R: Files<File = File> + Eprint + time::Clock>(
+    rt: &'a R,
+    alloc: Global,
+    config: &Config,
+) -> Result<Server<'a, R>, Fault> {
+    let Ok(start) = Instant::now(rt) else {
+        return Err(Fault::Clock);
+    };
+    match server_from(rt, alloc, config, start) {
+        Ok(server) => Ok(server),
+        Err(AllocError) => Err(Fault::Memory),
+    }
+}
+
+/// The same, whose time starts then.
+fn server_from<'a, R: Files<File = File> + Eprint>(
+    rt: &'a R,
+    alloc: Global,
+    config: &Config,
+    start: Instant,
+) -> Result<Server<'a, R>, AllocError> {
+    Ok(Server {
+        rt,
+        alloc,
+        watch: Watch { rt, start },
+        records: Records::open(rt, alloc, config.record.as_ref(), &config.channels)?,
+        log: Log::open(rt, alloc, config.log.as_ref())?,
+        numbers: Numbers::new(alloc, &config.channels)?,
+        workers: config.workers,
+    })
 }
 
 /// Serves these channels, to those who come in by these doors.
