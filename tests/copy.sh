@@ -33,10 +33,10 @@ prove() {
     (cd "$1" && rt ci)
 }
 
-# prove_chain FOLDER FILE: proves, in copies below this folder, the crates of this file of the form of crates.txt that don't stand on ll_link; and ll_link first of all. Most crates wait for one another
-# in one long chain, up to ll_link. A run of `rt ci` over all crates gives one processor to a crate that is ready beside others, and two to one that is ready alone in its run: so
-# the chain has runs of its own, and that over the rest is niced, waits for what these prove, and takes it. It goes on when this ends, and the caller proves what is left. `lanes` is how many crates
-# it proves side by side, empty for as many as `rt ci` finds memory for.
+# prove_chain FOLDER FILE: proves the crates of this file, of the form of crates.txt, up to ll_link, in copies below this folder, ll_link first of all; some may still be at work when this ends. The caller
+# proves what is left. `lanes` is how many crates are proved side by side, empty for as many as `rt ci` finds memory for.
+# Most crates wait for one another in one long chain up to ll_link. A run of `rt ci` gives one processor to a crate that is ready beside others, and two to one that is ready alone. So the chain has runs
+# of its own. The niced run over all that doesn't stand on ll_link proves the rest, waits for what these prove, and takes it.
 prove_chain() {
     # (on the processors that ll_attr and ll_item leave idle)
     (sleep 5 && RT_JOBS=2 prove "$1/beside" ll_device ll_mp4 ll_line) &
@@ -47,6 +47,7 @@ prove_chain() {
     prove "$1/ll_attr" ll_attr | grep ' is kept: ' || return 0
     (renice -n 5 "$BASHPID" && sleep 5 && RT_JOBS=$lanes prove "$1/rest" $(without_link "$2")) &
     prove "$1/ll_page" ll_page
+    # (mostly it waits for what the niced run proves, which takes the next crate sooner; ll_link isn't in that run)
     RT_JOBS=1 prove "$1/ll_hub" ll_hub
     prove "$1/ll_link" ll_link
 }
