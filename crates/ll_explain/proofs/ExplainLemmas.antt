@@ -1,5 +1,5 @@
 -- What is kept while an entry is looked for: where the lines so far lead, the time by then, and that the entry is still to come.
-use Rattle.std.proofs.Common.{◌≡◌, ◌≢◌, ◌⊎◌, inl, inr, ◌+◌, ◌<◌, ◌≤◌, ℕ, zero, suc, List, [], ◌∷◌, ◌++◌, true, false, not, Option, Some, None, Ok, Err, refl, ap, ◌∙◌, subst, sym, true≢false, length, length-append, option_map, arith}
+use Rattle.std.proofs.Common.{◌≡◌, ◌≢◌, ◌⊎◌, inl, inr, ◌+◌, ◌<◌, ℕ, zero, suc, List, [], ◌∷◌, ◌++◌, true, false, not, Option, Some, None, Ok, Err, refl, ap, ◌∙◌, subst, sym, true≢false, length, length-append, option_map, arith}
 use Rattle.ll_attr.specs.Words.{pieces_at}
 use Rattle.ll_check.proofs.Begun.{Another, EntryParts, GoesOn, Next, Onward, begun_lines, entry_line}
 use Rattle.ll_check.proofs.LaterLemmas.{Keeps, keeps_begun, later-as}

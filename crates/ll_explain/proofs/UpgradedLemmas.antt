@@ -7,11 +7,11 @@ use Rattle.ll_check.proofs.StepLemmas.{GoesTo, moved}
 use Rattle.ll_check.specs.Found.{ChainValue, IsAt}
 use Rattle.ll_check.specs.Steps.{Moves, Tells, full_entry}
 use Rattle.ll_enter.specs.Full.{without_item}
-use Rattle.ll_explain.specs.Upgrade.{told_text, upgraded, upgraded_entry, upgraded_from, upgraded_line, where_right}
+use Rattle.ll_explain.specs.Upgrade.{told_text, upgraded_entry, upgraded_from, upgraded_line, where_right}
 use Rattle.ll_enter.specs.declared.full.FullEntry.{FullEntry}
 use Rattle.ll_check.specs.declared.told.Told.{Told}
 use Rattle.ll_check.specs.declared.told.Told.TheVariants as told
-use Rattle.ll_entry.specs.Chain.{Between, Chain, Inside, Position, checked, checked_from, with_line}
+use Rattle.ll_entry.specs.Chain.{Between, Chain, Inside, Position, checked_from, with_line}
 use Rattle.ll_entry.specs.Frame.{header_text, last_line}
 use Rattle.ll_entry.specs.Leads.{with_end}
 use Rattle.ll_entry.specs.declared.entry.Recorded.{Recorded}

@@ -57,12 +57,27 @@ fn find(alloc: Global, chunks: &[u8], entry: u64) -> Result<Option<Explained<'_>
     ensures early { IfErr result (λ f. (entry ≡ 0) ⊎ (f.entry ≤ entry)) }
 {
     let mut checker = Checker::new(alloc);
+    find_by(&mut checker, chunks, entry)
+}
+
+/// The same, by a checker to which nothing has come.
+fn find_by<'a>(
+    checker: &mut Checker,
+    chunks: &'a [u8],
+    entry: u64,
+) -> Result<Option<Explained<'a>>, CheckFault>
+    requires { checker.old ≡ None }
+    ensures right { IfOk result (λ r. MatchOption r (HasNoEntry chunks.now entry) (λ e. IsExplained chunks.now entry e.time e.line.now e.reply)) }
+    ensures wrong { IfErr result (λ f. f.kind ≢ CheckKind.Memory → checked chunks.now ≡ Err f) }
+    ensures memory { IfErr result (λ f. f.kind ≡ CheckKind.Memory → not_before f.entry (checked_from (Between None) (pieces_at 10 chunks.now)) ≡ true) }
+    ensures early { IfErr result (λ f. (entry ≡ 0) ⊎ (f.entry ≤ entry)) }
+{
     let mut rest = chunks;
     let mut time = 0;
     while let Some((told, more)) = checker.next(rest)? {
         time = time_after(time, &told);
         rest = more;
-        match reply_at(&mut checker, entry, rest) {
+        match reply_at(checker, entry, rest) {
             Ok(Some(EntryReply { line, reply })) => return Ok(Some(Explained {
                 time,
                 line,

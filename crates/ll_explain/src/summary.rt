@@ -111,6 +111,20 @@ pub fn summarize(alloc: Global, chunks: &[u8]) -> Result<Vec<Summary>, CheckFaul
     ensures memory { IfErr result (λ f. f.kind ≡ CheckKind.Memory → not_before f.entry (checked_from (Between None) (pieces_at 10 chunks.now)) ≡ true) }
 {
     let mut checker = Checker::new(alloc);
+    summarize_by(alloc, &mut checker, chunks)
+}
+
+/// The same, by a checker to which nothing has come.
+fn summarize_by(
+    alloc: Global,
+    checker: &mut Checker,
+    chunks: &[u8],
+) -> Result<Vec<Summary>, CheckFault>
+    requires { checker.old ≡ None }
+    ensures right { OnOk result ((n : ℕ) × (checked chunks.now ≡ Ok n)) }
+    ensures wrong { IfErr result (λ f. f.kind ≢ CheckKind.Memory → checked chunks.now ≡ Err f) }
+    ensures memory { IfErr result (λ f. f.kind ≡ CheckKind.Memory → not_before f.entry (checked_from (Between None) (pieces_at 10 chunks.now)) ≡ true) }
+{
     let mut chains = Vec::new(alloc);
     let mut rest = chunks;
     while let Some((told, more)) = checker.next(rest)? {

@@ -21,6 +21,16 @@ pub fn upgrade(alloc: Global, bytes: &[u8]) -> Result<Vec<u8>, CheckFault>
     ensures memory { IfErr result (λ f. f.kind ≡ CheckKind.Memory → not_before f.entry (checked_from (Between None) (pieces_at 10 bytes.now)) ≡ true) }
 {
     let mut checker = Checker::new(alloc);
+    upgrade_by(alloc, &mut checker, bytes)
+}
+
+/// The same, by a checker to which nothing has come.
+fn upgrade_by(alloc: Global, checker: &mut Checker, bytes: &[u8]) -> Result<Vec<u8>, CheckFault>
+    requires { checker.old ≡ None }
+    ensures right { IfOk result (λ text. ((n : ℕ) × (checked bytes.now ≡ Ok n)) × (text.items ≡ upgraded bytes.now)) }
+    ensures wrong { IfErr result (λ f. f.kind ≢ CheckKind.Memory → checked bytes.now ≡ Err f) }
+    ensures memory { IfErr result (λ f. f.kind ≡ CheckKind.Memory → not_before f.entry (checked_from (Between None) (pieces_at 10 bytes.now)) ≡ true) }
+{
     let mut text = Vec::new(alloc);
     let mut rest = bytes;
     while let Some((told, more)) = checker.next(rest)? {

@@ -7,8 +7,8 @@ use Rattle.ll_check.specs.Found.{IsAt}
 use Rattle.ll_check.specs.Steps.{Moves}
 use Rattle.ll_entry.specs.Chain.{Between, Position}
 use Rattle.ll_explain.proofs.ExplainLemmas.{goes-later}
-use Rattle.ll_explain.proofs.summary.summarize.Goals as goal
-use Rattle.ll_explain.proofs.summary.summarize.Goals.{In-Some}
+use Rattle.ll_explain.proofs.summary.summarize_by.Goals as goal
+use Rattle.ll_explain.proofs.summary.summarize_by.Goals.{In-Some}
 
 on : (c : In-Some) → GoesTo c.next.new.self (Between None) (pieces_at 10 c.args.chunks.now) (pieces_at 10 c.in-Some.more.now)
 on c =
@@ -19,7 +19,7 @@ on c =
 
 pub loop-chains-init : goal.loop-chains-init
 loop-chains-init c =
-    goes-first c.new-checker.result (Between None) (pieces_at 10 c.args.chunks.now) (first-at c.new-checker.result c.new-checker.ensures)
+    goes-first c.args.checker.now (Between None) (pieces_at 10 c.args.chunks.now) (first-at c.args.checker.now c.requires)
 
 pub loop-chains-preserved : goal.loop-chains-preserved
 loop-chains-preserved c = on (goal.at.loop-chains-preserved c).In-Some

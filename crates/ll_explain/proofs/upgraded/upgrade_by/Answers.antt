@@ -9,8 +9,8 @@ use Rattle.ll_explain.proofs.ExplainLemmas.{goes-later}
 use Rattle.ll_explain.proofs.UpgradedLemmas.{Writes, goes-writes, ok-of, writes-first, writes-on}
 use Rattle.ll_explain.specs.Upgrade.{told_text}
 use Rattle.ll_item.specs.Settings.{Configuration}
-use Rattle.ll_explain.proofs.upgraded.upgrade.Goals as goal
-use Rattle.ll_explain.proofs.upgraded.upgrade.Goals.{Else-is_err, In-Some}
+use Rattle.ll_explain.proofs.upgraded.upgrade_by.Goals as goal
+use Rattle.ll_explain.proofs.upgraded.upgrade_by.Goals.{Else-is_err, In-Some}
 
 told : (c : In-Some) (q : Position) → IsAt c.loop-text.checker q
     → Moves c.next.new.self q c.in-Some.told (pieces_at 10 c.loop-text.rest.now) (pieces_at 10 c.in-Some.more.now)
@@ -29,7 +29,7 @@ on c =
     c.loop-text.text.items c.push_told.new.text.items c.loop-text.invariant (λ q at. rw c.in-Some.is at (c.in_ok-told.ensures.right q at)) added
 
 pub loop-text-init : goal.loop-text-init
-loop-text-init c = writes-first c.new-checker.result (pieces_at 10 c.args.bytes.now) c.new-text.result.items c.new-checker.ensures c.new-text.ensures.items
+loop-text-init c = writes-first c.args.checker.now (pieces_at 10 c.args.bytes.now) c.new-text.result.items c.requires c.new-text.ensures.items
 
 pub loop-text-preserved : goal.loop-text-preserved
 loop-text-preserved c = on (goal.at.loop-text-preserved c).Else-is_err

@@ -6,18 +6,18 @@ use Rattle.ll_check.specs.Steps.{IsOver, Moves}
 use Rattle.ll_entry.specs.Chain.{Position, counted}
 use Rattle.ll_explain.proofs.ExplainLemmas.{Comes, Seeks, comes-elsewhere, comes-here, comes-later, comes-wrong, seeks-comes, seeks-first, seeks-none}
 use Rattle.ll_explain.specs.Seeking.{IsElsewhere, IsHere}
-use Rattle.ll_explain.proofs.explained.find.Goals as goal
-use Rattle.ll_explain.proofs.explained.find.Goals.{After-time_after-time, In-Ok-None, In-Some}
+use Rattle.ll_explain.proofs.explained.find_by.Goals as goal
+use Rattle.ll_explain.proofs.explained.find_by.Goals.{After-time_after-time, In-Ok-None, In-Some}
 
-told : (c : In-Some) (q : Position) → IsAt c.loop-checker.checker q
-    → Moves c.next.new.self q c.in-Some.told (pieces_at 10 c.loop-checker.rest.now) (pieces_at 10 c.in-Some.more.now)
+told : (c : In-Some) (q : Position) → IsAt c.loop-told.checker q
+    → Moves c.next.new.self q c.in-Some.told (pieces_at 10 c.loop-told.rest.now) (pieces_at 10 c.in-Some.more.now)
 told c q at = rw c.in-Some.is at (c.in_ok-told.ensures.right q at)
 
 comes : (c : After-time_after-time)
     → Comes c.next.new.self c.args.entry c.time_after-time.result (pieces_at 10 c.args.chunks.now) (pieces_at 10 c.in-Some.more.now)
 comes c =
-    seeks-comes c.loop-checker.checker c.next.new.self c.args.entry c.loop-checker.time c.time_after-time.result (pieces_at 10 c.args.chunks.now)
-    (pieces_at 10 c.loop-checker.rest.now) c.in-Some.more.now c.in-Some.told c.loop-checker.invariant (λ q at. rw c.in-Some.is at (c.in_ok-told.ensures.right q at))
+    seeks-comes c.loop-told.checker c.next.new.self c.args.entry c.loop-told.time c.time_after-time.result (pieces_at 10 c.args.chunks.now)
+    (pieces_at 10 c.loop-told.rest.now) c.in-Some.more.now c.in-Some.told c.loop-told.invariant (λ q at. rw c.in-Some.is at (c.in_ok-told.ensures.right q at))
     c.time_after-time.ensures
 
 elsewhere : (c : In-Ok-None) → Comes c.next.new.self c.args.entry c.time_after-time.result (pieces_at 10 c.args.chunks.now) (pieces_at 10 c.in-Some.more.now)
@@ -27,20 +27,20 @@ elsewhere c there =
     rw c.in-Ok-None.field-0-is at (c.in-Ok-None.ensures.right q at) in
     comes-elsewhere c.next.new.self c.reply_at.new.checker c.args.entry c.time_after-time.result (pieces_at 10 c.args.chunks.now) (pieces_at 10 c.in-Some.more.now) there other
 
-pub loop-checker-init : goal.loop-checker-init
-loop-checker-init c = seeks-first c.new-checker.result c.args.entry (pieces_at 10 c.args.chunks.now) c.new-checker.ensures
+pub loop-told-init : goal.loop-told-init
+loop-told-init c = seeks-first c.args.checker.now c.args.entry (pieces_at 10 c.args.chunks.now) c.requires
 
-pub loop-checker-preserved : goal.loop-checker-preserved
-loop-checker-preserved c =
-    elsewhere (goal.at.loop-checker-preserved c).In-Ok-None (comes (goal.at.loop-checker-preserved c).After-time_after-time)
+pub loop-told-preserved : goal.loop-told-preserved
+loop-told-preserved c =
+    elsewhere (goal.at.loop-told-preserved c).In-Ok-None (comes (goal.at.loop-told-preserved c).After-time_after-time)
 
-pub loop-checker-preserved-in-Ok-None : goal.loop-checker-preserved-in-Ok-None
-loop-checker-preserved-in-Ok-None c =
-    elsewhere (goal.at.loop-checker-preserved-in-Ok-None c).In-Ok-None (comes (goal.at.loop-checker-preserved-in-Ok-None c).After-time_after-time)
+pub loop-told-preserved-in-Ok-None : goal.loop-told-preserved-in-Ok-None
+loop-told-preserved-in-Ok-None c =
+    elsewhere (goal.at.loop-told-preserved-in-Ok-None c).In-Ok-None (comes (goal.at.loop-told-preserved-in-Ok-None c).After-time_after-time)
 
-pub loop-checker-preserved-in-Ok-None-2 : goal.loop-checker-preserved-in-Ok-None-2
-loop-checker-preserved-in-Ok-None-2 c =
-    elsewhere (goal.at.loop-checker-preserved-in-Ok-None-2 c).In-Ok-None (comes (goal.at.loop-checker-preserved-in-Ok-None-2 c).After-time_after-time)
+pub loop-told-preserved-in-Ok-None-2 : goal.loop-told-preserved-in-Ok-None-2
+loop-told-preserved-in-Ok-None-2 c =
+    elsewhere (goal.at.loop-told-preserved-in-Ok-None-2 c).In-Ok-None (comes (goal.at.loop-told-preserved-in-Ok-None-2 c).After-time_after-time)
 
 pub returns-in-Ok-Some-clause-right : goal.returns-in-Ok-Some-clause-right
 returns-in-Ok-Some-clause-right c =
@@ -62,8 +62,8 @@ returns-in-Err-clause-memory c = λ kind.
 
 pub returns-clause-right : goal.returns-clause-right
 returns-clause-right c =
-    let over : (q : Position) → IsAt c.loop-checker.checker q → IsOver c.loop-checker.checker c.next.new.self q c.loop-checker.rest.now = λ q at.
+    let over : (q : Position) → IsAt c.loop-told.checker q → IsOver c.loop-told.checker c.next.new.self q c.loop-told.rest.now = λ q at.
     rw c.in_default.is at (c.in_ok-told.ensures.right q at) in
     let count : (q : Position) → IsAt c.next.new.self q → Ok c.in_ok-count.field-0 ≡ counted (Ok (so_far q)) = λ q at. sym c.in_ok-count.was ∙ c.count.ensures q at in
-    seeks-none c.loop-checker.checker c.next.new.self c.args.chunks.now c.args.entry c.loop-checker.time c.in_ok-count.field-0 c.loop-checker.rest.now
-    c.loop-checker.invariant over count
+    seeks-none c.loop-told.checker c.next.new.self c.args.chunks.now c.args.entry c.loop-told.time c.in_ok-count.field-0 c.loop-told.rest.now
+    c.loop-told.invariant over count
