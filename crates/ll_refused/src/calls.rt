@@ -91,13 +91,18 @@ pub(crate) fn try_call<R: Wait>(tools: &Tools<'_, R>, call: Call, n: usize) -> T
 
 /// What can be read after the call where nothing is refused.
 fn unrefused<R: Wait>(tools: &Tools<'_, R>, call: Call) -> Option<String> {
-    let (made, _answer) = call.made(tools.alloc)?;
     let mut row = Row::prepared(tools)?;
-    call.fill(tools, &mut row);
-    row.make(made);
-    let view = row.view(tools);
+    let view = view_after(tools, &mut row, call);
     row.end(tools);
     view
+}
+
+/// Makes the call. What can be read after it.
+fn view_after<R: Wait>(tools: &Tools<'_, R>, row: &mut Row, call: Call) -> Option<String> {
+    let (made, _answer) = call.made(tools.alloc)?;
+    call.fill(tools, row);
+    row.make(made);
+    row.view(tools)
 }
 
 /// The call with its Nth allocation refused, after which this is to be read.
@@ -108,16 +113,16 @@ fn refuse<R: Wait>(
     n: usize,
     wanted: &str,
 ) -> Option<Tried> {
-    let (first, answer) = call.made(tools.alloc)?;
-    let (again, _answer) = call.made(tools.alloc)?;
+    let (made, answer) = call.made(tools.alloc)?;
     call.fill(tools, row);
     let before = row.numbers();
     tools.refuse(n);
-    let mut got = row.make(first);
+    let mut got = row.make(made);
     let met = tools.end();
     let memory = got == Answer::Memory;
     let is_changed = memory && row.numbers() != before;
     if memory {
+        let (again, _answer) = call.made(tools.alloc)?;
         got = row.make(again);
     }
     let mut tried = judge(met, memory, got == answer);

@@ -2,7 +2,7 @@
 ghost use Rattle.std.specs.Prelude.{◌≡◌};
 
 use crate::calls::{Tried, UNTRIED, judge};
-use crate::rows::{Answer, PART, answer_of, item, want};
+use crate::rows::{Answer, PART, answer_in, item, want};
 use crate::tools::{CHANNEL, Tools};
 use ll_hub::{Blanks, Claim, Clock, Hub, HubAsked, Ledgers, Pass};
 use ll_item::Settings;
@@ -50,12 +50,21 @@ fn in_hub<L: Ledgers, R: Wait>(
     let settings = Settings::read(tools.alloc, CHANNEL).ok()?;
     let channels = vec![in tools.alloc; settings].ok()?;
     let hub: Hub<L> = Hub::new(tools.alloc, channels, blanks).ok()?;
-    let tried = match hub.seat(tools.rt) {
-        Ok(mut pass) => held_in(tools, ending, &hub, &mut pass),
-        Err(_) => None,
-    };
+    let tried = seated_in(tools, ending, &hub);
     let _ = hub.finish(Vec::new(tools.alloc));
     tried
+}
+
+/// Takes a seat in this hub, and ends a request of it.
+fn seated_in<L: Ledgers, R: Wait>(
+    tools: &Tools<'_, R>,
+    ending: Ending,
+    hub: &Hub<L>,
+) -> Option<Tried> {
+    match hub.seat(tools.rt) {
+        Ok(mut pass) => held_in(tools, ending, hub, &mut pass),
+        Err(_) => None,
+    }
 }
 
 /// Makes a request of this hub, publishes what it waits for, and ends it.
@@ -65,18 +74,39 @@ fn held_in<L: Ledgers, R: Wait>(
     hub: &Hub<L>,
     pass: &mut Pass<L>,
 ) -> Option<Tried> {
-    let want = want(tools.alloc, FIRST)?;
-    let item = item(tools.alloc, PART)?;
-    let claim = match hub.ask(tools.rt, &Stopped, pass, 0, want) {
-        Ok(HubAsked::Held(claim)) => claim,
-        Ok(HubAsked::Now(_reply)) => return None,
-        Err(_) => return None,
-    };
-    let is_there = hub.publish(tools.rt, pass, 0, item).is_ok();
-    Some(match ending {
+    let claim = held(tools, hub, pass)?;
+    let is_there = is_published(tools, hub, pass);
+    let tried = match ending {
         Ending::Wait if is_there => wait(tools, hub, pass, claim),
         Ending::Wait | Ending::Close => close(tools, hub, claim),
-    })
+    };
+    is_there.then_some(tried)
+}
+
+/// Makes a request of this hub that is held.
+fn held<L: Ledgers, R: Wait>(
+    tools: &Tools<'_, R>,
+    hub: &Hub<L>,
+    pass: &mut Pass<L>,
+) -> Option<Claim> {
+    let want = want(tools.alloc, FIRST)?;
+    match hub.ask(tools.rt, &Stopped, pass, 0, want) {
+        Ok(HubAsked::Held(claim)) => Some(claim),
+        Ok(HubAsked::Now(_reply)) => None,
+        Err(_) => None,
+    }
+}
+
+/// Publishes what the request waits for. Tells whether it is accepted.
+fn is_published<L: Ledgers, R: Wait>(
+    tools: &Tools<'_, R>,
+    hub: &Hub<L>,
+    pass: &mut Pass<L>,
+) -> bool {
+    match item(tools.alloc, PART) {
+        Some(item) => hub.publish(tools.rt, pass, 0, item).is_ok(),
+        None => false,
+    }
 }
 
 fn wait<L: Ledgers, R: Wait>(
@@ -89,7 +119,7 @@ fn wait<L: Ledgers, R: Wait>(
     let waited = hub.wait(tools.rt, pass, claim);
     let met = tools.end();
     let is_right = match waited {
-        Ok(reply) => answer_of(reply.get()) == Answer::Text(1),
+        Ok(reply) => answer_in(reply) == Answer::Text(1),
         Err(_) => false,
     };
     judge(met, false, is_right)

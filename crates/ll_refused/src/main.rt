@@ -75,25 +75,26 @@ const MOST: usize = 10_000;
 
 fn main(rt: HostRuntime) {
     let alloc = rt.alloc();
-    let Some(idle) = idle_room(alloc) else {
-        let _ = println!(rt; "no memory");
-        return;
-    };
-    let tools = Tools {
-        rt: &rt,
-        alloc,
-        idle: &idle,
-    };
-    let texts = Texts::new(&tools);
+    match idle_room(alloc) {
+        Some(idle) => try_all(&Tools {
+            rt: &rt,
+            alloc,
+            idle: &idle,
+        }),
+        None => {
+            let _ = println!(rt; "no memory");
+        }
+    }
+}
+
+/// Tries all calls, and tells of each.
+fn try_all<R: Print + Wait>(tools: &Tools<'_, R>) {
+    let texts = Texts::new(tools);
     for (name, call) in SWEPT {
-        let told = sweep(&tools, texts.as_ref(), call);
-        let _ = println!(rt; "{name}: {} {} {}", told.met, told.memory, told.fault);
+        tell(tools.rt, name, sweep(tools, texts.as_ref(), call));
     }
     for (name, call) in REFUSED {
-        let tried = try_refused(&tools, call);
-        let (met, memory) = (u64::from(tried.met), u64::from(tried.memory));
-        let fault = tried.fault.unwrap_or("ok");
-        let _ = println!(rt; "{name}: {met} {memory} {fault}");
+        tell(tools.rt, name, told_of(try_refused(tools, call)));
     }
 }
 
@@ -103,6 +104,20 @@ struct Told {
     met: u64,
     memory: u64,
     fault: &'static str,
+}
+
+/// What is told of a call that was tried once.
+fn told_of(tried: Tried) -> Told {
+    Told {
+        met: u64::from(tried.met),
+        memory: u64::from(tried.memory),
+        fault: tried.fault.unwrap_or("ok"),
+    }
+}
+
+/// Prints the line of a call.
+fn tell(rt: &impl Print, name: &str, told: Told) {
+    let _ = println!(rt; "{name}: {} {} {}", told.met, told.memory, told.fault);
 }
 
 /// Tries the call with each of its allocations refused, up to the first that does what it shouldn't.

@@ -49,7 +49,7 @@ pub(crate) enum Answer {
     Other,
 }
 
-/// What is asked of a channel. It is made before memory is refused.
+/// What is asked of a channel. It is made while no memory is refused.
 #[derive(Drop)]
 pub(crate) enum Made {
     Publish(Item),
@@ -77,8 +77,13 @@ pub(crate) fn want(alloc: Global, target: &str) -> Option<Want> {
     read_target(alloc, target.as_bytes()).ok()
 }
 
+/// What a reply is that was handed out.
+pub(crate) fn answer_in(reply: Stamped<Reply>) -> Answer {
+    answer_of(reply.get())
+}
+
 /// What a reply is.
-pub(crate) fn answer_of(reply: &Reply) -> Answer {
+fn answer_of(reply: &Reply) -> Answer {
     match reply {
         Reply::Text(page) => Answer::Text(page.number()),
         Reply::Media(piece) => Answer::Media(piece.bytes.len()),

@@ -1,6 +1,6 @@
 //! Calls where every allocation is refused. All take no memory, but for one.
 use crate::calls::{Tried, UNTRIED, judge};
-use crate::rows::{Answer, Made, PART, Row, SECOND, answer_of, item, want};
+use crate::rows::{Answer, Made, PART, Row, SECOND, answer_in, item, want};
 use crate::shelves::empty;
 use crate::tools::{Tools, idle_room};
 use ll_room::{Asked, Closed, Collected, Parked, Room};
@@ -78,7 +78,7 @@ fn collect_one<R: Wait>(tools: &Tools<'_, R>, row: &mut Row, parked: Option<Park
 /// What a request gets whose reply is asked for. One that gets none is let go.
 fn given<R: Wait>(tools: &Tools<'_, R>, collected: Collected) -> Answer {
     match collected {
-        Collected::Got(reply) => answer_of(reply.get()),
+        Collected::Got(reply) => answer_in(reply),
         Collected::Still(parked) | Collected::Stranger(parked) => {
             tools.spend(parked);
             Answer::Other
@@ -171,13 +171,19 @@ fn rotate<R: Wait>(tools: &Tools<'_, R>, row: &mut Row, parked: Parked) -> Tried
 
 /// A reading of a room's clock at which the time of a request is over, and what the request then gets.
 pub(crate) fn try_time_out<R: Wait>(tools: &Tools<'_, R>) -> Tried {
-    let (Some(mut room), Some(want)) = (idle_room(tools.alloc), want(tools.alloc, SECOND)) else {
-        return UNTRIED;
-    };
+    match idle_room(tools.alloc) {
+        Some(mut room) => time_out_in(tools, &mut room).unwrap_or(UNTRIED),
+        None => UNTRIED,
+    }
+}
+
+/// The time of a request of this room is over.
+fn time_out_in<R: Wait>(tools: &Tools<'_, R>, room: &mut Room) -> Option<Tried> {
+    let want = want(tools.alloc, SECOND)?;
     match room.ask(want) {
-        Ok(Asked::Held(parked)) => time_out(tools, &mut room, parked),
-        Ok(Asked::Now(_reply)) => UNTRIED,
-        Err(_) => UNTRIED,
+        Ok(Asked::Held(parked)) => Some(time_out(tools, room, parked)),
+        Ok(Asked::Now(_reply)) => None,
+        Err(_) => None,
     }
 }
 

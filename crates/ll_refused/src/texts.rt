@@ -3,7 +3,7 @@ use crate::calls::{Tried, judge};
 use crate::rows::{Made, Row, item, want};
 use crate::tools::Tools;
 use ll_apply::{ApplyFault, apply};
-use ll_read::{ReadFault, read};
+use ll_read::{Playlist, ReadFault, read};
 use ll_verdict::Reply;
 use std::alloc::Global;
 use std::sync::Wait;
@@ -48,18 +48,29 @@ impl Texts {
     pub(crate) fn try_read<R: Wait>(&self, tools: &Tools<'_, R>, n: usize) -> Tried {
         let bytes = self.base.as_bytes();
         tools.refuse(n);
-        let mut playlist = read(tools.alloc, bytes);
+        let first = read(tools.alloc, bytes);
         let met = tools.end();
-        let memory = matches!(&playlist, Err(ReadFault::Memory));
-        if memory {
-            playlist = read(tools.alloc, bytes);
+        match first {
+            Ok(playlist) => judge(met, false, self.is_written(tools.alloc, &playlist)),
+            Err(ReadFault::Memory) => judge(met, true, self.is_read(tools.alloc)),
+            Err(_) => judge(met, false, false),
         }
-        let spelled = match &playlist {
-            Ok(playlist) => playlist.write(tools.alloc).ok(),
-            Err(_) => None,
-        };
-        let is_same = spelled.is_some_and(|text| text.as_str() == self.base.as_str());
-        judge(met, memory, is_same)
+    }
+
+    /// Whether the first playlist is read where nothing is refused.
+    fn is_read(&self, alloc: Global) -> bool {
+        match read(alloc, self.base.as_bytes()) {
+            Ok(playlist) => self.is_written(alloc, &playlist),
+            Err(_) => false,
+        }
+    }
+
+    /// Whether this is written as the first playlist.
+    fn is_written(&self, alloc: Global, playlist: &Playlist) -> bool {
+        match playlist.write(alloc) {
+            Ok(text) => text.as_str() == self.base.as_str(),
+            Err(_) => false,
+        }
     }
 
     /// Applies the delta update with the Nth allocation refused; and where that answers Memory, once more.

@@ -1,7 +1,7 @@
 //! What can be read of a channel.
 use crate::rows::{Made, NOW, Row, want};
 use crate::tools::Tools;
-use ll_room::Collected;
+use ll_room::{Collected, Stored};
 use ll_verdict::Reply;
 use std::alloc::AllocError;
 use std::sync::Wait;
@@ -35,15 +35,20 @@ impl Row {
     /// playlist, and the record of it all.
     pub(crate) fn view<R: Wait>(&mut self, tools: &Tools<'_, R>) -> Option<String> {
         let mut text = String::new(tools.alloc);
-        self.push_given(&mut text).ok()?;
+        self.push_all(tools, &mut text)?;
+        Some(text)
+    }
+
+    /// Appends it all.
+    fn push_all<R: Wait>(&mut self, tools: &Tools<'_, R>, text: &mut String) -> Option<()> {
+        self.push_given(text).ok()?;
         for _ in 0..self.kept.len() {
-            self.push_collected(tools, &mut text).ok()?;
+            self.push_collected(tools, text).ok()?;
         }
         let want = want(tools.alloc, NOW)?;
         self.make(Made::Ask(want));
         self.make(Made::Rotate);
-        self.push_given(&mut text).ok()?;
-        Some(text)
+        self.push_given(text).ok()
     }
 
     /// Appends the reply and the record that were handed out last.
@@ -82,13 +87,18 @@ impl Row {
 
     /// Lets it go with its requests.
     pub(crate) fn end<R: Wait>(self, tools: &Tools<'_, R>) {
+        tools.spend_all(self.into_kept());
+    }
+
+    /// The values of its open requests.
+    fn into_kept(self) -> Vec<Stored> {
         let Row {
             recorder: _,
             kept,
             reply: _,
             chunk: _,
         } = self;
-        tools.spend_all(kept);
+        kept
     }
 }
 
