@@ -181,7 +181,7 @@ impl Draft {
         Ok(())
     }
 
-    /// Another rendition has come so far.
+    /// A Rendition Report comes, after which the segment that one stands in stays open.
     fn add_report(&mut self, alloc: Global, report: &ll_line::Report<'_>) -> Result<(), AllocError>
         ensures { IfOk result (λ u. self.new ≡ spec.put (line.RenditionReport (report_meant report.now)) self.old) }
     {
@@ -195,7 +195,7 @@ impl Draft {
         Ok(())
     }
 
-    /// What comes next has this URI.
+    /// The Preload Hint comes, of this URI, after which the segment that one stands in stays open.
     fn add_hint(&mut self, alloc: Global, uri: &Uri<'_>) -> Result<(), AllocError>
         ensures { IfOk result (λ u. self.new ≡ spec.put (line.Hint (uri_text uri.now)) self.old) }
     {

@@ -60,7 +60,7 @@ impl Lines {
         self.text.push_reserved(b'\n');
     }
 
-    /// Adds this line and its end, in memory that is there.
+    /// Adds this line and its end, in memory that is there. The line's own memory is given back here, so that who writes it need not keep it to its end.
     pub(crate) fn put_line(&mut self, line: String)
         requires { length (string_bytes line) + 1 ≤ self.old.free }
         ensures lines { self.new.lines ≡ self.old.lines ++ with_end (string_bytes line) }

@@ -94,7 +94,7 @@ impl Written {
     }
 }
 
-/// The page in this form of a rendition of which none is written, and the pages that have it.
+/// The pages of a rendition of which none is written, with the one in this form, and that page.
 fn first_page(
     alloc: Global,
     shown: &Shown,

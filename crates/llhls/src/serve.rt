@@ -121,7 +121,7 @@ fn open_server<'a, R: Files<File = File> + Eprint + time::Clock>(
     }
 }
 
-/// The same, whose time starts then.
+/// A server of these settings, with its files, whose time started then.
 fn server_from<'a, R: Files<File = File> + Eprint>(
     rt: &'a R,
     alloc: Global,
