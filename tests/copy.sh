@@ -33,10 +33,10 @@ prove() {
     (cd "$1" && rt ci)
 }
 
-# prove_chain FOLDER FILE: proves the crates of this file, of the form of crates.txt, up to ll_link, in copies below this folder, ll_link first of all; some may still be at work when this ends. The caller
-# proves what is left. `lanes` is how many crates are proved side by side, empty for as many as `rt ci` finds memory for.
-# Most crates wait for one another in one long chain up to ll_link. A run of `rt ci` gives one processor to a crate that is ready beside others, and two to one that is ready alone. So the chain has runs
-# of its own. The niced run over all that doesn't stand on ll_link proves the rest, waits for what these prove, and takes it.
+# prove_chain FOLDER FILE: proves the crates of this file, of the form of crates.txt, up to ll_link, in copies below this folder, ll_link first of all. The caller proves what is left. `lanes` is how many
+# crates are proved side by side, empty for as many as `rt ci` finds memory for.
+# Most crates wait for one another in one long chain up to ll_link. A run of `rt ci` parts the processors among the crates that are ready in it, and once it has proved one it takes the next before another
+# run can. So the chain has runs of its own, in which few are ready, beside a niced run over what doesn't stand on ll_book, and then one over what doesn't stand on ll_link. Each takes what another proves.
 prove_chain() {
     # (on the processors that ll_attr and ll_item leave idle)
     (sleep 5 && RT_JOBS=2 prove "$1/beside" ll_device ll_mp4 ll_line) &
@@ -45,14 +45,41 @@ prove_chain() {
     grep -q ' proved$' "$1/item.log" || return 0
     # Where the kit keeps nothing, each run would begin anew.
     prove "$1/ll_attr" ll_attr | grep ' is kept: ' || return 0
-    (renice -n 5 "$BASHPID" && sleep 5 && RT_JOBS=$lanes prove "$1/rest" $(without_link "$2")) &
+    prove_rest "$1/rest" "$2" ll_book &
     prove "$1/ll_page" ll_page
-    # (mostly it waits for what the niced run proves, which takes the next crate sooner; ll_link isn't in that run)
-    RT_JOBS=1 prove "$1/ll_hub" ll_hub
+    prove "$1/ll_book" ll_book
+    prove "$1/ll_room" ll_room
+    prove_rest "$1/more" "$2" ll_link &
+    prove "$1/ll_hub" ll_hub
     prove "$1/ll_link" ll_link
 }
 
-# without_link FILE: the names of the crates of this file that don't stand on ll_link.
-without_link() {
-    sed 's/ *#.*//' "$1" | awk -F ': *' '$1 != "" && $1 != "ll_link" && " " $2 " " !~ / ll_link / { print $1 }'
+# prove_rest FOLDER FILE NAME: proves the crates of this file that don't stand on this one, in a copy at this folder, and tries the must-fail edits that stand beside that file.
+prove_rest() {
+    local crate crates
+    renice -n 5 "$BASHPID" >/dev/null
+    crates=$(without "$3" <"$2")
+    copy_crates "$1" $crates
+    for crate in $crates; do
+        if [ -d "${2%crates.txt}crates/$crate/must-fail" ]; then
+            cp -r "${2%crates.txt}crates/$crate/must-fail" "$1/crates/$crate"
+        fi
+    done
+    # (the run beside it begins first)
+    sleep 5
+    cd "$1" && RT_JOBS=$lanes rt ci
+}
+
+# without NAME: of the lines of crates.txt on standard input, the names of the crates that don't stand on this one.
+without() {
+    awk -F ': *' -v crate="$1" '
+        { sub(/ *#.*/, "") }
+        $1 == "" { next }
+        {
+            above = $1 == crate
+            many = split($2, list, " ")
+            for (at = 1; at <= many; at++) above = above || list[at] in stands
+            if (above) stands[$1] = 1
+            else print $1
+        }'
 }
