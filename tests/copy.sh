@@ -33,11 +33,12 @@ prove() {
     (cd "$1" && rt ci)
 }
 
-# prove_chain FOLDER FILE: proves the crates of this file, of the form of crates.txt, up to ll_link, in copies below this folder, ll_link first of all. The caller proves what is left. `lanes` is how many
+# prove_chain FOLDER FILE: proves the crates of this file, of the form of crates.txt, in copies below this folder, those up to ll_link first of all; some may still be at work when this ends. The caller proves what is left. `lanes` is how many
 # crates are proved side by side, empty for as many as `rt ci` finds memory for.
-# Most crates wait for one another in one long chain up to ll_link. A run of `rt ci` parts the processors among the crates that are ready in it, and once it has proved one it takes the next before another
+# Most crates wait for one another in one long chain up to ll_link and the program. A run of `rt ci` parts the processors among the crates that are ready in it, and once it has proved one it takes the next before another
 # run can. So the chain has runs of its own, in which few are ready, beside a niced run over what doesn't stand on ll_book, and then one over what doesn't stand on ll_link. Each takes what another proves.
 prove_chain() {
+    local crate last=()
     # (on the processors that ll_attr and ll_item leave idle)
     (sleep 5 && RT_JOBS=2 prove "$1/beside" ll_device ll_mp4 ll_line) &
     # Where the chain's first crates were proved before, little is left.
@@ -52,12 +53,19 @@ prove_chain() {
     prove_rest "$1/more" "$2" ll_link &
     prove "$1/ll_hub" ll_hub
     prove "$1/ll_link" ll_link
+    for crate in ll_link_tests llhls; do
+        if grep -q "^$crate:" "$2"; then
+            prove "$1/$crate" "$crate" &
+            last+=($!)
+        fi
+    done
+    wait "${last[@]}"
 }
 
 # prove_rest FOLDER FILE NAME: proves the crates of this file that don't stand on this one, in a copy at this folder, and tries the must-fail edits that stand beside that file.
 prove_rest() {
     local crate crates
-    renice -n 5 "$BASHPID" >/dev/null
+    renice -n 19 "$BASHPID" >/dev/null
     crates=$(without "$3" <"$2")
     copy_crates "$1" $crates
     for crate in $crates; do
