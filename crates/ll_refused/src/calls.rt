@@ -1,6 +1,5 @@
 //! Calls of a recorded channel for whose memory nothing is found.
-use crate::rows::{Answer, LAST, Made, NOW, PART, Row, SECOND, SEGMENT, item, want};
-use crate::tools::Tools;
+use ll_trial::{Answer, LAST, Made, NOW, PART, Row, SECOND, SEGMENT, Tools, item, want};
 use std::alloc::Global;
 use std::sync::Wait;
 

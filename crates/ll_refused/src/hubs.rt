@@ -2,10 +2,9 @@
 ghost use Rattle.std.specs.Prelude.{◌≡◌};
 
 use crate::calls::{Tried, UNTRIED, judge};
-use crate::rows::{Answer, PART, answer_in, item, want};
-use crate::tools::{CHANNEL, Tools};
 use ll_hub::{Blanks, Claim, Clock, Hub, HubAsked, Ledgers, Pass};
 use ll_item::Settings;
+use ll_trial::{Answer, CHANNEL, PART, Tools, answer_in, item, want};
 use std::marker::Brand;
 use std::sync::Wait;
 

@@ -9,19 +9,16 @@
 
 mod calls;
 mod hubs;
-mod rows;
 mod shelves;
 mod steady;
 mod texts;
-mod tools;
-mod views;
 
 use crate::calls::{Call, Tried, UNTRIED, try_call};
 use crate::hubs::{Ending, try_hub};
 use crate::shelves::try_put;
 use crate::steady::{Steady, try_steady, try_time_out};
 use crate::texts::Texts;
-use crate::tools::{Tools, idle_room};
+use ll_trial::{Tools, idle_room};
 use std::sync::Wait;
 
 /// A call of which one allocation after another is refused.

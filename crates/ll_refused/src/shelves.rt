@@ -1,9 +1,8 @@
 //! Shelves for which no memory is found.
 use crate::calls::{Tried, UNTRIED, judge};
-use crate::rows::Row;
-use crate::tools::Tools;
 use ll_room::Parked;
 use ll_rooms::Shelf;
+use ll_trial::{Row, Tools};
 use std::sync::Wait;
 
 /// The ticket of the request that is put on a shelf: the last of three.

@@ -1,10 +1,9 @@
 //! Calls where every allocation is refused. All take no memory, but for one.
 use crate::calls::{Tried, UNTRIED, judge};
-use crate::rows::{Answer, Made, PART, Row, SECOND, answer_in, item, want};
 use crate::shelves::empty;
-use crate::tools::{Tools, idle_room};
 use ll_room::{Asked, Closed, Collected, Parked, Room};
 use ll_rooms::Shelf;
+use ll_trial::{Answer, Made, PART, Row, SECOND, Tools, answer_in, idle_room, item, want};
 use std::sync::Wait;
 
 /// A call with a channel that has had two parts, and three requests for the second, whose replies are there. The memory of its record is

@@ -1,9 +1,8 @@
 //! Playlists that are read and applied, for which no memory is found.
 use crate::calls::{Tried, judge};
-use crate::rows::{Made, Row, item, want};
-use crate::tools::Tools;
 use ll_apply::{ApplyFault, apply};
 use ll_read::{Playlist, ReadFault, read};
+use ll_trial::{Made, Row, Tools, item, want};
 use ll_verdict::Reply;
 use std::alloc::Global;
 use std::sync::Wait;

@@ -8,10 +8,10 @@ use std::sync::Wait;
 
 /// What is read without memory.
 #[derive(Clone, Copy, PartialEq, Eq)]
-pub(crate) struct Numbers {
+pub struct Numbers {
     items: u64,
     requests: u64,
-    pub(crate) events: u64,
+    pub events: u64,
     open: usize,
     ready: usize,
     next: Option<u64>,
@@ -19,7 +19,7 @@ pub(crate) struct Numbers {
 
 impl Row {
     /// How many items, requests, events, open requests and replies there are, and whose reply is handed out next.
-    pub(crate) fn numbers(&self) -> Numbers {
+    pub fn numbers(&self) -> Numbers {
         let room = self.recorder.room();
         Numbers {
             items: room.count(),
@@ -33,7 +33,7 @@ impl Row {
 
     /// All that a caller can come to know: the reply or the record that was handed out, the replies to the requests that were held, the
     /// playlist, and the record of it all.
-    pub(crate) fn view<R: Wait>(&mut self, tools: &Tools<'_, R>) -> Option<String> {
+    pub fn view<R: Wait>(&mut self, tools: &Tools<'_, R>) -> Option<String> {
         let mut text = String::new(tools.alloc);
         self.push_all(tools, &mut text)?;
         Some(text)
@@ -86,7 +86,7 @@ impl Row {
     }
 
     /// Lets it go with its requests.
-    pub(crate) fn end<R: Wait>(self, tools: &Tools<'_, R>) {
+    pub fn end<R: Wait>(self, tools: &Tools<'_, R>) {
         tools.spend_all(self.into_kept());
     }
 

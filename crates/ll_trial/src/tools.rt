@@ -5,7 +5,7 @@ use std::alloc::Global;
 use std::sync::Wait;
 
 /// The channel of each call.
-pub(crate) const CHANNEL: &str =
+pub const CHANNEL: &str =
     "channel cam target=4 part=1000000 skip=24 window=36 renditions=hi,lo first=0 start=0";
 
 /// Asked for this many bytes and N more, the library refuses the Nth allocation from there on.
@@ -19,32 +19,32 @@ const NONE: usize = (1 << 62) + (1 << 41);
 
 /// What each call is tried with.
 #[derive(Clone, Copy)]
-pub(crate) struct Tools<'a, R> {
-    pub(crate) rt: &'a R,
-    pub(crate) alloc: Global,
+pub struct Tools<'a, R> {
+    pub rt: &'a R,
+    pub alloc: Global,
     /// A room to which nothing has happened, of the same number as those of the requests that are let go there.
-    pub(crate) idle: &'a Room,
+    pub idle: &'a Room,
 }
 
 /// A room of the channel, to which nothing has happened.
-pub(crate) fn idle_room(alloc: Global) -> Option<Room> {
+pub fn idle_room(alloc: Global) -> Option<Room> {
     let settings = Settings::read(alloc, CHANNEL).ok()?;
     Room::new(alloc, 0, settings).ok()
 }
 
 impl<R: Wait> Tools<'_, R> {
     /// The Nth allocation from here on is refused.
-    pub(crate) fn refuse(&self, n: usize) {
+    pub fn refuse(&self, n: usize) {
         self.order(NTH.saturating_add(n));
     }
 
     /// Every allocation from here on is refused.
-    pub(crate) fn refuse_all(&self) {
+    pub fn refuse_all(&self) {
         self.order(EVERY);
     }
 
     /// No allocation is refused any more. Tells whether one was.
-    pub(crate) fn end(&self) -> bool {
+    pub fn end(&self) -> bool {
         self.order(NONE)
     }
 
@@ -54,7 +54,7 @@ impl<R: Wait> Tools<'_, R> {
     }
 
     /// Lets the value of a request go that isn't open in the idle room.
-    pub(crate) fn spend(&self, parked: Parked) {
+    pub fn spend(&self, parked: Parked) {
         let mut left = parked;
         for _ in self.rt.forever() {
             match left.return_to(self.idle) {

@@ -9,26 +9,26 @@ use std::alloc::Global;
 use std::sync::Wait;
 
 /// A part that starts a segment, or goes on with one.
-pub(crate) const PART: &str = "part hi 1000000 i";
+pub const PART: &str = "part hi 1000000 i";
 
 /// The last part of a segment.
-pub(crate) const LAST: &str = "part hi 1000000 f";
+pub const LAST: &str = "part hi 1000000 f";
 
 /// A request for the first segment.
-pub(crate) const SEGMENT: &str = "/cam/hi/s0.m4s";
+pub const SEGMENT: &str = "/cam/hi/s0.m4s";
 
 /// A request for the second part.
-pub(crate) const SECOND: &str = "/cam/hi/live.m3u8?_HLS_msn=0&_HLS_part=1";
+pub const SECOND: &str = "/cam/hi/live.m3u8?_HLS_msn=0&_HLS_part=1";
 
 /// A request that waits for nothing.
-pub(crate) const NOW: &str = "/cam/hi/live.m3u8";
+pub const NOW: &str = "/cam/hi/live.m3u8";
 
 /// More readings than a record of few events has memory for.
 const READINGS: u64 = 200;
 
 /// What a call gets.
 #[derive(Clone, Copy, PartialEq, Eq)]
-pub(crate) enum Answer {
+pub enum Answer {
     /// The item is accepted: so many are with it.
     Accepted(u64),
     /// The request is held under this ticket.
@@ -51,7 +51,7 @@ pub(crate) enum Answer {
 
 /// What is asked of a channel. It is made while no memory is refused.
 #[derive(Drop)]
-pub(crate) enum Made {
+pub enum Made {
     Publish(Item),
     Ask(Want),
     Clock(u64),
@@ -59,26 +59,26 @@ pub(crate) enum Made {
 }
 
 /// A recorded channel and the values of its open requests, and what was handed out last.
-pub(crate) struct Row {
-    pub(crate) recorder: Recorder,
+pub struct Row {
+    pub recorder: Recorder,
     pub(crate) kept: Vec<Stored>,
-    pub(crate) reply: Option<Stamped<Reply>>,
+    pub reply: Option<Stamped<Reply>>,
     pub(crate) chunk: Option<Chunk>,
 }
 
 /// What a line of a part announces, which has five bytes.
-pub(crate) fn item(alloc: Global, line: &str) -> Option<Item> {
+pub fn item(alloc: Global, line: &str) -> Option<Item> {
     let settings = Settings::read(alloc, CHANNEL).ok()?;
     Item::read(alloc, &settings, line, &Payload::of_bytes(b"bytes")?).ok()
 }
 
 /// What a target asks for.
-pub(crate) fn want(alloc: Global, target: &str) -> Option<Want> {
+pub fn want(alloc: Global, target: &str) -> Option<Want> {
     read_target(alloc, target.as_bytes()).ok()
 }
 
 /// What a reply is that was handed out.
-pub(crate) fn answer_in(reply: Stamped<Reply>) -> Answer {
+pub fn answer_in(reply: Stamped<Reply>) -> Answer {
     answer_of(reply.get())
 }
 
@@ -94,7 +94,7 @@ fn answer_of(reply: &Reply) -> Answer {
 
 impl Row {
     /// A channel that has had a part, and then three requests which wait for the next.
-    pub(crate) fn prepared<R: Wait>(tools: &Tools<'_, R>) -> Option<Row> {
+    pub fn prepared<R: Wait>(tools: &Tools<'_, R>) -> Option<Row> {
         let mut row = Row::new(tools.alloc)?;
         match row.prepare(tools.alloc) {
             Some(()) => Some(row),
@@ -106,7 +106,7 @@ impl Row {
     }
 
     /// A channel to which nothing has happened.
-    pub(crate) fn new(alloc: Global) -> Option<Row> {
+    pub fn new(alloc: Global) -> Option<Row> {
         let settings = Settings::read(alloc, CHANNEL).ok()?;
         let recorder = Recorder::new(alloc, 0, settings).ok()?;
         Some(Row {
@@ -130,7 +130,7 @@ impl Row {
 
     /// Takes readings until the record's memory is used up, but for the last lines of its open requests. Where nothing is refused, it takes
     /// more than the record had memory for.
-    pub(crate) fn fill<R: Wait>(&mut self, tools: &Tools<'_, R>) {
+    pub fn fill<R: Wait>(&mut self, tools: &Tools<'_, R>) {
         tools.refuse_all();
         for _ in 0..READINGS {
             if self.clock(0) == Answer::Memory {
@@ -141,7 +141,7 @@ impl Row {
     }
 
     /// Makes the call.
-    pub(crate) fn make(&mut self, made: Made) -> Answer {
+    pub fn make(&mut self, made: Made) -> Answer {
         match made {
             Made::Publish(item) => self.publish(item),
             Made::Ask(want) => self.ask(want),
@@ -202,7 +202,7 @@ impl Row {
     }
 
     /// The value of the request that was kept last.
-    pub(crate) fn take(&mut self) -> Option<Parked> {
+    pub fn take(&mut self) -> Option<Parked> {
         match self.kept.pop() {
             Some(one) => Some(one.into_parked()),
             None => None,
