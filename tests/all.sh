@@ -49,8 +49,8 @@ start tests/edits_apply.py
 start tests/build_lines.sh
 # (With RT_JOBS a run doesn't plan several times the memory that a check takes, which would have fewer crates side by side.)
 lanes=${RT_JOBS:-$(nproc)}
-prove_chain "$room" crates.txt </dev/null >/dev/null 2>&1
 begin nice -n 5 tests/try_rows.sh 10
+prove_chain "$room" crates.txt </dev/null >/dev/null 2>&1
 show env RT_JOBS="$lanes" nice -n 5 rt ci
 # (`rt ci` passes over an edit that doesn't compile, which says nothing of a contract.)
 if grep -q '\.edit: BAD EDIT' "$log"; then

@@ -33,19 +33,28 @@ prove() {
     (cd "$1" && rt ci)
 }
 
+# keeps FOLDER: whether the kit keeps what one run proved for the next. Tried in this folder, with a crate of one function.
+keeps() {
+    mkdir -p "$1/crates/tiny/src"
+    cp HANDLES "$1"
+    echo 'tiny:' >"$1/crates.txt"
+    printf '%s\n' '#![tactic(auto)]' '' '/// Nothing.' 'pub fn nothing() {}' >"$1/crates/tiny/src/lib.rt"
+    (cd "$1" && rt ci && rt ci) | grep ' is kept: ' >/dev/null
+}
+
 # prove_chain FOLDER FILE: proves the crates of this file, of the form of crates.txt, in copies below this folder, those up to ll_link first of all; some may still be at work when this ends. The caller proves what is left. `lanes` is how many
 # crates are proved side by side, empty for as many as `rt ci` finds memory for.
 # Most crates wait for one another in one long chain up to ll_link and the program. A run of `rt ci` parts the processors among the crates that are ready in it, and once it has proved one it takes the next before another
 # run can. So the chain has runs of its own, in which few are ready, beside a niced run over what doesn't stand on ll_book, and then one over what doesn't stand on ll_link. Each takes what another proves.
 prove_chain() {
     local crate last=()
+    # Where the kit keeps nothing, each run would begin anew.
+    keeps "$1/tiny" || return 0
     # (on the processors that ll_attr and ll_item leave idle)
     (sleep 5 && RT_JOBS=2 prove "$1/beside" ll_device ll_mp4 ll_line) &
     # Where the chain's first crates were proved before, little is left.
     prove "$1/ll_item" ll_item | tee "$1/item.log"
     grep -q ' proved$' "$1/item.log" || return 0
-    # Where the kit keeps nothing, each run would begin anew.
-    prove "$1/ll_attr" ll_attr | grep ' is kept: ' || return 0
     prove_rest "$1/rest" "$2" ll_book &
     prove "$1/ll_page" ll_page
     prove "$1/ll_book" ll_book
