@@ -1,6 +1,6 @@
 #!/usr/bin/env bash
 # Proves every crate from nothing, runs the crates' tests, looks for each must-fail edit in its file, and at what `make build` tells. Beside that, a tenth of the rows run as `rt try --cases` builds the program, with checks and
-# from the sources alone (`make try` runs all of them so). Then each row runs on the proved program, as each compiler of the toolchain builds it; beside these, on the proved program, devices
+# from the sources alone (`make try` runs all of them so). Once the program is proved, each row runs on it, as each compiler of the toolchain builds it; beside these, on the proved program, devices
 # that give and take a few bytes at a time, large inputs, mutated playlists, mutated records, records in format 2, entries that are explained, the bytes of connections cut in every way, connections that end too early, and mutated heads; calls whose memory is refused;
 # and the server's log, what is published to it and its records, which mostly wait. Then, by themselves, the server with real sockets, what stands in front of it, and a player that watches it. The last line is the sum.
 . "$(dirname "${BASH_SOURCE[0]}")/common.sh" || exit 2
@@ -51,11 +51,16 @@ start tests/build_lines.sh
 lanes=${RT_JOBS:-$(nproc)}
 begin nice -n 5 tests/try_rows.sh 10
 prove_chain "$room" crates.txt </dev/null >/dev/null 2>&1
-show env RT_JOBS="$lanes" nice -n 5 rt ci
-# (`rt ci` passes over an edit that doesn't compile, which says nothing of a contract.)
-if grep -q '\.edit: BAD EDIT' "$log"; then
-    fail 'a must-fail edit does not compile'
-fi
+echo "== rt ci"
+{
+    env RT_JOBS="$lanes" nice -n 5 rt ci 2>&1 | tee "$room/proofs"
+    echo "${PIPESTATUS[0]}" >"$room/proofs.status"
+} &
+proofs=$!
+# The program is tested as soon as it is proved: the last proofs leave processors idle.
+until grep -qs '^rt: llhls proved$' "$room/proofs" || [ -e "$room/proofs.status" ]; do
+    sleep 1
+done
 for name in log push record; do
     begin "tests/$name.sh" "$program"
     waiting=$((waiting + 1))
@@ -65,6 +70,12 @@ for name in mutated_playlists mutated_records upgrades explained connections dro
 done
 if [ -e "$by_rattle" ]; then
     start tests/rows.sh "$by_rattle"
+fi
+wait "$proofs"
+add "$(<"$room/proofs.status")" "$room/proofs" rt ci
+# (`rt ci` passes over an edit that doesn't compile, which says nothing of a contract.)
+if grep -q '\.edit: BAD EDIT' "$room/proofs"; then
+    fail 'a must-fail edit does not compile'
 fi
 start tests/refused_calls.sh crates/ll_refused/out/ll_refused
 finish

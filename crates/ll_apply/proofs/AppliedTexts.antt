@@ -1,7 +1,7 @@
 -- What texts come to, from what their playlists come to.
 use Rattle.std.proofs.Common.{◌≡◌, List, ℕ, None, Result, Ok, ap, ◌∙◌}
-use Rattle.ll_page.specs.Playlist.{Playlist}
-use Rattle.ll_page.specs.Spelling.{spelling}
+use Rattle.ll_line.specs.Playlist.{Playlist}
+use Rattle.ll_line.specs.Spelling.{spelling}
 use Rattle.ll_read.proofs.SpelledAgain.{spelled-again}
 use Rattle.ll_read.specs.Reading.{playlist_in}
 use Rattle.ll_apply.specs.Applied.{applied, applied_by}

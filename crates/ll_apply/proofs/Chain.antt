@@ -1,7 +1,7 @@
 -- What comes of two texts, once it is known what was found of each.
 use Rattle.std.proofs.Common.{◌≡◌, ℕ, List, Option, Some, None, IfSome, Result, Ok, Err, IsOk, IsErrOf, is_ok, refl, ap, sym, ◌∙◌}
-use Rattle.ll_page.specs.Playlist.{Skip, Playlist}
-use Rattle.ll_page.specs.Spelling.{spelling}
+use Rattle.ll_line.specs.Playlist.{Skip, Playlist}
+use Rattle.ll_line.specs.Spelling.{spelling}
 use Rattle.ll_read.specs.Outline.{outline_of}
 use Rattle.ll_read.specs.declared.fault.ReadFault.{ReadFault}
 use Rattle.ll_apply.specs.Applied.{applied_by, updated, unless_missing}

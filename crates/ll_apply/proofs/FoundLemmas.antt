@@ -2,10 +2,10 @@
 use Rattle.std.proofs.Common.{◌≡◌, ◌≤◌, ℕ, List, [], ◌∷◌, ◌++◌, map, true, Option, Some, None, is_some, IfSome, Result, Ok, Err, refl, ap, sym, subst, ◌∙◌}
 use Rattle.std.specs.List.{flat_map}
 use Rattle.std.specs.Option.{option_map}
-use Rattle.ll_page.specs.Playlist.{Skip, Playlist}
+use Rattle.ll_line.specs.Playlist.{Skip, Playlist}
 use Rattle.ll_line.specs.Formats.{largest_number, line}
 use Rattle.ll_line.specs.Line.{DateRange, Line}
-use Rattle.ll_page.specs.Spelling.{segment_lines, skip_lines, tail_lines}
+use Rattle.ll_line.specs.Spelling.{segment_lines, skip_lines, tail_lines}
 use Rattle.ll_read.specs.Outline.{outline_of}
 use Rattle.ll_read.specs.Readable.{Each, IsReadable}
 use Rattle.ll_read.specs.Reading.{playlist_in}

@@ -1,7 +1,7 @@
 -- The least of the numbers that a playlist lacks.
 use Rattle.std.proofs.Common.{◌≡◌, ℕ, zero, suc, ◌+◌, ◌≤◌, ◌<◌, Bool, true, false, nat_le, nat_lt, ◌&&◌, length, Option, Some, None, Err, refl, ap, sym, ◌∙◌, arith}
 use Rattle.std.proofs.lemmas.Bool.Decides.{nat_tests}
-use Rattle.ll_page.specs.Playlist.{Playlist}
+use Rattle.ll_line.specs.Playlist.{Playlist}
 use Rattle.ll_apply.specs.declared.fault.ApplyFault.TheVariants.{NotRecent}
 use Rattle.ll_apply.specs.Applied.{applied_by, missing, missing_by, has, unless_missing, updated}
 use Rattle.ll_apply.specs.NotRecent.{IsLeastMissing, NotRecentLaw}

@@ -1,8 +1,8 @@
 -- Segments written one after another, with the map in force carried along, are those of the definition: with their maps in force
 -- and then MAP lines by the rule.
 use Rattle.std.proofs.Common.{◌≡◌, ℕ, zero, suc, List, [], ◌∷◌, ◌++◌, Bool, true, false, ◌||◌, map, take, drop, flat_map, Option, Some, None, refl, ap, sym, ◌∙◌, append_assoc}
-use Rattle.ll_page.specs.Playlist.{Finished}
-use Rattle.ll_page.specs.Spelling.{segment_lines}
+use Rattle.ll_line.specs.Playlist.{Finished}
+use Rattle.ll_line.specs.Spelling.{segment_lines}
 use Rattle.ll_apply.specs.Applied.{in_force, mapped, or_else, unless_broken, with_map, without_parts}
 use Rattle.ll_apply.specs.Order.{force_after, lines_from, map_if}
 

@@ -1,6 +1,6 @@
 -- What a playlist lacks, as its outline tells it.
 use Rattle.std.proofs.Common.{◌≡◌, ℕ, ◌+◌, ◌-◌, ◌≤◌, ◌<◌, Some, None, ap, sym, arith}
-use Rattle.ll_page.specs.Playlist.{Playlist}
+use Rattle.ll_line.specs.Playlist.{Playlist}
 use Rattle.ll_read.specs.Outline.{outline_of}
 use Rattle.ll_read.specs.declared.outline.Outline.{Outline}
 use Rattle.ll_apply.specs.Applied.{missing}

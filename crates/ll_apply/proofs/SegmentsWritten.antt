@@ -1,8 +1,8 @@
 -- The segments that are kept of an earlier playlist, and then those of the update, as they are written.
 use Rattle.std.proofs.Common.{◌≡◌, ◌==◌, ℕ, List, [], ◌∷◌, ◌++◌, true, false, length, arith, map, take, drop, Option, None, refl, ap, sym, ◌∙◌, append_assoc}
 use Rattle.ll_line.specs.Text.{text_of}
-use Rattle.ll_page.proofs.Texts.{texts}
-use Rattle.ll_page.specs.Playlist.{Finished}
+use Rattle.ll_line.proofs.Texts.{texts}
+use Rattle.ll_line.specs.Playlist.{Finished}
 use Rattle.ll_apply.specs.Applied.{in_force, without_parts}
 use Rattle.ll_apply.specs.Order.{both, both_lines, force_after, lines_from, shown}
 use Rattle.ll_apply.proofs.OrderLemmas.{mapped-lines, lines-more, in-force-first, drop-in-force, take-in-force, force-without}

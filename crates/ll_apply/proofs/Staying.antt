@@ -1,7 +1,7 @@
 -- Which date ranges stay, and their lines, one place after another.
 use Rattle.std.proofs.Common.{◌≡◌, ℕ, suc, ◌+◌, List, [], ◌∷◌, ◌++◌, Bool, true, false, not, ◌&&◌, ◌||◌, cond, drop, filter, map, Some, bytes_eq, refl, ap, sym, ◌∙◌, arith, append_assoc}
 use Rattle.std.specs.Prelude.{slice_get}
-use Rattle.ll_page.proofs.RangeLemmas.{rest-from}
+use Rattle.ll_line.proofs.RestLemmas.{rest-from}
 use Rattle.ll_line.specs.Line.{DateRangeLine, DateRange}
 use Rattle.ll_line.specs.Text.{line_text, text_of}
 use Rattle.ll_read.specs.Ranges.{has_id}

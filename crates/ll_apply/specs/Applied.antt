@@ -1,7 +1,7 @@
 -- What a delta update makes of an earlier playlist (sections 4.4.5.2 and 6.2.5.1).
 use Rattle.std.specs.Prelude.{ℕ, zero, suc, ◌+◌, ◌-◌, List, [], ◌∷◌, ◌++◌, Bool, true, false, not, ◌&&◌, Option, Some, None, Result, Ok, Err, length, map, filter, take, drop, nat_le, nat_lt, bytes_eq}
 use Rattle.std.specs.List.{list_any}
-use Rattle.ll_page.specs.Playlist.{Finished, DateRangeLine, Skip, Playlist}
+use Rattle.ll_line.specs.Playlist.{Finished, DateRangeLine, Skip, Playlist}
 use Rattle.ll_apply.specs.declared.fault.ApplyFault.{ApplyFault}
 use Rattle.ll_apply.specs.declared.fault.ApplyFault.TheVariants.{NotRecent}
 

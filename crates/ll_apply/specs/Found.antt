@@ -2,7 +2,7 @@
 use Rattle.std.specs.Prelude.{◌≡◌, ◌≤◌, ℕ, List, Option, Some, None, Result, Ok, Err, IfSome, IsOk, Bool, bytes_eq}
 use Rattle.std.specs.Borrow.{Bor}
 use Rattle.std.specs.List.{list_any}
-use Rattle.ll_page.specs.Playlist.{Skip, Playlist}
+use Rattle.ll_line.specs.Playlist.{Skip, Playlist}
 use Rattle.ll_line.specs.Formats.{largest_number}
 use Rattle.ll_read.specs.Outline.{outline_of}
 use Rattle.ll_read.specs.declared.outline.Outline.{Outline}

@@ -5,6 +5,6 @@ pub mod NotRecent
 pub mod Order
 pub mod Texts
 pub mod Worked
-pub use Rattle.ll_page.specs.Playlist
-pub use Rattle.ll_page.specs.Spelling
+pub use Rattle.ll_line.specs.Playlist
+pub use Rattle.ll_line.specs.Spelling
 pub use Rattle.ll_read.specs.Reading

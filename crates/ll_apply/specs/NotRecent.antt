@@ -1,6 +1,6 @@
 -- What `NotRecent` tells.
 use Rattle.std.specs.Prelude.{◌≡◌, ℕ, ◌+◌, ◌≤◌, ◌<◌, Some, Err, true, false}
-use Rattle.ll_page.specs.Playlist.{Playlist, Skip}
+use Rattle.ll_line.specs.Playlist.{Playlist, Skip}
 use Rattle.ll_apply.specs.Applied.{applied, has}
 use Rattle.ll_apply.specs.declared.fault.ApplyFault.TheVariants.{NotRecent}
 

@@ -1,8 +1,8 @@
 -- For private contracts: the lines of segments, one after another, with the map that is in force.
 use Rattle.std.specs.Prelude.{ℕ, List, [], ◌∷◌, ◌++◌, Bool, true, false, ◌||◌, Option, None, map, take, drop, flat_map}
 use Rattle.ll_line.specs.Line.{Line}
-use Rattle.ll_page.specs.Playlist.{Finished}
-use Rattle.ll_page.specs.Spelling.{segment_lines}
+use Rattle.ll_line.specs.Playlist.{Finished}
+use Rattle.ll_line.specs.Spelling.{segment_lines}
 use Rattle.ll_apply.specs.Applied.{in_force, mapped, or_else, with_map, without_parts}
 
 -- the map in force after these segments, where this one is in force before them

@@ -1,7 +1,7 @@
 -- What a delta update makes of an earlier playlist, both as texts.
 use Rattle.std.specs.Prelude.{◌≡◌, ℕ, List, Option, Some, None, Result, Ok, Err}
-use Rattle.ll_page.specs.Playlist.{Skip, Playlist}
-use Rattle.ll_page.specs.Spelling.{spelling}
+use Rattle.ll_line.specs.Playlist.{Skip, Playlist}
+use Rattle.ll_line.specs.Spelling.{spelling}
 use Rattle.ll_read.specs.Reading.{playlist_in, with_line_feeds}
 use Rattle.ll_read.specs.declared.fault.ReadFault.{ReadFault}
 use Rattle.ll_apply.specs.Applied.{applied}

@@ -1,7 +1,7 @@
 -- The definition at a worked example: an earlier playlist, a delta update that takes one date range away and changes another, and what
 -- comes of them.
 use Rattle.std.specs.Prelude.{◌≡◌, ℕ, List, [], ◌∷◌, false, Option, Some, None, Ok, Err, codes}
-use Rattle.ll_page.specs.Playlist.{DateRangeLine, Finished, Playlist, Skip}
+use Rattle.ll_line.specs.Playlist.{DateRangeLine, Finished, Playlist, Skip}
 use Rattle.ll_apply.specs.Applied.{applied}
 use Rattle.ll_apply.specs.declared.fault.ApplyFault.TheVariants.{NotRecent}
 

@@ -4,8 +4,8 @@ ghost use Rattle.ll_apply.specs.Found as found;
 ghost use Rattle.ll_apply.specs.Found.{AreRead, IsAnswer, IsFound};
 ghost use Rattle.ll_apply.specs.Texts.{FullLaw, applied_text, chain, delta_of};
 ghost use Rattle.ll_apply.specs.declared.fault.ApplyFault.{ApplyFault};
-ghost use Rattle.ll_page.specs.Playlist.{Playlist};
-ghost use Rattle.ll_page.specs.Spelling.{spelling};
+ghost use Rattle.ll_line.specs.Playlist.{Playlist};
+ghost use Rattle.ll_line.specs.Spelling.{spelling};
 ghost use Rattle.ll_read.specs.Outline.{outline_of};
 ghost use Rattle.ll_read.specs.Reading.{playlist_in};
 

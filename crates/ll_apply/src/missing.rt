@@ -1,6 +1,6 @@
 ghost use Rattle.std.specs.Prelude.{◌≡◌, ◌+◌, ◌<◌, ◌^◌};
 ghost use Rattle.ll_apply.specs.Applied as spec;
-ghost use Rattle.ll_page.specs.Playlist.{Playlist};
+ghost use Rattle.ll_line.specs.Playlist.{Playlist};
 ghost use Rattle.ll_read.specs.Outline.{outline_of};
 
 use ll_read::Outline;

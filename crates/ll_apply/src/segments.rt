@@ -4,7 +4,7 @@ ghost use Rattle.std.specs.Option.{option_map};
 ghost use Rattle.ll_apply.specs.Applied.{or_else, with_map};
 ghost use Rattle.ll_apply.specs.Order.{both, both_lines, force_after, lines_from, shown};
 ghost use Rattle.ll_line.specs.Text.{text_of};
-ghost use Rattle.ll_page.specs.Spelling.{segment_lines};
+ghost use Rattle.ll_line.specs.Spelling.{segment_lines};
 
 use ll_attr::Micros;
 use ll_line::{DateTime, Line, Uri, push_line};

@@ -9,7 +9,7 @@ use Rattle.ll_window.specs.Compact.{compact, all_rows, skip_count}
 use Rattle.ll_window.specs.Rows.{Row, rows}
 use Rattle.ll_window.specs.Segments.{own, segments, open_segment, duration}
 use Rattle.ll_window.specs.Window.{window_limit, near_limit, window, listed, skipped_in}
-use Rattle.ll_page.specs.Playlist.{Playlist}
+use Rattle.ll_line.specs.Playlist.{Playlist}
 use Rattle.ll_page.specs.Full.{printed, full_playlist, range_line, range_lines, sequence_of}
 use Rattle.ll_page.specs.Delta.{ids_removed, ranges_left, update_of, delta_by}
 use Rattle.ll_page.specs.View.{Seen, seen, asked}

@@ -5,7 +5,7 @@ use Rattle.ll_item.specs.declared.part.Part.{Part}
 use Rattle.ll_window.specs.Rows.{Row, rows, one_if, is_broken, lasting}
 use Rattle.ll_window.specs.Segments.{duration}
 use Rattle.ll_window.specs.Window.{window, listed, shown_by}
-use Rattle.ll_page.specs.Playlist.{Finished}
+use Rattle.ll_line.specs.Playlist.{Finished}
 use Rattle.ll_page.specs.Full.{finished_of, printed}
 use Rattle.ll_page.specs.Uris.{map_uri}
 use Rattle.ll_apply.specs.Applied.{in_force, mapped, unless_broken, without_parts, with_map}

@@ -16,7 +16,7 @@ use Rattle.ll_window.specs.Step.{with_part_by, with_item, ended_by}
 use Rattle.ll_window.specs.Window.{skipped_in}
 use Rattle.ll_window.proofs.SkipLemmas.{skipped-none}
 use Rattle.ll_window.proofs.StepLemmas.{compact-snoc, duration-snoc}
-use Rattle.ll_page.specs.Playlist.{Skip}
+use Rattle.ll_line.specs.Playlist.{Skip}
 use Rattle.ll_page.specs.Delta.{delta_by}
 use Rattle.ll_page.specs.View.{Seen, seen, asked}
 use Rattle.ll_item.specs.declared.skip_kind.SkipKind.{SkipKind}

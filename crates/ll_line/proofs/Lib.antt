@@ -1,2 +1,4 @@
 pub mod LineLaws
+pub mod RestLemmas
 pub mod SkipLemmas
+pub mod Texts

@@ -5,4 +5,3 @@ pub mod RangeLemmas
 pub mod RangeTexts
 pub mod RenditionLemmas
 pub mod ShownLemmas
-pub mod Texts

@@ -14,8 +14,8 @@ use Rattle.ll_window.specs.Window.{segment_at, parts_at}
 use Rattle.ll_page.specs.Full.{finished_of, printed}
 use Rattle.ll_page.specs.Piece.{PieceOf, AreFinished, IsOpen, finished_piece, open_piece, row_in, rows_in, piece_lines, joined_lines}
 use Rattle.ll_page.specs.Pieces.{PiecesOf}
-use Rattle.ll_page.specs.Spelling.{segment_lines}
-use Rattle.ll_page.proofs.Texts.{texts}
+use Rattle.ll_line.specs.Spelling.{segment_lines}
+use Rattle.ll_line.proofs.Texts.{texts}
 
 -- ---- rows as pieces
 

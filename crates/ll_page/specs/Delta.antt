@@ -5,8 +5,8 @@ use Rattle.ll_range.specs.Announced.{left_at, recent_at}
 use Rattle.ll_rendition.specs.declared.rendition.Rendition.{Rendition}
 use Rattle.ll_window.specs.Compact.{skip_count}
 use Rattle.ll_line.specs.Line.{Skip}
-use Rattle.ll_page.specs.Playlist.{Playlist}
-use Rattle.ll_page.specs.Spelling.{spelling}
+use Rattle.ll_line.specs.Playlist.{Playlist}
+use Rattle.ll_line.specs.Spelling.{spelling}
 use Rattle.ll_page.specs.Full.{printed, range_line, full_playlist}
 use Rattle.ll_page.specs.View.{Seen, asked}
 use Rattle.ll_item.specs.declared.skip_kind.SkipKind.{SkipKind}

@@ -11,8 +11,8 @@ use Rattle.ll_item.specs.Told.{Listed}
 use Rattle.ll_range.specs.Announced.{Announced}
 use Rattle.ll_rendition.specs.declared.rendition.Rendition.{Rendition}
 use Rattle.ll_line.specs.Line.{DateRangeLine, PartLine, Report}
-use Rattle.ll_page.specs.Playlist.{Block, Finished, Header, Playlist}
-use Rattle.ll_page.specs.Spelling.{spelling}
+use Rattle.ll_line.specs.Playlist.{Block, Finished, Header, Playlist}
+use Rattle.ll_line.specs.Spelling.{spelling}
 use Rattle.ll_line.specs.Uris.{segment_uri, part_uri, map_uri, report_uri}
 use Rattle.ll_page.specs.View.{Seen, seen, asked}
 

@@ -3,8 +3,6 @@ pub mod Full
 pub mod Page
 pub mod Piece
 pub mod Pieces
-pub mod Playlist
-pub mod Spelling
 pub mod View
 pub use Rattle.ll_line.specs.Formats
 pub use Rattle.ll_line.specs.Line

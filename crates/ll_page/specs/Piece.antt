@@ -4,7 +4,7 @@ use Rattle.std.specs.Option.{option_map}
 use Rattle.ll_line.specs.Line.{Line}
 use Rattle.ll_window.specs.Rows.{Row}
 use Rattle.ll_page.specs.Full.{block_of, finished_of}
-use Rattle.ll_page.specs.Spelling.{block_lines, segment_lines}
+use Rattle.ll_line.specs.Spelling.{block_lines, segment_lines}
 
 -- what a piece is rendered of
 pub record PieceOf : Type 0 where

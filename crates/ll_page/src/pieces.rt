@@ -6,7 +6,7 @@ ghost use Rattle.ll_window.specs.Compact.{unfinished};
 ghost use Rattle.ll_page.specs.Full.{open_of, printed};
 ghost use Rattle.ll_page.specs.Piece.{finished_piece, joined_lines, open_piece};
 ghost use Rattle.ll_page.specs.Pieces.{pieces_of};
-ghost use Rattle.ll_page.specs.Spelling.{open_lines, segment_lines};
+ghost use Rattle.ll_line.specs.Spelling.{open_lines, segment_lines};
 
 use crate::piece::Piece;
 use crate::view::View;

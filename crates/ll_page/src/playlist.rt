@@ -6,7 +6,7 @@ ghost use Rattle.ll_page.specs.Page.{text_in};
 ghost use Rattle.ll_page.specs.Pieces.{pieces_of};
 ghost use Rattle.ll_line.specs.Line as says;
 ghost use Rattle.ll_line.specs.Text.{line_text, text_of};
-ghost use Rattle.ll_page.specs.Spelling.{spelling, head_lines, header_lines, last_line};
+ghost use Rattle.ll_line.specs.Spelling.{spelling, head_lines, header_lines, last_line};
 
 use crate::pieces::Pieces;
 use crate::view::View;

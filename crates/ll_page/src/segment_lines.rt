@@ -5,7 +5,7 @@ ghost use Rattle.ll_line.specs.Line as says;
 ghost use Rattle.ll_line.specs.Text.{text_of};
 ghost use Rattle.ll_page.specs.Full.{block_of, finished_of, map_of, part_lines};
 ghost use Rattle.ll_page.specs.Piece.{row_lines};
-ghost use Rattle.ll_page.specs.Spelling.{block_lines, break_lines, map_lines, segment_lines};
+ghost use Rattle.ll_line.specs.Spelling.{block_lines, break_lines, map_lines, segment_lines};
 
 use ll_attr::Micros;
 use ll_format::UtcTime;

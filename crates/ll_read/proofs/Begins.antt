@@ -4,7 +4,7 @@ use Rattle.std.proofs.lemmas.Bool.{and_from, false_from_ne_true}
 use Rattle.std.proofs.lemmas.Str.{IsUtf8-from_is_utf8, is_utf8-from_IsUtf8}
 use Rattle.std.specs.Str.{is_utf8, IsUtf8}
 use Rattle.ll_attr.specs.Words.{pieces_at}
-use Rattle.ll_page.specs.Playlist.{Playlist}
+use Rattle.ll_line.specs.Playlist.{Playlist}
 use Rattle.ll_read.specs.Reading.{first_line, is_playlist, playlist_in, read_from, start}
 use Rattle.ll_read.specs.declared.fault.ReadFault.{ReadFault}
 use Rattle.ll_read.specs.declared.fault.ReadFault.TheVariants.{NotPlaylist}

@@ -5,7 +5,7 @@ use Rattle.ll_attr.specs.Words.{pieces_at}
 use Rattle.ll_line.specs.Formats as format
 use Rattle.ll_line.specs.Line.{Line}
 use Rattle.ll_line.specs.Text.{text_of}
-use Rattle.ll_page.specs.Playlist.{Playlist}
+use Rattle.ll_line.specs.Playlist.{Playlist}
 use Rattle.ll_read.specs.Readable.{Each}
 use Rattle.ll_read.specs.Reading.{Reading, text_ended, next, next_line, read_from}
 use Rattle.ll_read.specs.Shape.{only_if}

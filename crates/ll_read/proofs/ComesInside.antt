@@ -4,8 +4,8 @@ use Rattle.std.proofs.lemmas.Bool.{and_parts}
 use Rattle.std.proofs.lemmas.List.{append-nil}
 use Rattle.std.specs.List.{flat_map}
 use Rattle.ll_line.specs.Line.{DiscontinuitySequence, Duration, Line, MediaSequence, Part, PartLine, PartTarget, ServerControl, TargetDuration, Time, Uri, Version}
-use Rattle.ll_page.specs.Playlist.{Block, Finished, Playlist}
-use Rattle.ll_page.specs.Spelling.{block_lines, break_lines, head_lines, map_lines, segment_lines}
+use Rattle.ll_line.specs.Playlist.{Block, Finished, Playlist}
+use Rattle.ll_line.specs.Spelling.{block_lines, break_lines, head_lines, map_lines, segment_lines}
 use Rattle.ll_read.specs.Draft.{Draft, blank, new_block, plain, put}
 use Rattle.ll_read.specs.Readable.{has_map, have_maps}
 use Rattle.ll_read.specs.Reading.{Reading, at, is_empty, start}

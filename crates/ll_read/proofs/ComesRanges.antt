@@ -5,8 +5,8 @@ use Rattle.std.proofs.lemmas.List.{append-nil}
 use Rattle.std.proofs.lemmas.List.Folds.{list_any-append}
 use Rattle.std.proofs.lemmas.Slice.Eq.{bytes_eq-Decides}
 use Rattle.ll_line.specs.Line.{DateRange, DateRangeLine, Line, Skip}
-use Rattle.ll_page.specs.Playlist.{Playlist}
-use Rattle.ll_page.specs.Spelling.{skip_lines}
+use Rattle.ll_line.specs.Playlist.{Playlist}
+use Rattle.ll_line.specs.Spelling.{skip_lines}
 use Rattle.ll_read.specs.Ranges.{has_id}
 use Rattle.ll_format.specs.Format.{Where}
 use Rattle.ll_read.specs.Readable.{are_distinct}

@@ -3,8 +3,8 @@ use Rattle.std.proofs.Common.{◌≡◌, ℕ, Bool, true, false, List, [], ◌�
 use Rattle.std.proofs.lemmas.List.{append-nil}
 use Rattle.ll_format.specs.Format.{Where}
 use Rattle.ll_line.specs.Line.{Line, RenditionReport, Report}
-use Rattle.ll_page.specs.Playlist.{Block, Playlist}
-use Rattle.ll_page.specs.Spelling.{last_line, open_lines}
+use Rattle.ll_line.specs.Playlist.{Block, Playlist}
+use Rattle.ll_line.specs.Spelling.{last_line, open_lines}
 use Rattle.ll_read.specs.Draft.{plain}
 use Rattle.ll_read.specs.Readable.{IsReadableOpen}
 use Rattle.ll_read.specs.Reading.{Reading}

@@ -7,7 +7,7 @@ use Rattle.std.specs.Str.Lines.{strip_carriage_return}
 use Rattle.ll_attr.specs.Words.{pieces_at}
 use Rattle.ll_line.specs.Line.{DateRange, EndList, Hint, Line, RenditionReport, Uri}
 use Rattle.ll_line.specs.Formats.{line_in}
-use Rattle.ll_page.specs.Playlist.{Block, Playlist}
+use Rattle.ll_line.specs.Playlist.{Block, Playlist}
 use Rattle.ll_read.specs.Draft.{Draft, put, with_open, with_segment}
 use Rattle.ll_read.specs.Ranges.{range_of, ranges_in}
 use Rattle.ll_read.specs.Reading.{Reading, and_then, at, first_line, is_new_line, next_line, read_from}

@@ -7,8 +7,8 @@ use Rattle.ll_line.specs.Formats.{line}
 use Rattle.ll_line.specs.Line.{DateRange, First, Line}
 use Rattle.ll_attr.specs.Words.{pieces_at}
 use Rattle.ll_line.specs.Text.{text_of}
-use Rattle.ll_page.specs.Playlist.{Playlist}
-use Rattle.ll_page.specs.Spelling.{lines_of, open_lines, segment_lines, skip_lines, spelling}
+use Rattle.ll_line.specs.Playlist.{Playlist}
+use Rattle.ll_line.specs.Spelling.{lines_of, open_lines, segment_lines, skip_lines, spelling}
 use Rattle.ll_read.specs.Draft.{plain}
 use Rattle.ll_read.specs.Readable.{Each, IsReadable, ReadsBackLaw, leads}
 use Rattle.ll_read.specs.Reading.{playlist_in, start}

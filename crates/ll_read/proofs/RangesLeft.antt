@@ -3,7 +3,7 @@ use Rattle.std.proofs.Common.{◌≡◌, ℕ, suc, ◌+◌, List, ◌++◌, drop
 use Rattle.std.specs.Prelude.{slice_get}
 use Rattle.ll_line.specs.Line.{DateRange, DateRangeLine}
 use Rattle.ll_line.specs.Text.{line_text, text_of}
-use Rattle.ll_page.proofs.RangeLemmas.{rest-from}
+use Rattle.ll_line.proofs.RestLemmas.{rest-from}
 
 -- the text so far and the lines from this place on stay the whole text when this date range's is added
 pub next-range : (old new whole : List ℕ) (ranges : List DateRangeLine) (i : ℕ) (x : DateRangeLine) → slice_get ranges i ≡ Some x

@@ -3,8 +3,8 @@ use Rattle.std.proofs.Common.{◌≡◌, ℕ, ◌≤◌, ◌==◌, ◌||◌, tru
 use Rattle.std.specs.List.{flat_map}
 use Rattle.ll_format.specs.Format.{Where}
 use Rattle.ll_line.specs.Line.{DateRange, Discontinuity, Duration, First, Line, Map, MediaSequence, RenditionReport, ServerControl, Skip, TargetDuration, Version}
-use Rattle.ll_page.specs.Playlist.{Block, Header, Playlist}
-use Rattle.ll_page.specs.Spelling.{block_lines, break_lines, head_lines, header_lines, last_line, open_lines, segment_lines, skip_lines}
+use Rattle.ll_line.specs.Playlist.{Block, Header, Playlist}
+use Rattle.ll_line.specs.Spelling.{block_lines, break_lines, head_lines, header_lines, last_line, open_lines, segment_lines, skip_lines}
 use Rattle.ll_read.specs.Draft.{Draft, blank, new_block, plain}
 use Rattle.ll_read.specs.Readable.{IsReadableOpen, are_distinct, has_map, have_maps, leads, may_end}
 use Rattle.ll_read.specs.Reading.{Reading, at, is_empty}

@@ -5,8 +5,8 @@ use Rattle.std.specs.Str.{is_utf8}
 use Rattle.ll_attr.specs.Words.{pieces_at}
 use Rattle.ll_line.specs.Formats as format
 use Rattle.ll_line.specs.Text.{text_of}
-use Rattle.ll_page.specs.Playlist.{Playlist}
-use Rattle.ll_page.specs.Spelling.{lines_of, spelling}
+use Rattle.ll_line.specs.Playlist.{Playlist}
+use Rattle.ll_line.specs.Spelling.{lines_of, spelling}
 use Rattle.ll_read.specs.Draft.{blank, plain}
 use Rattle.ll_read.specs.Outline.{outline_of}
 use Rattle.ll_read.specs.Outlined.{outline_from}

@@ -5,7 +5,7 @@ use Rattle.ll_line.specs.Formats as format
 use Rattle.ll_line.specs.Formats.{line_in}
 use Rattle.ll_line.specs.Line.{Line}
 use Rattle.ll_line.specs.Text.{text_of}
-use Rattle.ll_page.specs.Playlist.{Playlist}
+use Rattle.ll_line.specs.Playlist.{Playlist}
 use Rattle.ll_read.specs.Outlined.{outline_from, with_line, with_read}
 use Rattle.ll_read.specs.Readable.{Each}
 use Rattle.ll_read.specs.Reading.{Reading, and_then, text_ended, is_empty, line_feeds_of, next_line, read_from}

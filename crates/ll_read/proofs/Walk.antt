@@ -5,8 +5,8 @@ use Rattle.std.proofs.lemmas.List.Folds.{list_any-append}
 use Rattle.std.specs.List.{flat_map}
 use Rattle.std.specs.Option.{option_map}
 use Rattle.ll_line.specs.Line.{DateRange, DateRangeLine, Discontinuity, DiscontinuitySequence, Duration, EndList, First, Hint, Line, Map, MediaSequence, Part, PartLine, PartTarget, RenditionReport, ServerControl, Skipped, TargetDuration, Time, Uri, Version}
-use Rattle.ll_page.specs.Playlist.{Block, Finished, Playlist}
-use Rattle.ll_page.specs.Spelling.{block_lines, break_lines, head_lines, lines_of, map_lines, open_lines, segment_lines, skip_lines}
+use Rattle.ll_line.specs.Playlist.{Block, Finished, Playlist}
+use Rattle.ll_line.specs.Spelling.{block_lines, break_lines, head_lines, lines_of, map_lines, open_lines, segment_lines, skip_lines}
 use Rattle.ll_read.specs.Draft.{Draft, plain, put}
 use Rattle.ll_read.specs.Outline.{outline_of}
 use Rattle.ll_read.specs.Ranges.{has_id}

@@ -7,9 +7,9 @@ use Rattle.ll_format.proofs.SeparatedLaws.{joined_again}
 use Rattle.ll_line.specs.Formats.{name, SkippedTag}
 use Rattle.ll_line.specs.Line.{DateRange, Skip, Skipped}
 use Rattle.ll_line.specs.Text.{line_text, text_of}
-use Rattle.ll_page.specs.Playlist.{Playlist}
-use Rattle.ll_page.specs.Spelling.{spelling, head_lines, skip_lines, segment_lines, tail_lines}
-use Rattle.ll_page.proofs.Texts.{texts_then}
+use Rattle.ll_line.specs.Playlist.{Playlist}
+use Rattle.ll_line.specs.Spelling.{spelling, head_lines, skip_lines, segment_lines, tail_lines}
+use Rattle.ll_line.proofs.Texts.{texts_then}
 
 abbrev pub text_by : Playlist → List ℕ
 text_by p =

@@ -2,7 +2,7 @@
 use Rattle.std.specs.Prelude.{ℕ, List, [], ◌∷◌, ◌++◌, Bool, true, false, Option, Some, None}
 use Rattle.std.specs.Option.{option_map}
 use Rattle.ll_line.specs.Line.{DateRange, Discontinuity, DiscontinuitySequence, Duration, EndList, First, Hint, Line, Map, MediaSequence, Part, PartLine, PartTarget, RenditionReport, ServerControl, Skipped, TargetDuration, Time, Uri, Version}
-use Rattle.ll_page.specs.Playlist.{Block, Header, Playlist}
+use Rattle.ll_line.specs.Playlist.{Block, Header, Playlist}
 
 pub record Draft : Type 0 where
   pub playlist : Playlist

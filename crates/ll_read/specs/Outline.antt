@@ -2,7 +2,7 @@
 use Rattle.std.specs.Prelude.{length}
 use Rattle.std.specs.Option.{option_map}
 use Rattle.ll_line.specs.Line.{Skip}
-use Rattle.ll_page.specs.Playlist.{Playlist}
+use Rattle.ll_line.specs.Playlist.{Playlist}
 use Rattle.ll_read.specs.declared.outline.Outline.{Outline}
 
 abbrev pub outline_of : Playlist → Outline

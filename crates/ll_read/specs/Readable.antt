@@ -4,8 +4,8 @@ use Rattle.std.specs.Str.{is_utf8}
 use Rattle.ll_format.specs.Format.{Where}
 use Rattle.ll_line.specs.Formats.{line}
 use Rattle.ll_line.specs.Line.{DateRangeLine, Skip}
-use Rattle.ll_page.specs.Playlist.{Block, Finished, Playlist}
-use Rattle.ll_page.specs.Spelling.{lines_of, spelling}
+use Rattle.ll_line.specs.Playlist.{Block, Finished, Playlist}
+use Rattle.ll_line.specs.Spelling.{lines_of, spelling}
 use Rattle.ll_read.specs.Ranges.{has_id}
 use Rattle.ll_read.specs.Reading.{is_empty, playlist_in, with_line_feeds}
 

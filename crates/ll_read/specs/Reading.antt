@@ -6,7 +6,7 @@ use Rattle.std.specs.Str.Lines.{strip_carriage_return}
 use Rattle.ll_attr.specs.Words.{pieces_at}
 use Rattle.ll_line.specs.Line.{DateRange, Line}
 use Rattle.ll_line.specs.Formats.{line_in}
-use Rattle.ll_page.specs.Playlist.{Playlist}
+use Rattle.ll_line.specs.Playlist.{Playlist}
 use Rattle.ll_read.specs.Draft.{Draft, blank, plain, put}
 use Rattle.ll_read.specs.Ranges.{has_id}
 use Rattle.ll_read.specs.Shape.{at_start, shape_next}

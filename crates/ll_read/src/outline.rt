@@ -1,7 +1,7 @@
 //! What playlists come to without their texts.
 ghost use Rattle.std.specs.Prelude.{◌≡◌, ◌+◌, ◌<◌, ◌^◌, Ok};
 ghost use Rattle.ll_attr.specs.Words.{pieces_at};
-ghost use Rattle.ll_page.specs.Playlist.{Playlist};
+ghost use Rattle.ll_line.specs.Playlist.{Playlist};
 ghost use Rattle.ll_line.specs.Meaning.{meant};
 ghost use Rattle.ll_read.specs.Outline.{outline_of};
 ghost use Rattle.ll_read.specs.Outlined.{outline_from};

@@ -37,7 +37,7 @@ pub struct Block {
 }
 
 impl Model for Block {
-    ghost use Rattle.ll_page.specs.Playlist.{Block};
+    ghost use Rattle.ll_line.specs.Playlist.{Block};
 
     ghost Value = { Block };
 
@@ -54,7 +54,7 @@ pub struct Finished {
 }
 
 impl Model for Finished {
-    ghost use Rattle.ll_page.specs.Playlist.{Finished};
+    ghost use Rattle.ll_line.specs.Playlist.{Finished};
 
     ghost Value = { Finished };
 
@@ -115,7 +115,7 @@ pub struct Header {
 }
 
 impl Model for Header {
-    ghost use Rattle.ll_page.specs.Playlist.{Header};
+    ghost use Rattle.ll_line.specs.Playlist.{Header};
 
     ghost Value = { Header };
 
@@ -150,7 +150,7 @@ pub struct Playlist {
 
 impl Model for Playlist {
     ghost use Rattle.std.specs.Prelude.{map};
-    ghost use Rattle.ll_page.specs.Playlist.{Playlist};
+    ghost use Rattle.ll_line.specs.Playlist.{Playlist};
     ghost use Rattle.ll_read.specs.Ranges.{range_at};
 
     ghost Value = { Playlist };

@@ -3,7 +3,7 @@ ghost use Rattle.std.specs.Prelude.{◌≡◌, ◌++◌, ◌∷◌, IfOk, OnOk, 
 ghost use Rattle.std.specs.Option.{option_map};
 ghost use Rattle.ll_line.specs.Line as says;
 ghost use Rattle.ll_line.specs.Text.{line_text, text_of};
-ghost use Rattle.ll_page.specs.Spelling.{spelling, head_lines, header_lines, tail_lines, skip_lines, break_lines, map_lines, block_lines, segment_lines, open_lines, last_line};
+ghost use Rattle.ll_line.specs.Spelling.{spelling, head_lines, header_lines, tail_lines, skip_lines, break_lines, map_lines, block_lines, segment_lines, open_lines, last_line};
 
 use crate::playlist::{Block, Finished, Header, Playlist, Report, Skip};
 use ll_attr::{Micros, Text};
@@ -56,7 +56,7 @@ impl Playlist {
     }
 
     /// Adds the lines that stand after all finished segments.
-    #[tactic(auto, using(ll_page::proofs::Texts::tail_texts))]
+    #[tactic(auto, using(ll_line::proofs::Texts::tail_texts))]
     pub fn push_tail(&self, text: &mut String) -> Result<(), AllocError>
         ensures { OnOk result (string_bytes text.new ≡ string_bytes text.old ++ text_of (tail_lines self.now)) }
     {

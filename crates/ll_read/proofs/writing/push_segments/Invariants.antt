@@ -1,6 +1,6 @@
 -- The text so far and the lines of the segments that are left are the whole text.
 use Rattle.std.proofs.Common.{◌≡◌, ◌++◌, drop, flat_map, string_bytes}
-use Rattle.ll_page.specs.Spelling.{segment_lines}
+use Rattle.ll_line.specs.Spelling.{segment_lines}
 use Rattle.ll_line.specs.Text.{text_of}
 use Rattle.ll_read.proofs.writing.push_segments.Given as goal
 

@@ -7,7 +7,7 @@ use Rattle.ll_line.specs.Text.{text_of}
 use Rattle.ll_page.specs.Full.{printed}
 use Rattle.ll_page.specs.Piece.{joined_lines}
 use Rattle.ll_page.specs.Pieces.{PiecesOf}
-use Rattle.ll_page.specs.Spelling.{segment_lines}
+use Rattle.ll_line.specs.Spelling.{segment_lines}
 use Rattle.ll_page.proofs.PieceLemmas.{joined-finished}
 use Rattle.ll_page.proofs.pieces.Pieces.push_finished.Goals as goal
 

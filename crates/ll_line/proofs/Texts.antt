@@ -5,8 +5,8 @@ use Rattle.std.proofs.lemmas.List.{append-nil}
 use Rattle.std.specs.Prelude.{flat_map}
 use Rattle.ll_line.specs.Line.{Line, DateRange, RenditionReport}
 use Rattle.ll_line.specs.Text.{line_text, text_of}
-use Rattle.ll_page.specs.Playlist.{Playlist}
-use Rattle.ll_page.specs.Spelling.{spelling, head_lines, skip_lines, segment_lines, open_lines, tail_lines, last_line}
+use Rattle.ll_line.specs.Playlist.{Playlist}
+use Rattle.ll_line.specs.Spelling.{spelling, head_lines, skip_lines, segment_lines, open_lines, tail_lines, last_line}
 
 -- lines before others
 pub texts : (before after : List Line) → text_of (before ++ after) ≡ text_of before ++ text_of after

@@ -2,7 +2,7 @@
 use Rattle.std.specs.Prelude.{ℕ, List, [], ◌∷◌, ◌++◌, Bool, true, false, Option, Some, None, map, flat_map}
 use Rattle.ll_line.specs.Line.{Skip, Line, First, Version, TargetDuration, ServerControl, PartTarget, MediaSequence, DiscontinuitySequence, DateRange, Skipped, Discontinuity, Map, Time, Part, Duration, Uri, RenditionReport, Hint, EndList}
 use Rattle.ll_line.specs.Text.{text_of}
-use Rattle.ll_page.specs.Playlist.{Block, Finished, Header, Playlist}
+use Rattle.ll_line.specs.Playlist.{Block, Finished, Header, Playlist}
 
 abbrev pub header_lines : Header → List Line
 header_lines h =
