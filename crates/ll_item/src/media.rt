@@ -2,7 +2,7 @@
 ghost use Rattle.std.specs.Prelude.{◌≡◌, ◌≤◌, ◌==◌, IfOk, IfSome, MatchOption, [], false, length, nat_le, true};
 ghost use Rattle.ll_item.specs.Media.{media_limit, zeros};
 
-use bytes::Bytes;
+use crate::shared_bytes::SharedBytes;
 use std::alloc::{AllocError, Global};
 use std::marker::Model;
 
@@ -95,7 +95,7 @@ pub struct Media {
 #[derive(Drop)]
 enum Kept {
     /// In a block that all holders share.
-    Shared(Bytes),
+    Shared(SharedBytes),
     /// As the number of these zeros, which take no memory.
     Zeros(u64),
 }
@@ -127,7 +127,7 @@ impl Media {
         ensures { IfOk result (λ media. media ≡ payload.now) }
     {
         let kept = match &payload.offered {
-            Offered::Bytes(bytes) => Kept::Shared(Bytes::copy_from_slice(alloc, bytes)?),
+            Offered::Bytes(bytes) => Kept::Shared(SharedBytes::of(alloc, bytes)?),
             Offered::Zeros(length) => Kept::Zeros(*length),
         };
         Ok(Media { kept })
@@ -157,12 +157,12 @@ impl Media {
 
     /// The block that these bytes stand in, which has one more holder then; none where they are zeros that stand for others. It fails only where
     /// no memory is found.
-    pub fn block(&self) -> Result<Option<Bytes>, AllocError>
+    pub fn block(&self) -> Result<Option<SharedBytes>, AllocError>
         ensures { IfOk result (λ found. IfSome found (λ block. block ≡ self.now)) }
     {
         match &self.kept {
-            Kept::Shared(bytes) => Ok(Some(bytes.clone()?)),
-            Kept::Zeros(0) => Ok(Some(Bytes::new())),
+            Kept::Shared(bytes) => Ok(Some(bytes.again()?)),
+            Kept::Zeros(0) => Ok(Some(SharedBytes::none())),
             Kept::Zeros(_) => Ok(None),
         }
     }
@@ -172,7 +172,7 @@ impl Media {
         ensures { IfOk result (λ media. media ≡ self.now) }
     {
         let kept = match &self.kept {
-            Kept::Shared(bytes) => Kept::Shared(bytes.clone()?),
+            Kept::Shared(bytes) => Kept::Shared(bytes.again()?),
             Kept::Zeros(length) => Kept::Zeros(*length),
         };
         Ok(Media { kept })

@@ -11,10 +11,10 @@ ghost use Rattle.ll_link.specs.Reads.{HasEnded, IsReadOnce, IsReadWithin, stays_
 
 use crate::fault::LinkFault;
 use crate::service::{HandedOut, Service};
-use bytes::Bytes;
 use ll_device::{Failed, Link, write_all, write_both};
 use ll_directive::{TargetFault, Want};
 use ll_hub::{Claim, Clock, HubAsked, HubFault, Ledgers, Pass, RoomFault, Sink, Waited};
+use ll_item::SharedBytes;
 use ll_room::AskFault;
 use ll_server::Gate;
 use ll_session::Session;
@@ -196,7 +196,7 @@ fn write_slices<P: Link>(link: &mut P, answer: &Slices<'_>) -> Result<(), Failed
 }
 
 /// Writes these blocks, one after another.
-fn write_blocks<P: Link>(link: &mut P, blocks: &[Bytes]) -> Result<(), Failed>
+fn write_blocks<P: Link>(link: &mut P, blocks: &[SharedBytes]) -> Result<(), Failed>
     ensures whole { OnOk result (Appends (P.written link.old) (P.written link.new) (concat blocks.now)) }
     ensures steady { OnOk result (P.failures link.new ≡ P.failures link.old) }
     ensures failed { OnErr result (P.failures link.old < P.failures link.new) }

@@ -5,7 +5,7 @@ ghost use Rattle.ll_wire.specs.Parts.{bytes_of, shared_bytes};
 
 use crate::media::MediaBody;
 use crate::slices::Slices;
-use bytes::Bytes;
+use ll_item::SharedBytes;
 use ll_page::Page;
 
 /// The end of a response that others may share, so that it is never copied.
@@ -42,7 +42,7 @@ impl Body {
     }
 
     /// What follows its first bytes, of which there are so many: bytes that lie together, and then blocks.
-    fn after(&self, n: usize) -> (&[u8], &[Bytes])
+    fn after(&self, n: usize) -> (&[u8], &[SharedBytes])
         requires { n ≤ length (shared_bytes self.now) }
         ensures { result.0.now ++ concat result.1.now ≡ drop n (shared_bytes self.now) }
     {

@@ -3,8 +3,7 @@ ghost use Rattle.std.specs.Prelude.{◌≡◌, ◌++◌, ◌<◌, ◌^◌, IfOk,
 ghost use Rattle.std.specs.List.{concat};
 ghost use Rattle.ll_wire.specs.Response as spec;
 
-use bytes::Bytes;
-use ll_item::Media;
+use ll_item::{Media, SharedBytes};
 use ll_store::Blocks;
 use std::alloc::{AllocError, Global};
 use std::marker::Model;
@@ -15,7 +14,7 @@ const TOO_MANY: u64 = 1 << 63;
 /// The bytes of media that follow a head. They stand in blocks that are shared with all others who hold them.
 #[derive(Drop)]
 pub struct MediaBody {
-    blocks: Vec<Bytes>,
+    blocks: Vec<SharedBytes>,
     size: u64,
 }
 
@@ -53,7 +52,7 @@ impl MediaBody {
 
     /// What follows the first bytes, of which there are so many: bytes that lie together, and then blocks.
     #[tactic(auto, using(crate::proofs::BlockLemmas::in_block, crate::proofs::BlockLemmas::after_block))]
-    pub(crate) fn after(&self, n: usize) -> (&[u8], &[Bytes])
+    pub(crate) fn after(&self, n: usize) -> (&[u8], &[SharedBytes])
         ensures { result.0.now ++ concat result.1.now ≡ drop n self.now }
     {
         let mut left = n;
@@ -70,7 +69,7 @@ impl MediaBody {
 }
 
 /// The block of each part.
-fn blocks_of(alloc: Global, parts: &[Media]) -> Result<Vec<Bytes>, AllocError>
+fn blocks_of(alloc: Global, parts: &[Media]) -> Result<Vec<SharedBytes>, AllocError>
     ensures { IfOk result (λ blocks. blocks.items ≡ parts.now) }
 {
     let mut blocks = Vec::with_capacity(alloc, parts.len())?;
@@ -81,7 +80,7 @@ fn blocks_of(alloc: Global, parts: &[Media]) -> Result<Vec<Bytes>, AllocError>
 }
 
 /// The block of a part. It fails where only the number of its bytes is known, too.
-fn block_of(part: &Media) -> Result<Bytes, AllocError>
+fn block_of(part: &Media) -> Result<SharedBytes, AllocError>
     ensures { IfOk result (λ block. block ≡ part.now) }
 {
     match part.block()? {

@@ -2,7 +2,7 @@
 ghost use Rattle.std.specs.Prelude.{◌≡◌, ◌++◌, OnOk, length};
 ghost use Rattle.std.specs.List.{concat};
 
-use bytes::Bytes;
+use ll_item::SharedBytes;
 use std::alloc::AllocError;
 use std::marker::Model;
 
@@ -11,7 +11,7 @@ use std::marker::Model;
 pub struct Slices<'a> {
     pub(crate) head: &'a [u8],
     pub(crate) body: &'a [u8],
-    pub(crate) blocks: &'a [Bytes],
+    pub(crate) blocks: &'a [SharedBytes],
     pub(crate) size: usize,
 }
 
@@ -35,7 +35,7 @@ impl<'a> Slices<'a> {
     }
 
     /// The pieces: of the head, of the body, and the blocks of the body after these, one after another.
-    pub fn pieces(&self) -> (&'a [u8], &'a [u8], &'a [Bytes])
+    pub fn pieces(&self) -> (&'a [u8], &'a [u8], &'a [SharedBytes])
         ensures { result.0.now ++ (result.1.now ++ concat result.2.now) ≡ self.now }
     {
         (self.head, self.body, self.blocks)
@@ -52,7 +52,7 @@ impl<'a> Slices<'a> {
 }
 
 /// Adds these blocks.
-fn push_blocks(text: &mut Vec<u8>, blocks: &[Bytes]) -> Result<(), AllocError>
+fn push_blocks(text: &mut Vec<u8>, blocks: &[SharedBytes]) -> Result<(), AllocError>
     ensures { OnOk result (text.new.items ≡ text.old.items ++ concat blocks.now) }
 {
     for block in blocks {

@@ -1,0 +1,72 @@
+//! Bytes that several hold.
+ghost use Rattle.std.specs.Prelude.{◌≡◌, [], IfOk, length};
+
+use std::alloc::{AllocError, Global};
+use std::marker::Model;
+use std::sync::ArcSlice;
+
+/// Bytes that lie together and that all who hold them share. No bytes take no memory.
+#[derive(Drop)]
+pub struct SharedBytes {
+    bytes: Option<ArcSlice<u8>>,
+}
+
+impl Model for SharedBytes {
+    ghost use Rattle.std.specs.Prelude.{ℕ, List, option_map};
+    ghost use Rattle.std.specs.Arc.{arc_slice_items};
+    ghost use Rattle.ll_item.specs.Media.{held};
+
+    ghost Value = { List ℕ };
+
+    ghost view = { λ b. held (option_map arc_slice_items b.bytes) };
+}
+
+impl SharedBytes {
+    /// No bytes.
+    pub fn none() -> SharedBytes
+        ensures { result ≡ [] }
+    {
+        SharedBytes { bytes: None }
+    }
+
+    /// A copy of these bytes. It fails only where no memory is found.
+    pub fn of(alloc: Global, bytes: &[u8]) -> Result<SharedBytes, AllocError>
+        ensures { IfOk result (λ block. block ≡ bytes.now) }
+    {
+        if bytes.is_empty() {
+            return Ok(SharedBytes::none());
+        }
+        Ok(SharedBytes {
+            bytes: Some(ArcSlice::from_slice(alloc, bytes)?),
+        })
+    }
+
+    /// How many bytes there are.
+    pub fn len(&self) -> usize
+        ensures { result ≡ length self.now }
+    {
+        self.as_slice().len()
+    }
+
+    /// The bytes.
+    pub fn as_slice(&self) -> &[u8]
+        ensures { result.now ≡ self.now }
+    {
+        match &self.bytes {
+            Some(bytes) => bytes.as_slice(),
+            None => &[],
+        }
+    }
+
+    /// Another holder of these bytes. It fails only where no memory is found.
+    pub fn again(&self) -> Result<SharedBytes, AllocError>
+        ensures { IfOk result (λ block. block ≡ self.now) }
+    {
+        match &self.bytes {
+            Some(bytes) => Ok(SharedBytes {
+                bytes: Some(bytes.clone()?),
+            }),
+            None => Ok(SharedBytes::none()),
+        }
+    }
+}
