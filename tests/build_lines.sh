@@ -1,6 +1,6 @@
 #!/usr/bin/env bash
 # build_lines.sh: what tests/build.sh tells, over an `rt` that proves nothing and says what the kit's says: a line for each crate, numbered, then the program's path; and a status of 1 where a
-# crate isn't proved. The last line is `N passed, M failed`.
+# crate isn't proved. Where that `rt` keeps nothing (FORGETS), no crate is proved twice. The last line is `N passed, M failed`.
 . "$(dirname "${BASH_SOURCE[0]}")/common.sh" || exit 2
 cd "$root" || exit 2
 . tests/copy.sh
@@ -9,13 +9,15 @@ cp -r tests "$room/copy"
 mkdir "$room/bin"
 cat >"$room/bin/rt" <<'END'
 #!/usr/bin/env bash
+cut -d: -f1 crates.txt | tr '\n' ' ' >>"${0%/rt}/calls"
+echo >>"${0%/rt}/calls"
 # (`rt ci NAME` works in a copy)
 for crate in $(cut -d: -f1 crates.txt); do
     [ $# != 1 ] || mkdir "crates/$crate/out"
     if [ "$crate" = "${FAULTY-}" ]; then
         echo "rt: $crate NOT PROVED"
         exit 1
-    elif mkdir "${0%/rt}/$crate" 2>/dev/null; then
+    elif mkdir "${0%/rt}/$crate" 2>/dev/null || [ -n "${FORGETS-}" ]; then
         printf '== %s\nlogic=proved functions=3 sum=0\nrt: %s proved\n' "$crate" "$crate"
     else
         echo "rt: $crate is kept: an earlier run proved it"
@@ -32,20 +34,34 @@ build() {
     made=$room/copy/crates/llhls/out
 }
 
-build
+# expect_lines: it ends well, and has told a line for each crate.
+expect_lines() {
+    if [ "$status" = 0 ] && [ "$(<"$room/stdout")" = "$made/llhls" ] && [ "$(<"$made/llhls")" = program ]; then
+        pass
+    else
+        fail "status $status, $(<"$room/stdout")"
+    fi
+    if [ "$(sed -n -E "s/^[a-z_0-9]+: (3 functions in [0-9]+ s|proved before) \(([0-9]+) of $count\)$/\2/p" "$room/stderr")" = "$(seq "$count")" ] && [ "$(wc -l <"$room/stderr")" = "$count" ]; then
+        pass
+    else
+        fail "a line for each crate:"
+        cat "$room/stderr"
+    fi
+}
+
 count=$(wc -l <"$room/copy/crates.txt")
-if [ "$status" = 0 ] && [ "$(<"$room/stdout")" = "$made/llhls" ] && [ "$(<"$made/llhls")" = program ]; then
+build
+expect_lines
+rm -r "$room"/bin/[a-z]*_* "$room/bin/tiny" "$room/bin/calls"
+FORGETS=1 build
+expect_lines
+if [ "$(grep -c 'll_attr ' "$room/bin/calls")" = 1 ]; then
     pass
 else
-    fail "status $status, $(<"$room/stdout")"
+    fail "what was proved is proved again:"
+    cat "$room/bin/calls"
 fi
-if [ "$(sed -n -E "s/^[a-z_0-9]+: (3 functions in [0-9]+ s|proved before) \(([0-9]+) of $count\)$/\2/p" "$room/stderr")" = "$(seq "$count")" ] && [ "$(wc -l <"$room/stderr")" = "$count" ]; then
-    pass
-else
-    fail "a line for each crate:"
-    cat "$room/stderr"
-fi
-rm -r "$room"/bin/ll*
+rm -r "$room"/bin/[a-z]*_*
 FAULTY=ll_hub build
 if [ "$status" = 1 ] && [ ! -s "$room/stdout" ] && [ "$(tail -n 1 "$room/stderr")" = "$made/build.log says why" ] && grep -q '^rt: ll_hub NOT PROVED$' "$room/stderr"; then
     pass
