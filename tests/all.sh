@@ -1,5 +1,5 @@
 #!/usr/bin/env bash
-# Proves every crate from nothing, runs the crates' tests, looks for each must-fail edit in its file, and at what `make build` tells. Beside that, a tenth of the rows run as `rt try --cases` builds the program, with checks and
+# Proves every crate from nothing, runs the crates' tests, looks for each must-fail edit in its file, for what crates.txt lists, and at what `make build` tells. Beside that, a tenth of the rows run as `rt try --cases` builds the program, with checks and
 # from the sources alone (`make try` runs all of them so). Once the program is proved, each row runs on it, as each compiler of the toolchain builds it; beside these, on the proved program, devices
 # that give and take a few bytes at a time, large inputs, mutated playlists, mutated records, records in format 2, entries that are explained, the bytes of connections cut in every way, connections that end too early, and mutated heads; calls whose memory is refused;
 # and the server's log, what is published to it and its records, which mostly wait. Then, by themselves, the server with real sockets, what stands in front of it, and a player that watches it. The last line is the sum.
@@ -46,6 +46,7 @@ finish() {
 }
 
 start tests/edits_apply.py
+start tests/listed.py
 start tests/build_lines.sh
 # (With RT_JOBS a run doesn't plan several times the memory that a check takes, which would have fewer crates side by side.)
 lanes=${RT_JOBS:-$(nproc)}
