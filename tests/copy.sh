@@ -39,7 +39,7 @@ keeps() {
     cp HANDLES "$1"
     echo 'tiny:' >"$1/crates.txt"
     printf '%s\n' '#![tactic(auto)]' '' '/// Nothing.' 'pub fn nothing() {}' >"$1/crates/tiny/src/lib.rt"
-    (cd "$1" && rt ci && rt ci) | grep ' is kept: ' >/dev/null
+    (cd "$1" && rt ci && rt ci) 2>&1 | grep ' is kept: ' >/dev/null
 }
 
 # prove_chain FOLDER FILE: proves the crates of this file, of the form of crates.txt, in copies below this folder, those up to ll_link first of all; some may still be at work when this ends. The caller proves what is left. `lanes` is how many

@@ -1,5 +1,5 @@
 #!/usr/bin/env python3
-"""listed.py: each crate names each that crates.txt lists for it, and those alone in specs and proofs of which its line says so. (The more ways there are down to a crate, the longer the kit sums files.)"""
+"""listed.py: each crate names every crate that crates.txt lists for it, and names it in specs and proofs alone just where its line says so; laws name all of theirs there."""
 import pathlib
 import re
 
@@ -11,12 +11,12 @@ for line in (root / "crates.txt").read_text().splitlines():
     if not crate.strip():
         continue
     folder = root / "crates" / crate
-    files = {kind: "\n".join(it.read_text() for it in folder.rglob(f"*.{kind}") if "out" not in it.relative_to(folder).parts) for kind in ("rt", "antt")}
-    code = re.sub(r"//.*|ghost use[^;]*;", "", files["rt"])
+    texts = {part: "\n".join(it.read_text() for it in (folder / part).rglob("*") if it.suffix in (".rt", ".antt")) for part in ("src", "specs", "proofs")}
+    code = re.sub(r"//.*|ghost use[^;]*;", "", texts["src"])
     alone = note.partition("in specs and proofs alone:")[2].split()
     for name in below.split():
         word = re.compile(rf"\b{name}\b")
-        found = "code" if word.search(code) else "alone" if any(map(word.search, files.values())) else "nowhere"
+        found = "code" if word.search(code) else "alone" if any(map(word.search, texts.values())) else "nowhere"
         wanted = "alone" if name in alone else "code"
         if found == wanted or found == "alone" and crate.endswith("_laws"):
             passed += 1
