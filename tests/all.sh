@@ -59,7 +59,7 @@ echo "== rt ci"
 } &
 proofs=$!
 # The program is tested as soon as it is proved: the last proofs leave processors idle.
-until grep -qs '^rt: llhls proved$' "$room/proofs" || [ -e "$room/proofs.status" ]; do
+until grep -Eqs '^rt: llhls (proved$|is kept: )' "$room/proofs" || [ -e "$room/proofs.status" ]; do
     sleep 1
 done
 for name in log push record; do
