@@ -6,7 +6,7 @@ use crate::device::{Failed, Writer};
 use crate::peer::Link;
 use std::sync::ledger::{Blank, Ledger};
 
-/// A link over another, which tells how it is read.
+/// A link over another, which tells how often it is read, and of the bytes that come what the other tells.
 #[derive(Drop)]
 pub struct CountedLink<P: Link, L: Ledger> {
     link: P,
@@ -20,7 +20,7 @@ impl<P: Link, L: Ledger> CountedLink<P, L> {
         requires name { blank.name ≡ L.name }
         requires parts { blank.parts ≡ L.parts }
         requires two { blank.parts ≡ 2 }
-        ensures inward { ⟦<CountedLink<P, L> as Writer>⟧.inward result ≡ Some (record { reads = 0; ends = 0 }) }
+        ensures inward { ⟦<CountedLink<P, L> as Writer>⟧.inward result ≡ record { looks = Some (record { reads = 0; ends = 0 }); bytes = (P.inward link).bytes } }
         ensures written { ⟦<CountedLink<P, L> as Writer>⟧.written result ≡ P.written link }
         ensures failures { ⟦<CountedLink<P, L> as Writer>⟧.failures result ≡ P.failures link }
     {
@@ -36,7 +36,7 @@ impl<P: Link, L: Ledger> Writer for CountedLink<P, L> {
 
     ghost failures = { λ c. P.failures c.link };
 
-    ghost inward = { λ c. Some (record { reads = c.looks.first; ends = c.looks.second }) };
+    ghost inward = { λ c. record { looks = Some (record { reads = c.looks.first; ends = c.looks.second }); bytes = (P.inward c.link).bytes } };
 
     fn write(&mut self, text: &[u8]) -> Result<usize, Failed> {
         self.link.write(text)

@@ -1,6 +1,6 @@
-ghost use Rattle.std.specs.Prelude.{◌≡◌, ◌<◌, ◌≤◌, ◌+◌, ◌++◌, [], ℕ, List, None, Option, IfOk, OnOk, OnErr, take, length};
+ghost use Rattle.std.specs.Prelude.{◌≡◌, ◌<◌, ◌≤◌, ◌+◌, ◌++◌, [], ℕ, List, Option, IfOk, OnOk, OnErr, take, length};
 ghost use Rattle.std.specs.Io.KnownBytes.{Appends, Consumes, IsAtEnd, Keeps};
-ghost use Rattle.ll_device.specs.Inward.{Inward};
+ghost use Rattle.ll_device.specs.Inward.{Inward, untold};
 ghost use Rattle.ll_device.specs.Written.{AppendsPrefix};
 
 /// A device failed in a read or a write.
@@ -37,8 +37,8 @@ pub trait Writer {
     /// How often a write failed.
     ghost failures: { Self → ℕ };
 
-    /// How it was read, where it is a device that is read too and tells it.
-    ghost inward: { Self → Option Inward } = { λ _. None };
+    /// How it was read and which bytes came, where it is a device that is read too and tells it.
+    ghost inward: { Self → Inward } = { λ _. untold };
 
     /// One write: how many bytes it took of `text`, from its first on; 0 only of an empty text.
     fn write(&mut self, text: &[u8]) -> Result<usize, Failed>

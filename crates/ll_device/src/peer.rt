@@ -14,10 +14,10 @@ pub trait Link: Writer + Drop {
         ensures unwritten { Self.written self.new ≡ Self.written self.old }
         ensures steady { OnOk result (Self.failures self.new ≡ Self.failures self.old) }
         ensures failed { OnErr result (Self.failures self.old < Self.failures self.new) }
-        ensures more { IfOk result (λ n. 0 < n → Self.inward self.new ≡ looked_at 1 0 (Self.inward self.old)) }
-        ensures end { IfOk result (λ n. n ≡ 0 → 0 < length buf.new → Self.inward self.new ≡ looked_at 1 1 (Self.inward self.old)) }
-        ensures no_room { length buf.new ≡ 0 → Self.inward self.new ≡ looked_at 1 0 (Self.inward self.old) }
-        ensures cut { OnErr result (Self.inward self.new ≡ looked_at 1 0 (Self.inward self.old)) };
+        ensures more { IfOk result (λ n. 0 < n → Self.inward self.new ≡ looked_at 1 0 (take n buf.new) (Self.inward self.old)) }
+        ensures end { IfOk result (λ n. n ≡ 0 → 0 < length buf.new → Self.inward self.new ≡ looked_at 1 1 [] (Self.inward self.old)) }
+        ensures no_room { length buf.new ≡ 0 → Self.inward self.new ≡ looked_at 1 0 [] (Self.inward self.old) }
+        ensures cut { OnErr result (Self.inward self.new ≡ looked_at 1 0 [] (Self.inward self.old)) };
 
     /// Whether the other end has hung up, which may be seen only after the bytes that it sent before. It takes no bytes, and waits for
     /// none.
@@ -25,7 +25,7 @@ pub trait Link: Writer + Drop {
         ensures unwritten { Self.written self.new ≡ Self.written self.old }
         ensures steady { Self.failures self.new ≡ Self.failures self.old }
         ensures there { result ≡ false → Self.inward self.new ≡ Self.inward self.old }
-        ensures hung_up { result ≡ true → Self.inward self.new ≡ looked_at 0 1 (Self.inward self.old) };
+        ensures hung_up { result ≡ true → Self.inward self.new ≡ looked_at 0 1 [] (Self.inward self.old) };
 
     /// It is told that what comes next for it may take long: a request of it is held, or a record is handed out first.
     fn will_wait(&mut self)
@@ -46,10 +46,10 @@ pub trait TryLink: Link {
         ensures unwritten { Self.written self.new ≡ Self.written self.old }
         ensures steady { OnOk result (Self.failures self.new ≡ Self.failures self.old) }
         ensures failed { OnErr result (Self.failures self.old < Self.failures self.new) }
-        ensures more { IfOk result (λ done. IfSome done (λ n. 0 < n → Self.inward self.new ≡ looked_at 1 0 (Self.inward self.old))) }
-        ensures end { IfOk result (λ done. IfSome done (λ n. n ≡ 0 → 0 < length buf.new → Self.inward self.new ≡ looked_at 1 1 (Self.inward self.old))) }
-        ensures no_room { IfOk result (λ done. IfSome done (λ _. length buf.new ≡ 0 → Self.inward self.new ≡ looked_at 1 0 (Self.inward self.old))) }
-        ensures cut { OnErr result (Self.inward self.new ≡ looked_at 1 0 (Self.inward self.old)) }
+        ensures more { IfOk result (λ done. IfSome done (λ n. 0 < n → Self.inward self.new ≡ looked_at 1 0 (take n buf.new) (Self.inward self.old))) }
+        ensures end { IfOk result (λ done. IfSome done (λ n. n ≡ 0 → 0 < length buf.new → Self.inward self.new ≡ looked_at 1 1 [] (Self.inward self.old))) }
+        ensures no_room { IfOk result (λ done. IfSome done (λ _. length buf.new ≡ 0 → Self.inward self.new ≡ looked_at 1 0 [] (Self.inward self.old))) }
+        ensures cut { OnErr result (Self.inward self.new ≡ looked_at 1 0 [] (Self.inward self.old)) }
         ensures unread { IfOk result (λ done. done ≡ None → Self.inward self.new ≡ Self.inward self.old) };
 
     /// What [`Writer::write`] comes to; nothing, where it would have to wait.

@@ -1,13 +1,24 @@
--- Lines of a publisher that are refused before the room of a channel is asked.
-use Rattle.std.proofs.Common.{◌≡◌, ℕ, List, Option, Some, None, Result, Ok, Err, refl, ap, ◌∙◌}
+-- Lines of a publisher that are refused before the room of a channel is asked, and what is told of the others.
+use Rattle.std.proofs.Common.{◌≡◌, ◌≢◌, ℕ, inr, List, Option, Some, None, Result, Ok, Err, arith, refl, ap, sym, subst, ◌∙◌}
+use Rattle.std.proofs.lemmas.Option.{same_Some}
+use Rattle.std.specs.Prelude.{slice_get}
+use Rattle.ll_hub.specs.Calls.{IsItemRefused, IsPublishFault}
+use Rattle.ll_item.proofs.ChannelLemmas.{named-within}
 use Rattle.ll_item.specs.declared.item.Item.{Item}
 use Rattle.ll_item.specs.declared.item.ItemFault.{ItemFault}
-use Rattle.ll_publish.specs.Refusals.{item_refusal}
+use Rattle.ll_publish.specs.Refusals.{item_refusal, refusal_of}
 use Rattle.ll_publish.specs.declared.refusal.Refusal.{Refusal}
+use Rattle.ll_publish.specs.declared.refusal.Refusal.TheVariants as refusal
+use Rattle.ll_rendition.specs.declared.fault.PublishFault.{PublishFault}
 use Rattle.ll_item.specs.Channels.{channel_of_name}
 use Rattle.ll_item.specs.Items.{item_in}
 use Rattle.ll_item.specs.Settings.{Configuration}
-use Rattle.ll_link.specs.Answers.{refused_in, refused_item}
+use Rattle.ll_locked.specs.Told.{IsRefused}
+use Rattle.ll_locked.specs.declared.fault.HubFault.{HubFault}
+use Rattle.ll_locked.specs.declared.fault.HubFault.TheVariants as hub
+use Rattle.ll_locked.specs.declared.fault.RoomFault.TheVariants as room
+use Rattle.ll_link.specs.declared.fault.LinkFault.TheVariants.{Hub}
+use Rattle.ll_link.specs.Answers.{IsReason, IsRuledOut, refused_by, refused_in, refused_item}
 
 pub refused_item-some : (read : Result Item ItemFault) (reason : Refusal) → refused_item read ≡ Some reason
     → (fault : ItemFault) × (read ≡ Err fault) × (item_refusal fault ≡ reason)
@@ -28,3 +39,42 @@ told_once channels name text media place c told reason k once e =
     let known : refused_item (item_in c text media) ≡ Some reason = rw k at e in
     let f = refused_item-some (item_in c text media) reason known in
     ap told_answer (once f.0 f.1) ∙ ap (λ r. Ok (Err r)) f.2
+
+-- a channel that a name finds stands at its place
+pub named-at : (channels : List Configuration) (name : List ℕ) (place : ℕ) (c : Configuration) → channel_of_name channels 0 name ≡ Some (place, c)
+    → slice_get channels place ≡ Some c
+named-at channels name place c e =
+    let w = named-within channels 0 place name c e in
+    let same : place ≡ w.0 = omega (arith, w.1) in
+    ap (slice_get channels) same ∙ w.2
+
+-- an item that the hub refuses is refused by a rule of its channel, unless no memory was found
+module _ (c : Configuration) (place : ℕ) (text media : List ℕ) (channels : List Configuration) (found : Item) (seen : List ℕ) (known : slice_get channels place ≡ Some c) (read : item_in c text media ≡ Ok found) where
+  ruled-by : (reason : Refusal) (fault : PublishFault) → refusal_of fault ≡ reason → IsItemRefused channels place found seen fault → reason ≢ refusal.Memory
+      → IsRuledOut c text media reason
+  ruled-by reason fault is refused other = record {
+    item = found;
+    read = read;
+    seen = refused.seen;
+    fault = fault;
+    rule =
+        subst (λ s. IsRefused s found refused.seen fault) (same_Some refused.settings c (sym refused.known.channel ∙ known))
+        (refused.refused (λ memory. other (sym is ∙ ap refusal_of memory)));
+    told = sym is;
+  }
+
+  -- any other fault of the hub ends the connection
+  never : {A : Type 0} (reason : Refusal) → Ok reason ≡ Err Hub → A
+  never reason e = absurd (cc)
+
+  pub answer-refused : (fault : HubFault) (reason : Refusal) → Ok reason ≡ refused_by fault → IsPublishFault channels place found seen fault
+      → IsReason (refused_item (item_in c text media)) (IsRuledOut c text media) reason
+  answer-refused (hub.Room other (room.Publish fault)) reason e p not =
+      inr (ruled-by reason fault (let same : Ok reason ≡ Ok (refusal_of fault) = e in cc) p.1 not)
+  answer-refused (hub.Room other (room.Ask fault)) reason e p not = never reason e
+  answer-refused (hub.Room other (room.Clock fault)) reason e p not = never reason e
+  answer-refused hub.UnknownChannel reason e p not = never reason e
+  answer-refused (hub.WentBack before found) reason e p not = never reason e
+  answer-refused hub.Stranger reason e p not = never reason e
+  answer-refused hub.Short reason e p not = never reason e
+  answer-refused hub.Memory reason e p not = never reason e

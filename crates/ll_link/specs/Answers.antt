@@ -1,5 +1,5 @@
--- What is answered where no verdict of a channel stands behind it.
-use Rattle.std.specs.Prelude.{◌≡◌, ℕ, List, Option, Some, None, Result, Ok, Err, if◌then◌else◌, length, nat_le}
+-- What is answered to a publisher's line, and to a player's request that its channel can't take.
+use Rattle.std.specs.Prelude.{◌≡◌, ◌≢◌, ◌⊎◌, ℕ, List, Option, Some, None, Result, Ok, Err, if◌then◌else◌, length, nat_le}
 use Rattle.ll_item.specs.Items.{item_in}
 use Rattle.ll_item.specs.Media.{media_limit}
 use Rattle.ll_item.specs.Settings.{Configuration}
@@ -9,9 +9,12 @@ use Rattle.ll_item.specs.Channels.{channel_of_name}
 use Rattle.ll_publish.specs.Line as says
 use Rattle.ll_publish.specs.Refusals.{item_refusal, refusal_of}
 use Rattle.ll_publish.specs.declared.refusal.Refusal.{Refusal}
+use Rattle.ll_publish.specs.declared.refusal.Refusal.TheVariants as refusal
 use Rattle.ll_publish.specs.declared.refusal.Refusal.TheVariants.{BadLine, UnknownChannel, LineTooLong, MediaTooLong}
+use Rattle.ll_rendition.specs.declared.fault.PublishFault.{PublishFault}
 use Rattle.ll_locked.specs.declared.fault.HubFault.{HubFault}
 use Rattle.ll_locked.specs.declared.fault.HubFault.TheVariants as hub
+use Rattle.ll_locked.specs.Told.{IsAccepted, IsRefused}
 use Rattle.ll_locked.specs.declared.fault.RoomFault.TheVariants as room
 use Rattle.ll_verdict.specs.declared.fault.ClockFault.TheVariants as reading
 use Rattle.ll_room.specs.StampedValue.{StampedValue}
@@ -40,26 +43,58 @@ refused_before channels says.Bad = Some BadLine
 refused_before channels says.TooLong = Some LineTooLong
 refused_before channels says.MediaTooLong = Some MediaTooLong
 
--- an item was published: the channel at this place accepted the one of this text, with these bytes
+-- an item was published: the channel at this place accepted the one of this text, with these bytes, after some events, as the item of this number
 pub record IsItemOf (c : Configuration) (place : ℕ) (text media : List ℕ) (mark : StampedValue ℕ) : Type 0 where
   pub item : Item
   pub read : item_in c text media ≡ Ok item
   pub room : mark.room ≡ place
   pub stamp : mark.stamp ≡ stamp.Publish item
+  pub seen : ℕ
+  pub accepted : IsAccepted c item seen mark.value
 
--- the same, in the hub's channel of this name
+-- an item was refused: the channel refused the one of this text, with these bytes, after some events, by the first rule that does
+pub record IsRuledOut (c : Configuration) (text media : List ℕ) (reason : Refusal) : Type 0 where
+  pub item : Item
+  pub read : item_in c text media ≡ Ok item
+  pub seen : ℕ
+  pub fault : PublishFault
+  pub rule : IsRefused c item seen fault
+  pub told : reason ≡ refusal_of fault
+
+-- the same of each, in the hub's channel of this name
 pub record IsItemIn (channels : List Configuration) (name text media : List ℕ) (mark : StampedValue ℕ) : Type 0 where
   pub place : ℕ
   pub settings : Configuration
   pub known : channel_of_name channels 0 name ≡ Some (place, settings)
   pub item : IsItemOf settings place text media mark
 
--- what a line announces was published: its item, with its bytes, in the channel of its name
+pub record IsRuledOutIn (channels : List Configuration) (name text media : List ℕ) (reason : Refusal) : Type 0 where
+  pub place : ℕ
+  pub settings : Configuration
+  pub known : channel_of_name channels 0 name ≡ Some (place, settings)
+  pub rule : IsRuledOut settings text media reason
+
+-- what a line announces was published: its item, with its bytes, in the channel of its name; or was refused so
 abbrev pub IsAnnounced : List Configuration → says.Line → StampedValue ℕ → Type 0
 IsAnnounced channels (says.Item name text media) mark = IsItemIn channels name text media mark
 IsAnnounced channels says.Bad mark = ⊥
 IsAnnounced channels says.TooLong mark = ⊥
 IsAnnounced channels says.MediaTooLong mark = ⊥
+
+abbrev pub IsOverruled : List Configuration → says.Line → Refusal → Type 0
+IsOverruled channels (says.Item name text media) reason = IsRuledOutIn channels name text media reason
+IsOverruled channels says.Bad reason = ⊥
+IsOverruled channels says.TooLong reason = ⊥
+IsOverruled channels says.MediaTooLong reason = ⊥
+
+-- why an item or a line is refused: for what is said before any room is asked, or by a rule of its channel; unless no memory was found
+abbrev pub IsReason : Option Refusal → (Refusal → Type 0) → Refusal → Type 0
+IsReason before Ruled reason = reason ≢ refusal.Memory → (before ≡ Some reason) ⊎ Ruled reason
+
+-- what is answered to an item or a line
+abbrev pub IsAnswer : Option Refusal → (StampedValue ℕ → Type 0) → (Refusal → Type 0) → Result (StampedValue ℕ) Refusal → Type 0
+IsAnswer before Published Ruled (Ok mark) = Published mark
+IsAnswer before Published Ruled (Err reason) = IsReason before Ruled reason
 
 -- what is answered to an item that the hub refuses; no refusal of the channel's room ends the connection with Hub
 abbrev pub refused_by : HubFault → Result Refusal LinkFault

@@ -1,3 +1,5 @@
 pub mod Answers
 pub mod Faults
+pub mod Publishing
 pub mod Reads
+pub mod Serving

@@ -1,20 +1,24 @@
 -- How a connection was read, where its link tells it.
-use Rattle.std.specs.Prelude.{◌≡◌, ◌≤◌, ℕ, Bool, true, false, Option}
+use Rattle.std.specs.Prelude.{◌≡◌, ◌≤◌, ℕ, Bool, true, false, List, []}
 use Rattle.ll_device.specs.Inward.{Inward, looked_at}
 
 -- it was read so many times at most
-abbrev pub IsReadWithin : Option Inward → Option Inward → ℕ → Type 0
-IsReadWithin before after most = (reads : ℕ) × (ends : ℕ) × (reads ≤ most) × (after ≡ looked_at reads ends before)
+abbrev pub IsReadWithin : Inward → Inward → ℕ → Type 0
+IsReadWithin before after most = (reads : ℕ) × (ends : ℕ) × (came : List ℕ) × (reads ≤ most) × (after ≡ looked_at reads ends came before)
+
+-- it was read so many times, and was not found to have been ended by its other end
+abbrev pub IsReadThrough : Inward → Inward → ℕ → Type 0
+IsReadThrough before after reads = (came : List ℕ) × (after ≡ looked_at reads 0 came before)
 
 -- it was read once, and was perhaps found to have been ended by its other end
-abbrev pub IsReadOnce : Option Inward → Option Inward → Type 0
-IsReadOnce before after = (ends : ℕ) × (after ≡ looked_at 1 ends before)
+abbrev pub IsReadOnce : Inward → Inward → Type 0
+IsReadOnce before after = (ends : ℕ) × (came : List ℕ) × (after ≡ looked_at 1 ends came before)
 
 -- it was read, and then its other end was found to have ended it, and not before
-abbrev pub HasEnded : Option Inward → Option Inward → Type 0
-HasEnded before after = (reads : ℕ) × (after ≡ looked_at reads 1 before)
+abbrev pub HasEnded : Inward → Inward → Type 0
+HasEnded before after = (reads : ℕ) × (came : List ℕ) × (after ≡ looked_at reads 1 came before)
 
 -- it was not read, and its other end was found to have ended it where it doesn't stay
-abbrev pub stays_or_ends : Bool → Option Inward → Option Inward
+abbrev pub stays_or_ends : Bool → Inward → Inward
 stays_or_ends true before = before
-stays_or_ends false before = looked_at 0 1 before
+stays_or_ends false before = looked_at 0 1 [] before

@@ -7,7 +7,7 @@ ghost use Rattle.ll_item.specs.Channels.{channel_of_name};
 ghost use Rattle.ll_device.specs.Inward.{looked_at};
 ghost use Rattle.ll_link.specs.Answers.{unavailable_by};
 ghost use Rattle.ll_link.specs.Faults.{IsOwn, IsTrue};
-ghost use Rattle.ll_link.specs.Reads.{HasEnded, IsReadOnce, IsReadWithin, stays_or_ends};
+ghost use Rattle.ll_link.specs.Reads.{HasEnded, IsReadOnce, IsReadThrough, IsReadWithin, stays_or_ends};
 
 use crate::fault::LinkFault;
 use crate::service::{HandedOut, Service};
@@ -37,7 +37,7 @@ pub(crate) fn serve<L: Ledgers, P: Link, C: Clock, G: Gate, K: Sink, R: Wait + t
 ) -> Result<u64, LinkFault>
     ensures faults { IsTrue result (P.failures link.old) (P.failures link.new) }
     ensures few { IsReadWithin (P.inward link.old) (P.inward link.new) service.now.reads }
-    ensures endless { IsErrOf result LinkFault.Endless → P.inward link.new ≡ looked_at service.now.reads 0 (P.inward link.old) }
+    ensures endless { IsErrOf result LinkFault.Endless → IsReadThrough (P.inward link.old) (P.inward link.new) service.now.reads }
 {
     let mut session = Session::new(service.alloc);
     let served = converse(service, link, pass, &mut session);
@@ -54,7 +54,7 @@ fn converse<L: Ledgers, P: Link, C: Clock, G: Gate, K: Sink, R: Wait + time::Clo
 ) -> Result<u64, LinkFault>
     ensures faults { IsTrue result (P.failures link.old) (P.failures link.new) }
     ensures few { IsReadWithin (P.inward link.old) (P.inward link.new) service.now.reads }
-    ensures endless { IsErrOf result LinkFault.Endless → P.inward link.new ≡ looked_at service.now.reads 0 (P.inward link.old) }
+    ensures endless { IsErrOf result LinkFault.Endless → IsReadThrough (P.inward link.old) (P.inward link.new) service.now.reads }
     ensures ended { OnOk result (session.new.shut ≡ false → HasEnded (P.inward link.old) (P.inward link.new)) }
 {
     let mut answers = 0;
@@ -76,8 +76,8 @@ pub(crate) fn turn<L: Ledgers, P: Link, C: Clock, G: Gate, K: Sink, R: Wait + ti
 ) -> Result<bool, LinkFault>
     ensures faults { IsTrue result (P.failures link.old) (P.failures link.new) }
     ensures once { IsReadOnce (P.inward link.old) (P.inward link.new) }
-    ensures stays { IfOk result (λ stays. stays ≡ true → P.inward link.new ≡ looked_at 1 0 (P.inward link.old)) }
-    ensures ended { IfOk result (λ stays. stays ≡ false → session.new.shut ≡ false → P.inward link.new ≡ looked_at 1 1 (P.inward link.old)) }
+    ensures stays { IfOk result (λ stays. stays ≡ true → IsReadThrough (P.inward link.old) (P.inward link.new) 1) }
+    ensures ended { IfOk result (λ stays. stays ≡ false → session.new.shut ≡ false → HasEnded (P.inward link.old) (P.inward link.new)) }
     ensures other { IfErr result (λ fault. fault ≢ LinkFault.Endless) }
 {
     if !receive(link, session)? {
@@ -92,9 +92,9 @@ pub(crate) fn turn<L: Ledgers, P: Link, C: Clock, G: Gate, K: Sink, R: Wait + ti
 #[inline(never)]
 fn receive<P: Link>(link: &mut P, session: &mut Session) -> Result<bool, LinkFault>
     ensures faults { IsTrue result (P.failures link.old) (P.failures link.new) }
-    ensures more { IfOk result (λ came. came ≡ true → P.inward link.new ≡ looked_at 1 0 (P.inward link.old)) }
-    ensures end { IfOk result (λ came. came ≡ false → P.inward link.new ≡ looked_at 1 1 (P.inward link.old)) }
-    ensures cut { OnErr result (P.inward link.new ≡ looked_at 1 0 (P.inward link.old)) }
+    ensures more { IfOk result (λ came. came ≡ true → IsReadThrough (P.inward link.old) (P.inward link.new) 1) }
+    ensures end { IfOk result (λ came. came ≡ false → P.inward link.new ≡ looked_at 1 1 [] (P.inward link.old)) }
+    ensures cut { OnErr result (IsReadThrough (P.inward link.old) (P.inward link.new) 1) }
     ensures other { IfErr result (λ fault. fault ≢ LinkFault.Endless) }
 {
     let mut piece = [0; PIECE];

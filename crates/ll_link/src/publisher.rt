@@ -1,15 +1,17 @@
 //! A publisher's connection.
 ghost use Rattle.std.specs.Bool.{Decides};
-ghost use Rattle.std.specs.Prelude.{◌≡◌, ◌≢◌, Err, IfErr, IfOk, IsErrOf, MatchResult, None, Ok, OnOk, Some};
+ghost use Rattle.std.specs.Prelude.{◌≡◌, ◌≢◌, ℕ, Err, IfErr, IfOk, IsErrOf, List, MatchResult, None, Ok, OnErr, OnOk, Option, Some, slice_get};
 ghost use Rattle.std.specs.Io.KnownBytes.{Appends};
-ghost use Rattle.ll_device.specs.Inward.{looked_at};
+ghost use Rattle.ll_device.specs.Written.{AppendsPrefix};
 ghost use Rattle.ll_item.specs.Items.{item_in};
 ghost use Rattle.ll_publish.specs.Meaning.{meant};
 ghost use Rattle.ll_publish.specs.Refusals.{item_refusal, reply_line};
 ghost use Rattle.ll_item.specs.Channels.{channel_of_name};
-ghost use Rattle.ll_link.specs.Answers.{IsAnnounced, IsItemIn, IsItemOf, refused_before, refused_by, refused_in};
+ghost use Rattle.ll_link.specs.Answers.{IsAnnounced, IsAnswer, IsItemIn, IsItemOf, IsOverruled, IsRuledOut, IsRuledOutIn, refused_before, refused_by, refused_in, refused_item};
 ghost use Rattle.ll_link.specs.Faults.{IsOwn, IsTrue};
-ghost use Rattle.ll_link.specs.Reads.{HasEnded, IsReadWithin};
+ghost use Rattle.ll_link.specs.Publishing.{IsCutOff, IsReplyTo, IsServed};
+ghost use Rattle.ll_link.specs.Reads.{IsReadThrough, IsReadWithin};
+ghost use Rattle.ll_link.specs.Serving.{IsBroken, IsDrained, IsServing};
 
 use crate::fault::LinkFault;
 use crate::service::{HandedOut, Service};
@@ -37,8 +39,9 @@ pub(crate) fn serve<L: Ledgers, P: Link, C, G: Gate, K: Sink, R: Wait>(
 ) -> Result<u64, LinkFault>
     ensures faults { IsTrue result (P.failures link.old) (P.failures link.new) }
     ensures few { IsReadWithin (P.inward link.old) (P.inward link.new) service.now.reads }
-    ensures endless { IsErrOf result LinkFault.Endless → P.inward link.new ≡ looked_at service.now.reads 0 (P.inward link.old) }
-    ensures ended { OnOk result (HasEnded (P.inward link.old) (P.inward link.new)) }
+    ensures endless { IsErrOf result LinkFault.Endless → IsReadThrough (P.inward link.old) (P.inward link.new) service.now.reads }
+    ensures served { OnOk result (IsServed service.now.hub.now (P.inward link.old) (P.inward link.new) (P.written link.old) (P.written link.new)) }
+    ensures cut_off { OnErr result (IsCutOff service.now.hub.now (P.inward link.old) (P.inward link.new) (P.written link.old) (P.written link.new)) }
 {
     let mut feed = Feed::new(service.alloc);
     let mut answers = 0;
@@ -67,15 +70,19 @@ fn answer<L: Ledgers, P: Link, C, G: Gate, K: Sink, R: Wait>(
     ensures faults { IsTrue result (P.failures link.old) (P.failures link.new) }
     ensures unread { P.inward link.new ≡ P.inward link.old }
     ensures other { IfErr result (λ fault. fault ≢ LinkFault.Endless) }
+    ensures served { OnOk result ((taken : List ℕ) (base : Option (List ℕ)) → IsServing service.now.hub.now taken feed.old base (P.written link.old)
+        → IsDrained service.now.hub.now taken feed.new base (P.written link.new)) }
+    ensures broken { OnErr result ((taken : List ℕ) (base : Option (List ℕ)) → IsServing service.now.hub.now taken feed.old base (P.written link.old)
+        → IsBroken service.now.hub.now taken base (P.written link.new)) }
 {
     for _ in service.rt.forever() {
         let Some(line) = feed.next() else {
             return Ok(());
         };
-        let answer = publish(service, pass, line)?;
+        let reply = publish(service, pass, line)?;
         *answers = answers.saturating_add(1);
         service.gate.pass(*answers);
-        tell(service, link, &counted(answer))?;
+        tell(service, link, &reply)?;
     }
     unreachable!()
 }
@@ -100,6 +107,7 @@ fn tell<L: Ledgers, P: Link, C, G, K, R>(
     ensures unread { P.inward link.new ≡ P.inward link.old }
     ensures other { IfErr result (λ fault. fault ≢ LinkFault.Endless) }
     ensures sent { OnOk result (Appends (P.written link.old) (P.written link.new) (reply_line reply.now)) }
+    ensures cut { OnErr result (AppendsPrefix (P.written link.old) (P.written link.new) (reply_line reply.now)) }
 {
     let text = reply_text(service.alloc, reply)?;
     match write_all(link, text.as_bytes()) {
@@ -113,10 +121,22 @@ fn publish<L: Ledgers, C, G: Gate, K: Sink, R: Wait>(
     service: &Service<'_, L, C, G, K, R>,
     pass: &mut Pass<L>,
     line: Line<'_>,
+) -> Result<Result<u64, Refusal>, LinkFault>
+    ensures own { IsOwn result }
+    ensures right { IfOk result (IsReplyTo service.now.hub.now (meant line.entry)) }
+{
+    Ok(counted(publish_line(service, pass, line)?))
+}
+
+/// The same, with the stamp of an item that is accepted.
+fn publish_line<L: Ledgers, C, G: Gate, K: Sink, R: Wait>(
+    service: &Service<'_, L, C, G, K, R>,
+    pass: &mut Pass<L>,
+    line: Line<'_>,
 ) -> Result<Published, LinkFault>
     ensures own { IsOwn result }
     ensures refused { (reason : Refusal) → refused_before service.now.hub.now (meant line.entry) ≡ Some reason → result ≡ Ok (Err reason) }
-    ensures published { IfOk result (λ answer. IfOk answer (IsAnnounced service.now.hub.now (meant line.entry))) }
+    ensures told { IfOk result (IsAnswer (refused_before service.now.hub.now (meant line.entry)) (IsAnnounced service.now.hub.now (meant line.entry)) (IsOverruled service.now.hub.now (meant line.entry))) }
 {
     match line {
         Line::Item(name, text, bytes) => match Payload::of_bytes(bytes) {
@@ -140,7 +160,8 @@ fn publish_item<L: Ledgers, C, G: Gate, K: Sink, R: Wait>(
 ) -> Result<Published, LinkFault>
     ensures own { IsOwn result }
     ensures refused { (reason : Refusal) → refused_in (channel_of_name service.now.hub.now 0 name.now) text.now payload.now ≡ Some reason → result ≡ Ok (Err reason) }
-    ensures published { IfOk result (λ answer. IfOk answer (IsItemIn service.now.hub.now name.now text.now payload.now)) }
+    ensures told { IfOk result (IsAnswer (refused_in (channel_of_name service.now.hub.now 0 name.now) text.now payload.now) (IsItemIn service.now.hub.now name.now text.now payload.now)
+        (IsRuledOutIn service.now.hub.now name.now text.now payload.now)) }
 {
     let Some((channel, settings)) = service.hub.find(name) else {
         return Ok(Err(Refusal::UnknownChannel));
@@ -164,10 +185,12 @@ fn publish_to<L: Ledgers, C, G: Gate, K: Sink, R: Wait>(
     text: &str,
     payload: &Payload<'_>,
 ) -> Result<(Published, Option<HandedOut>), LinkFault>
+    requires known { slice_get service.now.hub.now channel ≡ Some settings.now }
     ensures own { IsOwn result }
     ensures refused { (fault : ItemFault) → item_in settings.now text.now payload.now ≡ Err fault → result ≡ Ok (Err (item_refusal fault), None) }
     ensures full { IfOk result (λ told. told.0 ≡ Err Refusal.RecordFull → told.1 ≡ Some channel) }
-    ensures published { IfOk result (λ told. IfOk told.0 (IsItemOf settings.now channel text.now payload.now)) }
+    ensures told { IfOk result (λ told. IsAnswer (refused_item (item_in settings.now text.now payload.now)) (IsItemOf settings.now channel text.now payload.now)
+        (IsRuledOut settings.now text.now payload.now) told.0) }
 {
     let first = publish_once(service, pass, channel, settings, text, payload)?;
     publish_again(service, pass, channel, settings, text, payload, first)
@@ -183,11 +206,13 @@ fn publish_again<L: Ledgers, C, G: Gate, K: Sink, R: Wait>(
     payload: &Payload<'_>,
     first: Published,
 ) -> Result<(Published, Option<HandedOut>), LinkFault>
-    requires published { IfOk first (IsItemOf settings.now channel text.now payload.now) }
+    requires known { slice_get service.now.hub.now channel ≡ Some settings.now }
+    requires told { IsAnswer (refused_item (item_in settings.now text.now payload.now)) (IsItemOf settings.now channel text.now payload.now) (IsRuledOut settings.now text.now payload.now) first }
     ensures own { IsOwn result }
     ensures kept { first ≢ Err Refusal.RecordFull → result ≡ Ok (first, None) }
     ensures full { IfOk result (λ told. told.0 ≡ Err Refusal.RecordFull → told.1 ≡ Some channel) }
-    ensures published { IfOk result (λ told. IfOk told.0 (IsItemOf settings.now channel text.now payload.now)) }
+    ensures told { IfOk result (λ told. IsAnswer (refused_item (item_in settings.now text.now payload.now)) (IsItemOf settings.now channel text.now payload.now)
+        (IsRuledOut settings.now text.now payload.now) told.0) }
 {
     if !is_full(&first) {
         return Ok((first, None));
@@ -224,9 +249,10 @@ fn publish_once<L: Ledgers, C, G, K, R: Wait>(
     text: &str,
     payload: &Payload<'_>,
 ) -> Result<Published, LinkFault>
+    requires known { slice_get service.now.hub.now channel ≡ Some settings.now }
     ensures own { IsOwn result }
     ensures refused { (fault : ItemFault) → item_in settings.now text.now payload.now ≡ Err fault → result ≡ Ok (Err (item_refusal fault)) }
-    ensures published { IfOk result (λ answer. IfOk answer (IsItemOf settings.now channel text.now payload.now)) }
+    ensures told { IfOk result (IsAnswer (refused_item (item_in settings.now text.now payload.now)) (IsItemOf settings.now channel text.now payload.now) (IsRuledOut settings.now text.now payload.now)) }
 {
     let item = match Item::read(service.alloc, settings, text, payload) {
         Ok(item) => item,

@@ -1,9 +1,9 @@
 //! Workers, each of which serves one connection at a time.
 ghost use denote.Param.Send.{IsSend, IsSync};
-ghost use Rattle.std.specs.Prelude.{◌≡◌, ◌<◌, ◌≤◌, ◌^◌, Err, IfOk, IsErrOf, OnOk, length, min};
-ghost use Rattle.ll_device.specs.Inward.{looked_at};
+ghost use Rattle.std.specs.Prelude.{◌≡◌, ◌<◌, ◌≤◌, ◌^◌, Err, IfOk, IsErrOf, OnErr, OnOk, length, min};
 ghost use Rattle.ll_link.specs.Faults.{IsTrue};
-ghost use Rattle.ll_link.specs.Reads.{HasEnded, IsReadWithin};
+ghost use Rattle.ll_link.specs.Publishing.{IsCutOff, IsServed};
+ghost use Rattle.ll_link.specs.Reads.{IsReadThrough, IsReadWithin};
 
 use crate::fault::LinkFault;
 use crate::service::Service;
@@ -40,8 +40,9 @@ pub fn serve_link<L: Ledgers, P: Link, C: Clock, G: Gate, K: Sink, R: Wait + tim
 ) -> Result<u64, LinkFault>
     ensures faults { IsTrue result (P.failures link.old) (P.failures link.new) }
     ensures few { IsReadWithin (P.inward link.old) (P.inward link.new) (2 ^ 32) }
-    ensures endless { IsErrOf result LinkFault.Endless → P.inward link.new ≡ looked_at (2 ^ 32) 0 (P.inward link.old) }
-    ensures ended { role ≡ Role.Publisher → OnOk result (HasEnded (P.inward link.old) (P.inward link.new)) }
+    ensures endless { IsErrOf result LinkFault.Endless → IsReadThrough (P.inward link.old) (P.inward link.new) (2 ^ 32) }
+    ensures served { role ≡ Role.Publisher → OnOk result (IsServed hub.now (P.inward link.old) (P.inward link.new) (P.written link.old) (P.written link.new)) }
+    ensures cut_off { role ≡ Role.Publisher → OnErr result (IsCutOff hub.now (P.inward link.old) (P.inward link.new) (P.written link.old) (P.written link.new)) }
 {
     serve_link_within(rt, alloc, role, link, clock, gate, sink, hub, pass, READS)
 }
@@ -61,8 +62,9 @@ pub fn serve_link_within<L: Ledgers, P: Link, C: Clock, G: Gate, K: Sink, R: Wai
 ) -> Result<u64, LinkFault>
     ensures faults { IsTrue result (P.failures link.old) (P.failures link.new) }
     ensures few { IsReadWithin (P.inward link.old) (P.inward link.new) (min reads (2 ^ 32)) }
-    ensures endless { IsErrOf result LinkFault.Endless → P.inward link.new ≡ looked_at (min reads (2 ^ 32)) 0 (P.inward link.old) }
-    ensures ended { role ≡ Role.Publisher → OnOk result (HasEnded (P.inward link.old) (P.inward link.new)) }
+    ensures endless { IsErrOf result LinkFault.Endless → IsReadThrough (P.inward link.old) (P.inward link.new) (min reads (2 ^ 32)) }
+    ensures served { role ≡ Role.Publisher → OnOk result (IsServed hub.now (P.inward link.old) (P.inward link.new) (P.written link.old) (P.written link.new)) }
+    ensures cut_off { role ≡ Role.Publisher → OnErr result (IsCutOff hub.now (P.inward link.old) (P.inward link.new) (P.written link.old) (P.written link.new)) }
 {
     let service = Service {
         rt,

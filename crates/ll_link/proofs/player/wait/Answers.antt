@@ -1,5 +1,5 @@
 -- A look at one that is there adds nothing.
-use Rattle.std.proofs.Common.{◌∙◌, ap, refl}
+use Rattle.std.proofs.Common.{◌∙◌, [], ap, refl}
 use Rattle.ll_device.specs.Inward.{looked_at}
 use Rattle.ll_link.proofs.player.wait.Goals as goal
 
@@ -15,7 +15,7 @@ loop-preserved g c = record {
 pub returns-then-gone : goal.returns-then-gone
 returns-then-gone g c = record {
   faults = c.gone.ensures.steady ∙ c.loop.invariant.steady;
-  looked = c.gone.ensures.hung_up c.if-gone.true ∙ ap (looked_at 0 1) c.loop.invariant.unread;
+  looked = c.gone.ensures.hung_up c.if-gone.true ∙ ap (looked_at 0 1 []) c.loop.invariant.unread;
   unread = tt;
   other = tt;
 }

@@ -1,9 +1,12 @@
--- The link was not read, and nothing has failed.
-use Rattle.std.specs.Prelude.{◌≡◌}
+-- The link was not read, and nothing has failed; each line that was given was told one thing.
+use Rattle.std.specs.Prelude.{◌≡◌, ℕ, List, Option}
+use Rattle.ll_link.specs.Serving.{IsServing}
 use Rattle.ll_link.proofs.publisher.answer.Given as goal
 
 abbrev pub invariant-loop : goal.invariant-loop
 invariant-loop g l = record {
   steady : g.P.Writer.failures l.link ≡ g.P.Writer.failures l.fn.link;
   unread : g.P.Writer.inward l.link ≡ g.P.Writer.inward l.fn.link;
+  serving : (taken : List ℕ) (base : Option (List ℕ)) → IsServing l.fn.service.hub.now taken l.fn.feed base (g.P.Writer.written l.fn.link)
+      → IsServing l.fn.service.hub.now taken l.feed base (g.P.Writer.written l.link);
 }

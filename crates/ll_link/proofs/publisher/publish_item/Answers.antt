@@ -1,7 +1,10 @@
 -- An item of a known channel that is refused is refused by what reads it.
 use Rattle.std.proofs.Common.{ap, sym, ◌∙◌}
-use Rattle.ll_link.proofs.AnswerLemmas.{told_answer, told_once}
+use Rattle.ll_link.proofs.AnswerLemmas.{named-at, told_answer, told_once}
 use Rattle.ll_link.proofs.publisher.publish_item.Goals as goal
+
+pub publish_to-requires : goal.publish_to-requires
+publish_to-requires g c = record { known = named-at _ _ _ _ c.in-Some.ensures }
 
 pub returns-in-Ok-clause-refused : goal.returns-in-Ok-clause-refused
 returns-in-Ok-clause-refused g c reason e =
