@@ -49,32 +49,33 @@ named-at channels name place c e =
     ap (slice_get channels) same ∙ w.2
 
 -- an item that the hub refuses is refused by a rule of its channel, unless no memory was found
-module _ (c : Configuration) (place : ℕ) (text media : List ℕ) (channels : List Configuration) (found : Item) (seen : List ℕ) (known : slice_get channels place ≡ Some c) (read : item_in c text media ≡ Ok found) where
-  ruled-by : (reason : Refusal) (fault : PublishFault) → refusal_of fault ≡ reason → IsItemRefused channels place found seen fault → reason ≢ refusal.Memory
-      → IsRuledOut c text media reason
-  ruled-by reason fault is refused other = record {
-    item = found;
-    read = read;
-    seen = refused.seen;
-    fault = fault;
-    rule =
-        subst (λ s. IsRefused s found refused.seen fault) (same_Some refused.settings c (sym refused.known.channel ∙ known))
-        (refused.refused (λ memory. other (sym is ∙ ap refusal_of memory)));
-    told = sym is;
-  }
+module _ (c : Configuration) (place : ℕ) (text media : List ℕ) (channels : List Configuration) (found : Item) (seen : List ℕ) where
+  module _ (known : slice_get channels place ≡ Some c) (read : item_in c text media ≡ Ok found) where
+    ruled-by : (reason : Refusal) (fault : PublishFault) → refusal_of fault ≡ reason → IsItemRefused channels place found seen fault → reason ≢ refusal.Memory
+        → IsRuledOut c text media reason
+    ruled-by reason fault is refused other = record {
+      item = found;
+      read = read;
+      seen = refused.seen;
+      fault = fault;
+      rule =
+          subst (λ s. IsRefused s found refused.seen fault) (same_Some refused.settings c (sym refused.known.channel ∙ known))
+          (refused.refused (λ memory. other (sym is ∙ ap refusal_of memory)));
+      told = sym is;
+    }
 
-  -- any other fault of the hub ends the connection
-  never : {A : Type 0} (reason : Refusal) → Ok reason ≡ Err Hub → A
-  never reason e = absurd (cc)
+    -- any other fault of the hub ends the connection
+    never : {A : Type 0} (reason : Refusal) → Ok reason ≡ Err Hub → A
+    never reason e = absurd (cc)
 
-  pub answer-refused : (fault : HubFault) (reason : Refusal) → Ok reason ≡ refused_by fault → IsPublishFault channels place found seen fault
-      → IsReason (refused_item (item_in c text media)) (IsRuledOut c text media) reason
-  answer-refused (hub.Room other (room.Publish fault)) reason e p not =
-      inr (ruled-by reason fault (let same : Ok reason ≡ Ok (refusal_of fault) = e in cc) p.1 not)
-  answer-refused (hub.Room other (room.Ask fault)) reason e p not = never reason e
-  answer-refused (hub.Room other (room.Clock fault)) reason e p not = never reason e
-  answer-refused hub.UnknownChannel reason e p not = never reason e
-  answer-refused (hub.WentBack before found) reason e p not = never reason e
-  answer-refused hub.Stranger reason e p not = never reason e
-  answer-refused hub.Short reason e p not = never reason e
-  answer-refused hub.Memory reason e p not = never reason e
+    pub answer-refused : (fault : HubFault) (reason : Refusal) → Ok reason ≡ refused_by fault → IsPublishFault channels place found seen fault
+        → IsReason (refused_item (item_in c text media)) (IsRuledOut c text media) reason
+    answer-refused (hub.Room other (room.Publish fault)) reason e p not =
+        inr (ruled-by reason fault (let same : Ok reason ≡ Ok (refusal_of fault) = e in cc) p.1 not)
+    answer-refused (hub.Room other (room.Ask fault)) reason e p not = never reason e
+    answer-refused (hub.Room other (room.Clock fault)) reason e p not = never reason e
+    answer-refused hub.UnknownChannel reason e p not = never reason e
+    answer-refused (hub.WentBack before found) reason e p not = never reason e
+    answer-refused hub.Stranger reason e p not = never reason e
+    answer-refused hub.Short reason e p not = never reason e
+    answer-refused hub.Memory reason e p not = never reason e

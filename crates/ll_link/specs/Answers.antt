@@ -91,10 +91,20 @@ IsOverruled channels says.MediaTooLong reason = ⊥
 abbrev pub IsReason : Option Refusal → (Refusal → Type 0) → Refusal → Type 0
 IsReason before Ruled reason = reason ≢ refusal.Memory → (before ≡ Some reason) ⊎ Ruled reason
 
--- what is answered to an item or a line
 abbrev pub IsAnswer : Option Refusal → (StampedValue ℕ → Type 0) → (Refusal → Type 0) → Result (StampedValue ℕ) Refusal → Type 0
 IsAnswer before Published Ruled (Ok mark) = Published mark
 IsAnswer before Published Ruled (Err reason) = IsReason before Ruled reason
+
+-- what is answered to an item of this text, with these bytes: in the channel at this place, and in that of this name; and to a line
+abbrev pub IsAnswerAt : Configuration → (place : ℕ) → (text media : List ℕ) → Result (StampedValue ℕ) Refusal → Type 0
+IsAnswerAt c place text media answer = IsAnswer (refused_item (item_in c text media)) (IsItemOf c place text media) (IsRuledOut c text media) answer
+
+abbrev pub IsAnswerIn : List Configuration → (name text media : List ℕ) → Result (StampedValue ℕ) Refusal → Type 0
+IsAnswerIn channels name text media answer =
+    IsAnswer (refused_in (channel_of_name channels 0 name) text media) (IsItemIn channels name text media) (IsRuledOutIn channels name text media) answer
+
+abbrev pub IsAnswerTo : List Configuration → says.Line → Result (StampedValue ℕ) Refusal → Type 0
+IsAnswerTo channels line answer = IsAnswer (refused_before channels line) (IsAnnounced channels line) (IsOverruled channels line) answer
 
 -- what is answered to an item that the hub refuses; no refusal of the channel's room ends the connection with Hub
 abbrev pub refused_by : HubFault → Result Refusal LinkFault

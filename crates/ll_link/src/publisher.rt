@@ -7,7 +7,7 @@ ghost use Rattle.ll_item.specs.Items.{item_in};
 ghost use Rattle.ll_publish.specs.Meaning.{meant};
 ghost use Rattle.ll_publish.specs.Refusals.{item_refusal, reply_line};
 ghost use Rattle.ll_item.specs.Channels.{channel_of_name};
-ghost use Rattle.ll_link.specs.Answers.{IsAnnounced, IsAnswer, IsItemIn, IsItemOf, IsOverruled, IsRuledOut, IsRuledOutIn, refused_before, refused_by, refused_in, refused_item};
+ghost use Rattle.ll_link.specs.Answers.{IsAnswerAt, IsAnswerIn, IsAnswerTo, refused_before, refused_by, refused_in};
 ghost use Rattle.ll_link.specs.Faults.{IsOwn, IsTrue};
 ghost use Rattle.ll_link.specs.Publishing.{IsCutOff, IsReplyTo, IsServed};
 ghost use Rattle.ll_link.specs.Reads.{IsReadThrough, IsReadWithin};
@@ -136,7 +136,7 @@ fn publish_line<L: Ledgers, C, G: Gate, K: Sink, R: Wait>(
 ) -> Result<Published, LinkFault>
     ensures own { IsOwn result }
     ensures refused { (reason : Refusal) → refused_before service.now.hub.now (meant line.entry) ≡ Some reason → result ≡ Ok (Err reason) }
-    ensures told { IfOk result (IsAnswer (refused_before service.now.hub.now (meant line.entry)) (IsAnnounced service.now.hub.now (meant line.entry)) (IsOverruled service.now.hub.now (meant line.entry))) }
+    ensures told { IfOk result (IsAnswerTo service.now.hub.now (meant line.entry)) }
 {
     match line {
         Line::Item(name, text, bytes) => match Payload::of_bytes(bytes) {
@@ -160,8 +160,7 @@ fn publish_item<L: Ledgers, C, G: Gate, K: Sink, R: Wait>(
 ) -> Result<Published, LinkFault>
     ensures own { IsOwn result }
     ensures refused { (reason : Refusal) → refused_in (channel_of_name service.now.hub.now 0 name.now) text.now payload.now ≡ Some reason → result ≡ Ok (Err reason) }
-    ensures told { IfOk result (IsAnswer (refused_in (channel_of_name service.now.hub.now 0 name.now) text.now payload.now) (IsItemIn service.now.hub.now name.now text.now payload.now)
-        (IsRuledOutIn service.now.hub.now name.now text.now payload.now)) }
+    ensures told { IfOk result (IsAnswerIn service.now.hub.now name.now text.now payload.now) }
 {
     let Some((channel, settings)) = service.hub.find(name) else {
         return Ok(Err(Refusal::UnknownChannel));
@@ -189,8 +188,7 @@ fn publish_to<L: Ledgers, C, G: Gate, K: Sink, R: Wait>(
     ensures own { IsOwn result }
     ensures refused { (fault : ItemFault) → item_in settings.now text.now payload.now ≡ Err fault → result ≡ Ok (Err (item_refusal fault), None) }
     ensures full { IfOk result (λ told. told.0 ≡ Err Refusal.RecordFull → told.1 ≡ Some channel) }
-    ensures told { IfOk result (λ told. IsAnswer (refused_item (item_in settings.now text.now payload.now)) (IsItemOf settings.now channel text.now payload.now)
-        (IsRuledOut settings.now text.now payload.now) told.0) }
+    ensures told { IfOk result (λ told. IsAnswerAt settings.now channel text.now payload.now told.0) }
 {
     let first = publish_once(service, pass, channel, settings, text, payload)?;
     publish_again(service, pass, channel, settings, text, payload, first)
@@ -207,12 +205,11 @@ fn publish_again<L: Ledgers, C, G: Gate, K: Sink, R: Wait>(
     first: Published,
 ) -> Result<(Published, Option<HandedOut>), LinkFault>
     requires known { slice_get service.now.hub.now channel ≡ Some settings.now }
-    requires told { IsAnswer (refused_item (item_in settings.now text.now payload.now)) (IsItemOf settings.now channel text.now payload.now) (IsRuledOut settings.now text.now payload.now) first }
+    requires told { IsAnswerAt settings.now channel text.now payload.now first }
     ensures own { IsOwn result }
     ensures kept { first ≢ Err Refusal.RecordFull → result ≡ Ok (first, None) }
     ensures full { IfOk result (λ told. told.0 ≡ Err Refusal.RecordFull → told.1 ≡ Some channel) }
-    ensures told { IfOk result (λ told. IsAnswer (refused_item (item_in settings.now text.now payload.now)) (IsItemOf settings.now channel text.now payload.now)
-        (IsRuledOut settings.now text.now payload.now) told.0) }
+    ensures told { IfOk result (λ told. IsAnswerAt settings.now channel text.now payload.now told.0) }
 {
     if !is_full(&first) {
         return Ok((first, None));
@@ -252,7 +249,7 @@ fn publish_once<L: Ledgers, C, G, K, R: Wait>(
     requires known { slice_get service.now.hub.now channel ≡ Some settings.now }
     ensures own { IsOwn result }
     ensures refused { (fault : ItemFault) → item_in settings.now text.now payload.now ≡ Err fault → result ≡ Ok (Err (item_refusal fault)) }
-    ensures told { IfOk result (IsAnswer (refused_item (item_in settings.now text.now payload.now)) (IsItemOf settings.now channel text.now payload.now) (IsRuledOut settings.now text.now payload.now)) }
+    ensures told { IfOk result (IsAnswerAt settings.now channel text.now payload.now) }
 {
     let item = match Item::read(service.alloc, settings, text, payload) {
         Ok(item) => item,

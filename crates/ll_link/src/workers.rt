@@ -24,9 +24,9 @@ use std::{thread, time};
 /// How often a connection is read at most.
 pub(crate) const READS: u64 = 1 << 32;
 
-/// Serves one connection to its end, and tells how many answers it got, or why it was ended. What it held is then closed; a player that
-/// hangs up while a request of it is held is at its end. Where the record of a channel is full, it goes to the sink before the call that
-/// found it so is made once more.
+/// Serves one connection to its end, and tells how many answers it got, or why it was ended. Each line of a publisher is answered by one
+/// line, in their order. What a player held is closed at its end; one that hangs up while a request of it is held is there. Where the
+/// record of a channel is full, it goes to the sink before the call that found it so is made once more.
 pub fn serve_link<L: Ledgers, P: Link, C: Clock, G: Gate, K: Sink, R: Wait + time::Clock>(
     rt: &R,
     alloc: Global,
