@@ -1,5 +1,5 @@
 -- Which releases an item brings, where this was kept of its rendition before it; and a release, where there is one.
-use Rattle.std.specs.Prelude.{◌≡◌, ℕ, List, Bool, true, false, Option, Some, None, length}
+use Rattle.std.specs.Prelude.{◌≡◌, ℕ, List, [], ◌∷◌, Bool, true, false, Option, Some, None, length}
 use Rattle.std.specs.List.{list_any}
 use Rattle.ll_item.specs.declared.item.Item.{Item}
 use Rattle.ll_item.specs.declared.item.Item.TheVariants as item
@@ -7,38 +7,48 @@ use Rattle.ll_window.specs.Compact.{Compact}
 use Rattle.ll_verdict.specs.declared.entry.Slot.{Slot}
 use Rattle.ll_book.specs.Release.{AreThose, HoldersValue, Supply, holders_of, released, takes}
 use Rattle.ll_book.specs.declared.release.Release.{Release}
-use Rattle.ll_book.specs.declared.release.Release.TheVariants.{Part, Segment, All}
+use Rattle.ll_book.specs.declared.next_part.NextPart.{NextPart}
+use Rattle.ll_book.specs.declared.release.Release.TheVariants as release
+use Rattle.ll_item.specs.declared.part.Part.{Part}
+
+-- a finish releases those that await its segment or an earlier one
+abbrev pub finish_release : List Part → ℕ → ℕ → Option Release
+finish_release [] rendition number = None
+finish_release (p ∷ ps) rendition number = Some (release.Segment rendition number)
 
 -- a part releases those that await it or an earlier one, the end all of its rendition
 abbrev pub first_release : Compact → Item → Option Release
-first_release k (item.Part rendition duration independent finish media) = Some (Part rendition k.next_number (length k.open_parts))
-first_release k (item.Break rendition) = None
+first_release k (item.Part part) = Some (release.Part part.rendition k.next_number (length k.open_parts))
+first_release k (item.Finish rendition) = finish_release k.open_parts rendition k.next_number
+first_release k (item.Break rendition time) = None
 first_release k (item.Init rendition media) = None
-first_release k (item.End rendition) = Some (All rendition)
+first_release k (item.End rendition) = Some (release.All rendition)
 first_release k (item.Range rendition id attributes) = None
 first_release k (item.Unrange rendition id) = None
 
 abbrev pub segment_if : Bool → ℕ → ℕ → Option Release
-segment_if true rendition number = Some (Segment rendition number)
+segment_if true rendition number = Some (release.Segment rendition number)
 segment_if false rendition number = None
 
 -- a finishing part also releases those that await its segment or an earlier one
 abbrev pub second_release : Compact → Item → Option Release
-second_release k (item.Part rendition duration independent finish media) = segment_if finish rendition k.next_number
-second_release k (item.Break rendition) = None
+second_release k (item.Part part) = segment_if part.finish part.rendition k.next_number
+second_release k (item.Finish rendition) = None
+second_release k (item.Break rendition time) = None
 second_release k (item.Init rendition media) = None
 second_release k (item.End rendition) = None
 second_release k (item.Range rendition id attributes) = None
 second_release k (item.Unrange rendition id) = None
 
--- the bytes of a part
-abbrev pub part_of : Item → Option (List ℕ)
-part_of (item.Part rendition duration independent finish media) = Some media
-part_of (item.Break rendition) = None
-part_of (item.Init rendition media) = None
-part_of (item.End rendition) = None
-part_of (item.Range rendition id attributes) = None
-part_of (item.Unrange rendition id) = None
+-- the part that an item is, where this was kept before it
+abbrev pub part_of : Compact → Item → Option NextPart
+part_of k (item.Part part) = Some (record { number = k.next_number; index = length k.open_parts; media = part.media })
+part_of k (item.Finish rendition) = None
+part_of k (item.Break rendition time) = None
+part_of k (item.Init rendition media) = None
+part_of k (item.End rendition) = None
+part_of k (item.Range rendition id attributes) = None
+part_of k (item.Unrange rendition id) = None
 
 -- whether a release, where there is one, takes any of these
 abbrev pub takes_any : Option Release → List Slot → Bool

@@ -12,13 +12,13 @@ ghost use Rattle.ll_book.specs.Orders as spec;
 ghost use Rattle.ll_verdict.specs.Waiting.{AreBelow, IsRising, entry_in, found, has_ticket, is_ready, is_ready_at, first_ready, reply_at, ticket_in, without, without_ready};
 
 use crate::holders::{Holders, given};
+use crate::next_part::NextPart;
 use crate::order::Order;
 use crate::place::Place;
 use crate::places::{FIRST, covers, start, time_of, want_of};
 use crate::ready::Ready;
 use crate::release::Release;
 use crate::slots::Slots;
-use ll_item::Media;
 use ll_verdict::{Entry, Settled, Slot};
 use ll_written::Pages;
 use std::alloc::{AllocError, Global};
@@ -251,7 +251,7 @@ impl Book {
         alloc: Global,
         which: Release,
         pages: &mut Pages,
-        part: &Option<Media>,
+        part: &Option<NextPart>,
     ) -> Result<Holders, AllocError>
         ensures holders { IfOk result (λ h. h.holders ≡ holders_of (record { pages = pages.old; part = part.now }) which self.now) }
         ensures looked { IfOk result (λ h. h.looked ≤ length (filter (takes which) self.now) + 1) }
@@ -278,7 +278,7 @@ impl Book {
         alloc: Global,
         ticket: u64,
         pages: &mut Pages,
-        part: &Option<Media>,
+        part: &Option<NextPart>,
         holders: &mut BTreeMap<u64, Settled>,
     ) -> Result<(), AllocError>
         requires { is_some (found ticket self.now) ≡ true }

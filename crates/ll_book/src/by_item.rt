@@ -5,22 +5,26 @@ ghost use Rattle.ll_book.specs.Releases as spec;
 use crate::book::Book;
 use crate::holders::Holders;
 use crate::release::Release;
-use ll_item::{Item, Media};
+use crate::next_part::NextPart;
+use ll_item::Item;
 use ll_window::Window;
 use ll_written::Pages;
 use std::alloc::{AllocError, Global};
 
-/// A part releases those that await it or an earlier one, the end all of its rendition.
+/// A part releases those that await it or an earlier one, a finish those that await its segment or an earlier one, the end all of its rendition.
 pub fn first_release(window: &Window, item: &Item) -> Option<Release>
     ensures { result ≡ spec.first_release window.now item.now }
 {
-    match *item {
-        Item::Part { rendition, .. } => Some(Release::Part(
-            rendition,
+    match item {
+        Item::Part(part) => Some(Release::Part(
+            part.rendition,
             window.next_number(),
             window.open_parts().len() as u64,
         )),
-        Item::End { rendition } => Some(Release::All(rendition)),
+        Item::Finish { rendition } if !window.open_parts().is_empty() => {
+            Some(Release::Segment(*rendition, window.next_number()))
+        }
+        Item::End { rendition } => Some(Release::All(*rendition)),
         _ => None,
     }
 }
@@ -29,22 +33,24 @@ pub fn first_release(window: &Window, item: &Item) -> Option<Release>
 pub fn second_release(window: &Window, item: &Item) -> Option<Release>
     ensures { result ≡ spec.second_release window.now item.now }
 {
-    match *item {
-        Item::Part {
-            rendition,
-            finish: true,
-            ..
-        } => Some(Release::Segment(rendition, window.next_number())),
+    match item {
+        Item::Part(part) if part.finish => {
+            Some(Release::Segment(part.rendition, window.next_number()))
+        }
         _ => None,
     }
 }
 
-/// Another holder of the bytes of a part; none of another item. It fails only where no memory is found.
-pub fn part_of(item: &Item) -> Result<Option<Media>, AllocError>
-    ensures { IfOk result (λ part. part ≡ spec.part_of item.now) }
+/// The part that an item is, with another holder of its bytes; none of another item. It fails only where no memory is found.
+pub fn part_of(window: &Window, item: &Item) -> Result<Option<NextPart>, AllocError>
+    ensures { IfOk result (λ part. part ≡ spec.part_of window.now item.now) }
 {
     match item {
-        Item::Part { media, .. } => Ok(Some(media.again()?)),
+        Item::Part(part) => Ok(Some(NextPart {
+            number: window.next_number(),
+            index: window.open_parts().len() as u64,
+            media: part.media.again()?,
+        })),
         _ => Ok(None),
     }
 }
@@ -55,7 +61,7 @@ pub fn holders_for(
     alloc: Global,
     which: Option<Release>,
     pages: &mut Pages,
-    part: &Option<Media>,
+    part: &Option<NextPart>,
 ) -> Result<Option<Holders>, AllocError>
     ensures holders { IfOk result (λ found. spec.HasHolders (record { pages = pages.old; part = part.now }) which book.now found) }
     ensures pages { pages.new ≡ pages.old }

@@ -1,5 +1,5 @@
 -- What a publisher announces, and the lines that spell it.
-use Rattle.std.specs.Prelude.{ℕ, List, [], ◌∷◌, Bool, true, false, Option, Some, None, Result, Ok, Err, if◌then◌else◌, ◌==◌, length, position, bytes_eq, codes}
+use Rattle.std.specs.Prelude.{ℕ, List, [], ◌∷◌, Bool, true, false, Option, Some, None, Result, Ok, Err, if◌then◌else◌, ◌==◌, nat_le, option_and_then, length, position, bytes_eq, codes}
 use Rattle.ll_attr.specs.Numbers.{number_in}
 use Rattle.ll_attr.specs.Words.{words, joined}
 use Rattle.ll_attr.specs.Attributes.{attributes_in}
@@ -11,42 +11,46 @@ use Rattle.ll_item.specs.Media.{zeros}
 use Rattle.ll_item.specs.Names.{is_name}
 use Rattle.ll_item.specs.Settings.{Configuration}
 use Rattle.ll_item.specs.declared.item.Item.{Item}
-use Rattle.ll_item.specs.declared.item.Item.TheVariants.{Part, Init, Break, End, Range, Unrange}
+use Rattle.ll_item.specs.declared.item.Item.TheVariants.{Part, Init, Finish, Break, End, Range, Unrange}
 use Rattle.ll_item.specs.declared.item.ItemFault.{ItemFault}
 use Rattle.ll_item.specs.declared.item.ItemFault.TheVariants.{BadLine, NoRendition, BadAttribute}
 
 -- the index of the rendition that an item belongs to
 abbrev pub rendition_of : Item → ℕ
-rendition_of (Part rendition duration independent finish media) = rendition
+rendition_of (Part part) = part.rendition
 rendition_of (Init rendition media) = rendition
-rendition_of (Break rendition) = rendition
+rendition_of (Finish rendition) = rendition
+rendition_of (Break rendition time) = rendition
 rendition_of (End rendition) = rendition
 rendition_of (Range rendition id attributes) = rendition
 rendition_of (Unrange rendition id) = rendition
 
 -- the bytes of an item
 abbrev pub media_of : Item → List ℕ
-media_of (Part rendition duration independent finish media) = media
+media_of (Part part) = part.media
 media_of (Init rendition media) = media
-media_of (Break rendition) = []
+media_of (Finish rendition) = []
+media_of (Break rendition time) = []
 media_of (End rendition) = []
 media_of (Range rendition id attributes) = []
 media_of (Unrange rendition id) = []
 
 -- the item with zeros in place of its bytes: what is known of it where only their number is
 abbrev pub blank : Item → Item
-blank (Part rendition duration independent finish media) = Part rendition duration independent finish (zeros (length media))
+blank (Part part) = Part (record part { media = zeros (length part.media) })
 blank (Init rendition media) = Init rendition (zeros (length media))
-blank (Break rendition) = Break rendition
+blank (Finish rendition) = Finish rendition
+blank (Break rendition time) = Break rendition time
 blank (End rendition) = End rendition
 blank (Range rendition id attributes) = Range rendition id attributes
 blank (Unrange rendition id) = Unrange rendition id
 
 -- whether an item adds a date range or takes one away
 abbrev pub is_about_ranges : Item → Bool
-is_about_ranges (Part rendition duration independent finish media) = false
+is_about_ranges (Part part) = false
 is_about_ranges (Init rendition media) = false
-is_about_ranges (Break rendition) = false
+is_about_ranges (Finish rendition) = false
+is_about_ranges (Break rendition time) = false
 is_about_ranges (End rendition) = false
 is_about_ranges (Range rendition id attributes) = true
 is_about_ranges (Unrange rendition id) = true
@@ -55,13 +59,20 @@ is_about_ranges (Unrange rendition id) = true
 abbrev pub rendition_named : Configuration → List ℕ → Option ℕ
 rendition_named c name = position (bytes_eq name) c.renditions
 
--- whether a part is independent, and whether it finishes its segment
+-- the flags of a part: whether it is independent, and whether it finishes its segment
+abbrev pub flags_text : Bool → Bool → List ℕ
+flags_text false false = codes "-"
+flags_text true false = codes "i"
+flags_text false true = codes "f"
+flags_text true true = codes "if"
+
+-- the flags that a text spells
 abbrev pub flags_in : List ℕ → Option (Bool × Bool)
 flags_in text =
-    if bytes_eq text (codes "-") then Some (false, false)
-    else if bytes_eq text (codes "i") then Some (true, false)
-    else if bytes_eq text (codes "f") then Some (false, true)
-    else if bytes_eq text (codes "if") then Some (true, true)
+    if bytes_eq text (flags_text false false) then Some (false, false)
+    else if bytes_eq text (flags_text true false) then Some (true, false)
+    else if bytes_eq text (flags_text false true) then Some (false, true)
+    else if bytes_eq text (flags_text true true) then Some (true, true)
     else None
 
 abbrev pub named_at : Option ℕ → Result ℕ ItemFault
@@ -74,7 +85,8 @@ named c name = if is_name name then named_at (rendition_named c name) else Err B
 
 abbrev pub part_at : Result ℕ ItemFault → ℕ → Bool × Bool → List ℕ → Result Item ItemFault
 part_at (Err fault) duration flags media = Err fault
-part_at (Ok rendition) duration flags media = Ok (Part rendition duration flags.0 flags.1 media)
+part_at (Ok rendition) duration flags media =
+    Ok (Part (record { rendition = rendition; duration = duration; independent = flags.0; finish = flags.1; media = media }))
 
 abbrev pub part_by : Configuration → List ℕ → Option ℕ → Option (Bool × Bool) → List ℕ → Result Item ItemFault
 part_by c name None flags media = Err BadLine
@@ -95,9 +107,31 @@ abbrev pub init_at : Result ℕ ItemFault → List ℕ → Result Item ItemFault
 init_at (Err fault) media = Err fault
 init_at (Ok rendition) media = Ok (Init rendition media)
 
-abbrev pub break_at : Result ℕ ItemFault → Result Item ItemFault
-break_at (Err fault) = Err fault
-break_at (Ok rendition) = Ok (Break rendition)
+abbrev pub finish_at : Result ℕ ItemFault → Result Item ItemFault
+finish_at (Err fault) = Err fault
+finish_at (Ok rendition) = Ok (Finish rendition)
+
+abbrev pub break_at : Result ℕ ItemFault → Option ℕ → Result Item ItemFault
+break_at (Err fault) time = Err fault
+break_at (Ok rendition) time = Ok (Break rendition time)
+
+-- the last millisecond of the year 9999
+abbrev pub last_milli : ℕ
+last_milli = 253402300799999
+
+-- milliseconds since 1970, in 1 to 15 digits, up to the year 9999
+abbrev pub time_in : List ℕ → Option ℕ
+time_in text = option_and_then (λ ms. if nat_le ms last_milli then Some ms else None) (number_in 15 text)
+
+abbrev pub timed_break : Configuration → List ℕ → Option ℕ → Result Item ItemFault
+timed_break c name None = Err BadLine
+timed_break c name (Some ms) = break_at (named c name) (Some ms)
+
+-- `RENDITION`, or `RENDITION MILLISECONDS`
+abbrev pub break_in : Configuration → List (List ℕ) → Result Item ItemFault
+break_in c (name ∷ []) = break_at (named c name) None
+break_in c (name ∷ time ∷ []) = timed_break c name (time_in time)
+break_in c other = Err BadLine
 
 abbrev pub end_at : Result ℕ ItemFault → Result Item ItemFault
 end_at (Err fault) = Err fault
@@ -132,10 +166,11 @@ abbrev pub unrange_in : Configuration → List (List ℕ) → Result Item ItemFa
 unrange_in c (name ∷ first ∷ more) = unrange_at (named c name) (joined (first ∷ more))
 unrange_in c other = Err BadLine
 
--- `break RENDITION`, `range RENDITION LIST`, `unrange RENDITION ID` or `end RENDITION`: these have no bytes
+-- `break RENDITION`, `break RENDITION MILLISECONDS`, `finish RENDITION`, `range RENDITION LIST`, `unrange RENDITION ID` or `end RENDITION`: these have no bytes
 abbrev pub bare_of : Configuration → List ℕ → List (List ℕ) → Result Item ItemFault
 bare_of c kind rest =
-    if bytes_eq kind (codes "break") then break_at (alone_in c rest)
+    if bytes_eq kind (codes "break") then break_in c rest
+    else if bytes_eq kind (codes "finish") then finish_at (alone_in c rest)
     else if bytes_eq kind (codes "range") then range_in c rest
     else if bytes_eq kind (codes "unrange") then unrange_in c rest
     else if bytes_eq kind (codes "end") then end_at (alone_in c rest)

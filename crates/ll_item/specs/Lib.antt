@@ -3,6 +3,7 @@ pub mod ChannelPlaces
 pub mod Channels
 pub mod Configured
 pub mod Contents
+pub mod ItemLines
 pub mod Items
 pub mod Media
 pub mod Names

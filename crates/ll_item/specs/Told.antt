@@ -1,8 +1,9 @@
 -- What the items of one rendition tell, one after another.
-use Rattle.std.specs.Prelude.{ℕ, ◌+◌, List, [], ◌∷◌, ◌++◌, Bool, true, false, not, fold, filter, bytes_eq}
+use Rattle.std.specs.Prelude.{ℕ, Option, Some, None, ◌+◌, List, [], ◌∷◌, ◌++◌, Bool, true, false, not, fold, filter, bytes_eq}
 use Rattle.ll_attr.specs.Attributes.{spelling}
 use Rattle.ll_item.specs.declared.item.Item.{Item}
 use Rattle.ll_item.specs.declared.item.Item.TheVariants as item
+use Rattle.ll_item.specs.declared.item.PartItem.{PartItem}
 use Rattle.ll_item.specs.declared.part.Part.{Part}
 
 -- a date range that is listed (section 4.4.5.1)
@@ -23,6 +24,8 @@ pub record Told : Type 0 where
   pub parts : List Part
   -- whether a break stands after the last part
   pub pending : Bool
+  -- the time that the last timed break after the last part sets, where there is one: milliseconds
+  pub restart : Option ℕ
   -- whether the rendition has ended (section 4.4.3.4)
   pub ended : Bool
   -- how long all parts last, in microseconds
@@ -40,19 +43,41 @@ others id ranges = filter (λ (range : Listed). not (bytes_eq id range.id)) rang
 abbrev pub other_removals : List ℕ → List Removal → List Removal
 other_removals id removals = filter (λ (removal : Removal). not (bytes_eq id removal.id)) removals
 
+-- a part as its rendition keeps it: whether a break stands before it, and the time that one sets
+abbrev pub kept_part : Bool → Option ℕ → PartItem → Part
+kept_part after_break restart part = record {
+  duration = part.duration;
+  independent = part.independent;
+  finish = part.finish;
+  after_break = after_break;
+  restart = restart;
+}
+
+-- the last of these parts finishes its segment
+abbrev pub finished_last : List Part → List Part
+finished_last [] = []
+finished_last (p ∷ []) = (record p { finish = true }) ∷ []
+finished_last (p ∷ q ∷ more) = p ∷ finished_last (q ∷ more)
+
+abbrev pub first_of : Option ℕ → Option ℕ → Option ℕ
+first_of (Some ms) before = Some ms
+first_of None before = before
+
 -- before the first item
 abbrev pub start : Told
-start = record { parts = []; pending = false; ended = false; end_time = 0; listed = []; removals = [] }
+start = record { parts = []; pending = false; restart = None; ended = false; end_time = 0; listed = []; removals = [] }
 
 -- one more item
 abbrev pub step : Told → Item → Told
-step t (item.Part rendition duration independent finish media) = record t {
-  parts = t.parts ++ (record { duration = duration; independent = independent; finish = finish; after_break = t.pending }) ∷ [];
+step t (item.Part part) = record t {
+  parts = t.parts ++ kept_part t.pending t.restart part ∷ [];
   pending = false;
-  end_time = t.end_time + duration;
+  restart = None;
+  end_time = t.end_time + part.duration;
 }
 step t (item.Init rendition media) = t
-step t (item.Break rendition) = record t { pending = true }
+step t (item.Finish rendition) = record t { parts = finished_last t.parts }
+step t (item.Break rendition time) = record t { pending = true; restart = first_of time t.restart }
 step t (item.End rendition) = record t { ended = true }
 step t (item.Range rendition id attributes) = record t { listed = t.listed ++ (record { id = id; attributes = spelling attributes; added = t.end_time }) ∷ [] }
 step t (item.Unrange rendition id) = record t {

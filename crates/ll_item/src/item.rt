@@ -10,19 +10,8 @@ use thiserror::Error;
 /// What a publisher announces.
 #[derive(Drop)]
 pub enum Item {
-    /// The next part of a rendition (EXT-X-PART, section 4.4.4.9).
-    Part {
-        /// The rendition's index in the order of the settings.
-        rendition: usize,
-        /// Microseconds (DURATION).
-        duration: u64,
-        /// Whether it can be played without a part before it (INDEPENDENT).
-        independent: bool,
-        /// Whether it is the last part of its segment.
-        finish: bool,
-        /// Its bytes.
-        media: Media,
-    },
+    /// The next Partial Segment of a rendition (EXT-X-PART, section 4.4.4.9).
+    Part(PartItem),
     /// The Media Initialization Section of the segment that the next part belongs to, and of those after it until the next break
     /// (EXT-X-MAP, section 4.4.4.5).
     Init {
@@ -31,11 +20,19 @@ pub enum Item {
         /// Its bytes.
         media: Media,
     },
+    /// The open segment ends with the part that was announced last.
+    Finish {
+        /// The rendition's index in the order of the settings.
+        rendition: usize,
+    },
     /// What follows is encoded otherwise than what came before: the next segment is broken from the last one
     /// (EXT-X-DISCONTINUITY, section 4.4.4.3).
     Break {
         /// The rendition's index in the order of the settings.
         rendition: usize,
+        /// When the next segment begins, if the break sets that: milliseconds since 1970-01-01T00:00:00Z (EXT-X-PROGRAM-DATE-TIME,
+        /// section 4.4.4.6).
+        time: Option<u64>,
     },
     /// The rendition has no more parts (EXT-X-ENDLIST, section 4.4.3.4). It finishes an open segment.
     End {
@@ -58,6 +55,36 @@ pub enum Item {
         /// What names the date range (ID).
         id: Text,
     },
+}
+
+/// A Partial Segment as it is announced (EXT-X-PART, section 4.4.4.9).
+#[derive(Drop)]
+pub struct PartItem {
+    /// The rendition's index in the order of the settings.
+    pub rendition: usize,
+    /// Microseconds (DURATION).
+    pub duration: u64,
+    /// Whether it can be played without a part before it (INDEPENDENT).
+    pub independent: bool,
+    /// Whether it is the last part of its segment.
+    pub finish: bool,
+    /// Its bytes.
+    pub media: Media,
+}
+
+impl PartItem {
+    /// Returns a part equal to this one, which shares its bytes.
+    pub fn copy(&self) -> Result<PartItem, AllocError>
+        ensures { IfOk result (λ part. part ≡ self.now) }
+    {
+        Ok(PartItem {
+            rendition: self.rendition,
+            duration: self.duration,
+            independent: self.independent,
+            finish: self.finish,
+            media: self.media.again()?,
+        })
+    }
 }
 
 /// Why a line is no item.
@@ -93,9 +120,10 @@ impl Item {
         ensures { result ≡ rendition_of self.now }
     {
         match self {
-            Item::Part { rendition, .. }
-            | Item::Init { rendition, .. }
-            | Item::Break { rendition }
+            Item::Part(part) => part.rendition,
+            Item::Init { rendition, .. }
+            | Item::Finish { rendition }
+            | Item::Break { rendition, .. }
             | Item::End { rendition }
             | Item::Range { rendition, .. }
             | Item::Unrange { rendition, .. } => *rendition,
@@ -114,25 +142,17 @@ impl Item {
         ensures { IfOk result (λ item. item ≡ self.now) }
     {
         Ok(match self {
-            Item::Part {
-                rendition,
-                duration,
-                independent,
-                finish,
-                media,
-            } => Item::Part {
-                rendition: *rendition,
-                duration: *duration,
-                independent: *independent,
-                finish: *finish,
-                media: media.again()?,
-            },
+            Item::Part(part) => Item::Part(part.copy()?),
             Item::Init { rendition, media } => Item::Init {
                 rendition: *rendition,
                 media: media.again()?,
             },
-            Item::Break { rendition } => Item::Break {
+            Item::Finish { rendition } => Item::Finish {
                 rendition: *rendition,
+            },
+            Item::Break { rendition, time } => Item::Break {
+                rendition: *rendition,
+                time: *time,
             },
             Item::End { rendition } => Item::End {
                 rendition: *rendition,

@@ -6,7 +6,7 @@ ghost use Rattle.ll_item.specs.Settings.{Configuration};
 ghost use Rattle.ll_item.specs.Items.{item_in, part_in, alone_in, flags_in, range_in, unrange_in};
 ghost use Rattle.ll_item.specs.Items as spec;
 
-use crate::item::{Item, ItemFault};
+use crate::item::{Item, ItemFault, PartItem};
 use crate::media::{Media, Payload};
 use crate::name::is_name;
 use crate::settings::Settings;
@@ -14,12 +14,24 @@ use crate::words::one_word;
 use ll_attr::{AttrFault, AttrList, AttrValue, Attribute, Text, after, cut, parse_number};
 use std::alloc::Global;
 
+/// The last millisecond of the year 9999, from 1970 on.
+const LAST_MILLI: u64 = 253_402_300_799_999;
+
 impl Item {
-    /// The item that a line spells which has these bytes: `part RENDITION MICROSECONDS FLAGS`, where the flags are `-` for none, `i` for independent,
-    /// `f` for finishing its segment, or `if` for both; `init RENDITION`; `break RENDITION`; `range RENDITION LIST`, where the list is the rest
-    /// of the line, an attribute list that begins with a quoted ID (section 4.4.5.1); `unrange RENDITION ID`, where the ID is
-    /// the rest of the line; or `end RENDITION`. Or why there is none: the line is of none of these forms, or of one that has
-    /// no bytes and these are some, the channel has no such rendition, or the list is no such list. Memory that isn't found comes after all other faults.
+    /// Reads the item that `line` spells and that has the bytes of `payload`. The line is one of
+    ///
+    /// - `part RENDITION MICROSECONDS FLAGS`; the flags are `-` for none, `i` for independent, `f` for finishing its segment, or `if`;
+    /// - `init RENDITION`;
+    /// - `finish RENDITION`;
+    /// - `break RENDITION`, or `break RENDITION MILLISECONDS`, at most the last of the year 9999;
+    /// - `range RENDITION LIST`: the list is the rest of the line, an attribute list that begins with a quoted ID (section 4.4.5.1);
+    /// - `unrange RENDITION ID`: the ID is the rest of the line;
+    /// - `end RENDITION`.
+    ///
+    /// # Errors
+    ///
+    /// `BadLine` if the line has none of these forms, or one of those without bytes although there are some; `NoRendition` if the channel
+    /// has no rendition of that name; `BadAttribute` if the list is no such list; and, if none of these, `Memory`.
     pub fn read(
         alloc: Global,
         settings: &Settings,
@@ -52,8 +64,10 @@ fn read_bare(alloc: Global, settings: &Settings, kind: &str, rest: &str) -> Resu
     ensures memory { IsErrOf result ItemFault.Memory → IsOk (spec.bare_of settings.now kind.now (words rest.now)) }
 {
     if kind == "break" {
+        read_break(settings, rest)
+    } else if kind == "finish" {
         let rendition = read_alone(settings, rest)?;
-        Ok(Item::Break { rendition })
+        Ok(Item::Finish { rendition })
     } else if kind == "range" {
         read_range(alloc, settings, rest)
     } else if kind == "unrange" {
@@ -63,6 +77,41 @@ fn read_bare(alloc: Global, settings: &Settings, kind: &str, rest: &str) -> Resu
         Ok(Item::End { rendition })
     } else {
         Err(ItemFault::BadLine)
+    }
+}
+
+/// Reads a break of the rendition that the first word of `text` names; a second word is its time.
+fn read_break(settings: &Settings, text: &str) -> Result<Item, ItemFault>
+    ensures value { result ≡ spec.break_in settings.now (words text.now) }
+    ensures not_memory { IfErr result (λ fault. fault ≢ ItemFault.Memory) }
+{
+    let Some((name, time)) = cut(text, ' ') else {
+        let rendition = named(settings, text)?;
+        return Ok(Item::Break {
+            rendition,
+            time: None,
+        });
+    };
+    let Some(time) = one_word(time) else {
+        return Err(ItemFault::BadLine);
+    };
+    let Some(time) = break_time(time) else {
+        return Err(ItemFault::BadLine);
+    };
+    let rendition = named(settings, name)?;
+    Ok(Item::Break {
+        rendition,
+        time: Some(time),
+    })
+}
+
+/// Reads the time of a break, in milliseconds.
+fn break_time(text: &str) -> Option<u64>
+    ensures { result ≡ spec.time_in text.now }
+{
+    match parse_number(text, 15) {
+        Some(ms) if ms <= LAST_MILLI => Some(ms),
+        _ => None,
     }
 }
 
@@ -87,13 +136,13 @@ fn read_part(
         return Err(ItemFault::BadLine);
     };
     let rendition = named(settings, name)?;
-    Ok(Item::Part {
+    Ok(Item::Part(PartItem {
         rendition,
         duration,
         independent,
         finish,
         media: Media::new(alloc, payload)?,
-    })
+    }))
 }
 
 /// The initialization section whose rendition's name is this text.

@@ -6,6 +6,7 @@ mod channels;
 mod item;
 mod item_bytes;
 mod item_line;
+mod item_text;
 mod limits;
 mod media;
 mod name;
@@ -18,8 +19,9 @@ mod what;
 mod words;
 
 pub use channels::Channels;
-pub use item::{Item, ItemFault};
+pub use item::{Item, ItemFault, PartItem};
 pub use item_bytes::{announced, cut_last, lacks_length, told_bytes};
+pub use item_text::ItemLine;
 pub use limits::limits_law;
 pub use media::{MEDIA_LIMIT, Media, Payload};
 pub use name::is_name;

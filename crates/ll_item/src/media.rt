@@ -1,6 +1,6 @@
 //! The bytes of items.
 ghost use Rattle.std.specs.Prelude.{◌≡◌, ◌≤◌, ◌==◌, IfOk, IfSome, MatchOption, [], false, length, nat_le, true};
-ghost use Rattle.ll_item.specs.Media.{media_limit, zeros};
+ghost use Rattle.ll_item.specs.Media.{IsNumberAlone, media_limit, zeros};
 
 use crate::shared_bytes::SharedBytes;
 use std::alloc::{AllocError, Global};
@@ -144,9 +144,9 @@ impl Media {
         }
     }
 
-    /// The bytes, unless they are zeros that stand for others.
+    /// Returns the bytes, or `None` if only their number is known.
     pub fn bytes(&self) -> Option<&[u8]>
-        ensures { IfSome result (λ bytes. bytes.now ≡ self.now) }
+        ensures { MatchOption result (IsNumberAlone self.now) (λ bytes. bytes.now ≡ self.now) }
     {
         match &self.kept {
             Kept::Shared(bytes) => Some(bytes.as_slice()),
@@ -155,10 +155,9 @@ impl Media {
         }
     }
 
-    /// The block that these bytes stand in, which has one more holder then; none where they are zeros that stand for others. It fails only where
-    /// no memory is found.
+    /// Returns the block in which the bytes stand, which has one more holder then, or `None` if only their number is known.
     pub fn block(&self) -> Result<Option<SharedBytes>, AllocError>
-        ensures { IfOk result (λ found. IfSome found (λ block. block ≡ self.now)) }
+        ensures { IfOk result (λ found. MatchOption found (IsNumberAlone self.now) (λ block. block ≡ self.now)) }
     {
         match &self.kept {
             Kept::Shared(bytes) => Ok(Some(bytes.again()?)),

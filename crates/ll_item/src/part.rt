@@ -9,4 +9,6 @@ pub struct Part {
     pub finish: bool,
     /// Whether a break stands between the part before it and this one (EXT-X-DISCONTINUITY, section 4.4.4.3).
     pub after_break: bool,
+    /// The time that a break before it sets, where one does: milliseconds since 1970-01-01T00:00:00Z.
+    pub restart: Option<u64>,
 }

@@ -75,8 +75,9 @@ pub record IsInOrder (t : Told) : Type 0 where
   pub before : AreBefore t.end_time t.listed
 
 in_order_step : (t : Told) (i : Item) → IsInOrder t → IsInOrder (step t i)
-in_order_step t (item.Part r d b f media) h = record { listed = h.listed; before = before-later t.end_time (t.end_time + d) t.listed (omega arith) h.before }
-in_order_step t (item.Break r) h = record { listed = h.listed; before = h.before }
+in_order_step t (item.Part part) h = record { listed = h.listed; before = before-later t.end_time (t.end_time + part.duration) t.listed (omega arith) h.before }
+in_order_step t (item.Finish r) h = record { listed = h.listed; before = h.before }
+in_order_step t (item.Break r time) h = record { listed = h.listed; before = h.before }
 in_order_step t (item.Init r media) h = record { listed = h.listed; before = h.before }
 in_order_step t (item.End r) h = record { listed = h.listed; before = h.before }
 in_order_step t (item.Range r id attributes) h =

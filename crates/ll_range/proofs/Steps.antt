@@ -74,8 +74,9 @@ passed_by c t now le =
     ap (λ rs. (let a : Announced = record { limit = skip_limit c; listed = t.listed; recent = rs } in a)) (recent_again (skip_limit c) now t.end_time t.removals le)
 
 time_passed : (c : Configuration) (t : Told) (i : Item) → is_about_ranges i ≡ false → at_time (step t i).end_time (announced_of c t) ≡ announced_of c (step t i)
-time_passed c t (item.Part r d b f media) e = passed_by c t (step t (item.Part r d b f media)).end_time (omega arith)
-time_passed c t (item.Break r) e = passed_by c t t.end_time (omega arith)
+time_passed c t (item.Part part) e = passed_by c t (step t (item.Part part)).end_time (omega arith)
+time_passed c t (item.Finish r) e = passed_by c t t.end_time (omega arith)
+time_passed c t (item.Break r time) e = passed_by c t t.end_time (omega arith)
 time_passed c t (item.Init r media) e = passed_by c t t.end_time (omega arith)
 time_passed c t (item.End r) e = passed_by c t t.end_time (omega arith)
 time_passed c t (item.Range r id attributes) e = absurd (cc)

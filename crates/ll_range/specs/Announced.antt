@@ -75,8 +75,9 @@ remove_refusal id a = if is_listed id a then None else Some IdUnknown
 abbrev pub refusal_after : ℕ → Announced → Item → Option RangeFault
 refusal_after now a (item.Range rendition id attributes) = add_refusal now id attributes a
 refusal_after now a (item.Unrange rendition id) = remove_refusal id a
-refusal_after now a (item.Part rendition duration independent finish media) = None
-refusal_after now a (item.Break rendition) = None
+refusal_after now a (item.Part part) = None
+refusal_after now a (item.Finish rendition) = None
+refusal_after now a (item.Break rendition time) = None
 refusal_after now a (item.Init rendition media) = None
 refusal_after now a (item.End rendition) = None
 

@@ -1,6 +1,7 @@
 //! What adds date ranges and takes them away.
 ghost use Rattle.std.specs.Prelude.{◌≡◌, ◌≢◌, ◌+◌, ◌++◌, ◌∷◌, [], List, ℕ, IfErr, MatchResult, OnOk, OnErr, IsErrOf, None, Some, false, filter, map, nat_le, bytes_eq};
 ghost use Rattle.std.specs.List.{list_any};
+ghost use Rattle.std.specs.Option.{option_map};
 ghost use Rattle.ll_item.specs.Items.{is_about_ranges};
 ghost use Rattle.ll_item.specs.Settings.{Configuration};
 ghost use Rattle.ll_item.specs.declared.item.Item.{Item};
@@ -8,16 +9,17 @@ ghost use Rattle.ll_item.specs.declared.item.Item.TheVariants as item;
 ghost use Rattle.ll_range.specs.Announced as spec;
 ghost use Rattle.ll_range.specs.Announced.{announced, refusal, add_refusal, remove_refusal, is_listed, was_removed};
 ghost use Rattle.ll_range.specs.Kept.{listed_at, removal_at, with_range, without_range, at_time};
+ghost use Rattle.ll_range.specs.declared.ranges.RangeError.TheVariants as error;
 ghost use Rattle.ll_item.specs.Told.{end_time, Listed, others, other_removals};
 
 use crate::attributes::{are_allowed, is_id};
-use crate::ranges::{RangeEntry, RangeFault, Ranges};
+use crate::ranges::{RangeEntry, RangeError, RangeFault, Ranges};
 use indexmap::IndexMap;
 use ll_attr::{AttrList, Text};
 use std::alloc::AllocError;
 
 impl Ranges {
-    /// What `add` would answer but for memory; nothing changes.
+    /// Returns the rule by which `add` would refuse this date range.
     pub fn test_add(&self, end: u64, id: &str, attributes: &AttrList) -> Result<(), RangeFault>
         ensures { MatchResult result (λ u. add_refusal end id.now attributes.now self.now ≡ None) (λ f. add_refusal end id.now attributes.now self.now ≡ Some f) }
     {
@@ -30,7 +32,7 @@ impl Ranges {
         }
     }
 
-    /// What `remove` would answer but for memory; nothing changes.
+    /// Returns the rule by which `remove` would refuse this id.
     pub fn test_remove(&self, id: &str) -> Result<(), RangeFault>
         ensures { MatchResult result (λ u. remove_refusal id.now self.now ≡ None) (λ f. remove_refusal id.now self.now ≡ Some f) }
     {
@@ -58,42 +60,45 @@ impl Ranges {
         }
     }
 
-    /// Adds a date range, where all parts of the rendition last so long until now (microseconds); or answers the first rule
-    /// that refuses it, or that no memory was found; nothing changes then (section 4.4.5.1).
-    pub fn add(&mut self, end: u64, id: Text, attributes: AttrList) -> Result<(), RangeFault>
+    /// Adds a date range when all parts of the rendition last `end` microseconds, or returns the first rule that refuses it, or
+    /// that memory ran out, and changes nothing then (section 4.4.5.1).
+    pub fn add(&mut self, end: u64, id: Text, attributes: AttrList) -> Result<(), RangeError>
         ensures accepted { (c : Configuration) (items : List Item) (rendition : ℕ) → self.old ≡ announced c items → end ≡ end_time items
             → OnOk result ((refusal c items (item.Range rendition id attributes) ≡ None)
             × (self.new ≡ announced c (items ++ item.Range rendition id attributes ∷ []))) }
         ensures refused { (c : Configuration) (items : List Item) (rendition : ℕ) → self.old ≡ announced c items → end ≡ end_time items
-            → IfErr result (λ f. f ≢ RangeFault.Memory → refusal c items (item.Range rendition id attributes) ≡ Some f) }
+            → IfErr result (λ e. e ≢ RangeError.Memory → option_map error.Refused (refusal c items (item.Range rendition id attributes)) ≡ Some e) }
         ensures memory { (c : Configuration) (items : List Item) (rendition : ℕ) → self.old ≡ announced c items → end ≡ end_time items
-            → IsErrOf result RangeFault.Memory → refusal c items (item.Range rendition id attributes) ≡ None }
+            → IsErrOf result RangeError.Memory → refusal c items (item.Range rendition id attributes) ≡ None }
         ensures unchanged { OnErr result (self.new ≡ self.old) }
     {
-        self.test_add(end, id.as_str(), &attributes)?;
+        if let Err(fault) = self.test_add(end, id.as_str(), &attributes) {
+            return Err(RangeError::Refused(fault));
+        }
         match self.list(end, id.as_str(), &attributes) {
             Ok(()) => Ok(()),
-            Err(AllocError) => Err(RangeFault::Memory),
+            Err(AllocError) => Err(RangeError::Memory),
         }
     }
 
-    /// Takes the date range of this id away, where all parts of the rendition last so long until now (microseconds); or
-    /// answers that none is listed, or that no memory was found for what is kept of the removal; nothing changes then
-    /// (section 4.4.5.2).
-    pub fn remove(&mut self, end: u64, id: &str) -> Result<(), RangeFault>
+    /// Takes the date range of this `id` away when all parts of the rendition last `end` microseconds, or returns that none is
+    /// listed, or that memory ran out for what is kept of the removal, and changes nothing then (section 4.4.5.2).
+    pub fn remove(&mut self, end: u64, id: &str) -> Result<(), RangeError>
         ensures accepted { (c : Configuration) (items : List Item) (rendition : ℕ) → self.old ≡ announced c items → end ≡ end_time items
             → OnOk result ((refusal c items (item.Unrange rendition id.now) ≡ None)
             × (self.new ≡ announced c (items ++ item.Unrange rendition id.now ∷ []))) }
         ensures refused { (c : Configuration) (items : List Item) (rendition : ℕ) → self.old ≡ announced c items → end ≡ end_time items
-            → IfErr result (λ f. f ≢ RangeFault.Memory → refusal c items (item.Unrange rendition id.now) ≡ Some f) }
+            → IfErr result (λ e. e ≢ RangeError.Memory → option_map error.Refused (refusal c items (item.Unrange rendition id.now)) ≡ Some e) }
         ensures memory { (c : Configuration) (items : List Item) (rendition : ℕ) → self.old ≡ announced c items → end ≡ end_time items
-            → IsErrOf result RangeFault.Memory → refusal c items (item.Unrange rendition id.now) ≡ None }
+            → IsErrOf result RangeError.Memory → refusal c items (item.Unrange rendition id.now) ≡ None }
         ensures unchanged { OnErr result (self.new ≡ self.old) }
     {
-        self.test_remove(id)?;
+        if let Err(fault) = self.test_remove(id) {
+            return Err(RangeError::Refused(fault));
+        }
         match self.unlist(end, id) {
             Ok(()) => Ok(()),
-            Err(AllocError) => Err(RangeFault::Memory),
+            Err(AllocError) => Err(RangeError::Memory),
         }
     }
 

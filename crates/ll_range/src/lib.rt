@@ -8,4 +8,4 @@ mod laws;
 mod ranges;
 
 pub use laws::skipped_law;
-pub use ranges::{DateRange, RangeFault, Ranges};
+pub use ranges::{DateRange, RangeError, RangeFault, Ranges};

@@ -9,8 +9,7 @@ use std::alloc::{AllocError, Global};
 use std::marker::Model;
 use thiserror::Error;
 
-/// Why a date range is not added or not taken away: the first rule that refuses it, in this order. Memory is answered
-/// only where no rule refuses it.
+/// The first rule by which a date range is not added or not taken away, in this order.
 #[derive(Clone, Copy, Debug, PartialEq, Eq, Error)]
 pub enum RangeFault {
     /// A date range of this id is listed, or was taken away lately (section 4.4.5.2).
@@ -23,7 +22,15 @@ pub enum RangeFault {
     /// No date range of this id is listed.
     #[error("IdUnknown")]
     IdUnknown,
-    /// No memory was found.
+}
+
+/// Why a date range is not added or not taken away.
+#[derive(Clone, Copy, Debug, PartialEq, Eq, Error)]
+pub enum RangeError {
+    /// A rule refuses it.
+    #[error("{0}")]
+    Refused(RangeFault),
+    /// No rule refuses it, and memory ran out.
     #[error("Memory")]
     Memory,
 }

@@ -3,8 +3,8 @@ use Rattle.std.specs.Prelude.{List, Option, Some, None, option_map}
 use Rattle.ll_item.specs.Settings.{Configuration}
 use Rattle.ll_item.specs.declared.item.Item.{Item}
 use Rattle.ll_window.specs.Refusal as window
-use Rattle.ll_window.specs.declared.window.PushFault.{PushFault}
-use Rattle.ll_window.specs.declared.window.PushFault.TheVariants as push
+use Rattle.ll_window.specs.declared.fault.PushFault.{PushFault}
+use Rattle.ll_window.specs.declared.fault.PushFault.TheVariants as push
 use Rattle.ll_range.specs.Announced as range
 use Rattle.ll_range.specs.declared.ranges.RangeFault.{RangeFault}
 use Rattle.ll_range.specs.declared.ranges.RangeFault.TheVariants as range_fault
@@ -18,16 +18,16 @@ of_push push.Ended = fault.Ended
 of_push push.BadDuration = fault.BadDuration
 of_push push.TooLong = fault.TooLong
 of_push push.OpenSegment = fault.OpenSegment
+of_push push.NoSegment = fault.NoSegment
 of_push push.CountEnd = fault.CountEnd
 of_push push.TimeEnd = fault.TimeEnd
-of_push push.Memory = fault.Memory
+of_push push.TimeBack = fault.TimeBack
 
 -- what date ranges refuse, by its name in a channel
 abbrev pub of_range : RangeFault → PublishFault
 of_range range_fault.IdTaken = fault.IdTaken
 of_range range_fault.BadAttribute = fault.BadAttribute
 of_range range_fault.IdUnknown = fault.IdUnknown
-of_range range_fault.Memory = fault.Memory
 
 abbrev pub first_refusal : Option PublishFault → Option PublishFault → Option PublishFault
 first_refusal (Some reason) later = Some reason

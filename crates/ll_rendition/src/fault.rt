@@ -19,12 +19,18 @@ pub enum PublishFault {
     /// A break inside a segment.
     #[error("OpenSegment")]
     OpenSegment,
+    /// A finish if the rendition has no open segment.
+    #[error("NoSegment")]
+    NoSegment,
     /// A part of a segment whose media sequence number is past 2^60.
     #[error("CountEnd")]
     CountEnd,
-    /// A part that ends past the year 9999.
+    /// A part that ends past the year 9999, or a break that sets a time past it.
     #[error("TimeEnd")]
     TimeEnd,
+    /// A break that sets a time before the one at which the next part would begin without it.
+    #[error("TimeBack")]
+    TimeBack,
     /// A date range whose ID is listed or was recently removed.
     #[error("IdTaken")]
     IdTaken,

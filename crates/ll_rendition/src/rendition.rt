@@ -82,7 +82,11 @@ impl Rendition {
         match item {
             Item::Range { id, attributes, .. } => self.ranges.list(end, id.as_str(), attributes),
             Item::Unrange { id, .. } => self.ranges.unlist(end, id.as_str()),
-            Item::Part { .. } | Item::Init { .. } | Item::Break { .. } | Item::End { .. } => Ok(()),
+            Item::Part(_)
+            | Item::Init { .. }
+            | Item::Finish { .. }
+            | Item::Break { .. }
+            | Item::End { .. } => Ok(()),
         }
     }
 
@@ -106,11 +110,13 @@ fn test_ranges(end: u64, ranges: &Ranges, item: &Item) -> Result<(), RangeFault>
     match item {
         Item::Range { id, attributes, .. } => ranges.test_add(end, id.as_str(), attributes),
         Item::Unrange { id, .. } => ranges.test_remove(id.as_str()),
-        Item::Part { .. } | Item::Init { .. } | Item::Break { .. } | Item::End { .. } => Ok(()),
+        Item::Part(_)
+        | Item::Init { .. }
+        | Item::Finish { .. }
+        | Item::Break { .. }
+        | Item::End { .. } => Ok(()),
     }
 }
-
-// A test answers no Memory. The fault of either crate has it for the calls that take an item in at once, and so it has its name here.
 
 /// What a window refuses, by its name in a channel.
 fn push_fault(fault: PushFault) -> PublishFault
@@ -121,9 +127,10 @@ fn push_fault(fault: PushFault) -> PublishFault
         PushFault::BadDuration => PublishFault::BadDuration,
         PushFault::TooLong => PublishFault::TooLong,
         PushFault::OpenSegment => PublishFault::OpenSegment,
+        PushFault::NoSegment => PublishFault::NoSegment,
         PushFault::CountEnd => PublishFault::CountEnd,
         PushFault::TimeEnd => PublishFault::TimeEnd,
-        PushFault::Memory => PublishFault::Memory,
+        PushFault::TimeBack => PublishFault::TimeBack,
     }
 }
 
@@ -135,6 +142,5 @@ fn range_fault(fault: RangeFault) -> PublishFault
         RangeFault::IdTaken => PublishFault::IdTaken,
         RangeFault::BadAttribute => PublishFault::BadAttribute,
         RangeFault::IdUnknown => PublishFault::IdUnknown,
-        RangeFault::Memory => PublishFault::Memory,
     }
 }

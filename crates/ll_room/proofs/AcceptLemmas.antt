@@ -1,5 +1,5 @@
 -- A room that takes one more item stands for its events and that one.
-use Rattle.std.proofs.Common.{◌≡◌, ℕ, zero, suc, ◌+◌, ◌≤◌, List, [], ◌∷◌, ◌++◌, Bool, true, false, cond, nat_lt, Option, Some, None, is_none, refl, ap, ap₂, sym, ◌∙◌, true≢false, filter, map, length, length-append, append-nil, arith}
+use Rattle.std.proofs.Common.{◌≡◌, ℕ, zero, suc, ◌+◌, ◌≤◌, ◌<◌, List, [], ◌∷◌, ◌++◌, Bool, true, false, cond, nat_lt, Option, Some, None, is_none, refl, ap, ap₂, sym, ◌∙◌, true≢false, filter, map, length, length-append, append-nil, arith}
 use Rattle.std.specs.Prelude.{slice_get, option_map}
 use Rattle.std.proofs.lemmas.Bool.Decides.{nat_tests}
 use Rattle.ll_item.specs.Items.{rendition_of}
@@ -26,10 +26,10 @@ use Rattle.ll_rendition.specs.declared.fault.PublishFault.{PublishFault}
 use Rattle.ll_rendition.specs.declared.fault.PublishFault.TheVariants.{NoRendition}
 use Rattle.ll_verdict.specs.declared.wanted.Wanted.{Wanted}
 use Rattle.ll_written.specs.Pages.{PagesOf, page_in}
-use Rattle.ll_book.specs.Release.{Supply}
+use Rattle.ll_book.specs.Release.{Supply, bytes_for}
 use Rattle.ll_book.specs.Releases.{first_release, part_of, second_release}
 use Rattle.ll_rendition.proofs.ItemLemmas.{its_refusal}
-use Rattle.ll_room.specs.Freed.{StoresGoOn, freed_slots, releases_at, with_item, with_stores}
+use Rattle.ll_room.specs.Freed.{StoresGoOn, freed_slots, part_at, releases_at, with_item, with_stores}
 use Rattle.ll_store.specs.Media.{StoreValue}
 use Rattle.ll_store.specs.Stores.{stores}
 use Rattle.ll_verdict.specs.Full.{full_by, is_full, refusal_after}
@@ -104,8 +104,8 @@ releases_are c xs i k e =
 abbrev pages_with : Configuration → List Rendition → ℕ → ℕ → PagesOf
 pages_with c kept_now count rendition = record { moment = record { settings = c; renditions = kept_now; count = count }; rendition = rendition }
 
-abbrev supply_with : Configuration → List Rendition → ℕ → Item → Supply
-supply_with c kept_now count i = record { pages = pages_with c kept_now count (rendition_of i); part = part_of i }
+abbrev supply_with : Configuration → List Rendition → List Rendition → ℕ → Item → Supply
+supply_with c kept kept_now count i = record { pages = pages_with c kept_now count (rendition_of i); part = part_at (slice_get kept (rendition_of i)) i }
 
 its_page : (c : Configuration) (xs : List Item) (i : Item) (w : Wanted) → w.rendition ≡ rendition_of i
     → page_of c (xs ++ i ∷ []) w ≡ page_in (pages_with c (renditions c (xs ++ i ∷ [])) (length xs + 1) (rendition_of i)) w.form
@@ -117,17 +117,30 @@ gives_by : (b : Bool) (n m : ℕ) (w : Wanted) (p q : Paged) (o u : Option (List
 gives_by true n m w p q o u same page bytes = ap (λ x. Text x) page
 gives_by false n m w p q o u same page bytes = ap₂ (λ n o. media_or_none n w o) same (bytes refl)
 
--- what the item brings is what its supply gives
-its_gift : (c : Configuration) (xs : List Item) (i : Item) (s : Slot) → 1 ≤ c.window → Hinted c xs s
-    → Given c xs i (supply_with c (renditions c (xs ++ i ∷ [])) (length xs + 1) i) s
-its_gift c xs i s low hinted waiting here brought =
-    let w = s.entry.wanted in
-    gives_by (is_playlist w.what) (length (xs ++ i ∷ [])) (length xs + 1) w _ _ (media_of c (xs ++ i ∷ []) w) (part_of i) (length-append xs (i ∷ [])) (its_page c xs i w here)
-    (λ media. media-brought c xs i w low here (hinted waiting media) brought)
+-- the part that it is
+part_got : (c : Configuration) (xs : List Item) (i : Item) (k : Rendition) → slice_get (renditions c xs) (rendition_of i) ≡ Some k
+    → part_at (slice_get (renditions c xs) (rendition_of i)) i ≡ part_of (compact c (own (rendition_of i) xs)) i
+part_got c xs i k e =
+    ap (λ o. part_at o i) e ∙ ap (λ (q : Rendition). part_of q.window i) (rendition-got c xs (rendition_of i) k e).1
 
-each_gift : (c : Configuration) (xs : List Item) (i : Item) (ss : List Slot) → 1 ≤ c.window → Each (Hinted c xs) ss
-    → Each (Given c xs i (supply_with c (renditions c (xs ++ i ∷ [])) (length xs + 1) i)) ss
-each_gift c xs i ss low h = each-map (Hinted c xs) (Given c xs i (supply_with c (renditions c (xs ++ i ∷ [])) (length xs + 1) i)) (λ s. its_gift c xs i s low) ss h
+part_is : (c : Configuration) (xs : List Item) (i : Item) → rendition_of i < length c.renditions
+    → part_at (slice_get (renditions c xs) (rendition_of i)) i ≡ part_of (compact c (own (rendition_of i) xs)) i
+part_is c xs i named =
+    let within : nat_lt (rendition_of i) (length (renditions c xs)) ≡ true = (let e = length-renditions c xs in grind (arith, nat_tests, e, named)) in
+    let got = some_kept (renditions c xs) (rendition_of i) (slice_get (renditions c xs) (rendition_of i)) refl within in
+    part_got c xs i got.0 got.1
+
+-- what the item brings is what its supply gives
+its_gift : (c : Configuration) (xs : List Item) (i : Item) (s : Slot) → 1 ≤ c.window → rendition_of i < length c.renditions → Hinted c xs s
+    → Given c xs i (supply_with c (renditions c xs) (renditions c (xs ++ i ∷ [])) (length xs + 1) i) s
+its_gift c xs i s low named hinted waiting here brought =
+    let w = s.entry.wanted in
+    gives_by (is_playlist w.what) (length (xs ++ i ∷ [])) (length xs + 1) w _ _ (media_of c (xs ++ i ∷ []) w) (bytes_for (part_at (slice_get (renditions c xs) (rendition_of i)) i) w.what) (length-append xs (i ∷ [])) (its_page c xs i w here)
+    (λ media. media-brought c xs i w low here (hinted waiting media) brought ∙ sym (ap (λ p. bytes_for p w.what) (part_is c xs i named)))
+
+each_gift : (c : Configuration) (xs : List Item) (i : Item) (ss : List Slot) → 1 ≤ c.window → rendition_of i < length c.renditions → Each (Hinted c xs) ss
+    → Each (Given c xs i (supply_with c (renditions c xs) (renditions c (xs ++ i ∷ [])) (length xs + 1) i)) ss
+each_gift c xs i ss low named h = each-map (Hinted c xs) (Given c xs i (supply_with c (renditions c xs) (renditions c (xs ++ i ∷ [])) (length xs + 1) i)) (λ s. its_gift c xs i s low named) ss h
 
 abbrev home_on : ℕ → Configuration → State → List Rendition → List StoreValue → ℕ → List Slot → RoomValue
 home_on channel c s kept_now stores_now count slots = record {
@@ -144,17 +157,18 @@ home_on channel c s kept_now stores_now count slots = record {
 
 -- the open requests after it
 slots_are : (c : Configuration) (es : List Event) (i : Item) → 1 ≤ c.target → 1 ≤ c.window → refusal c (items c es) i ≡ None
-    → freed_slots (supply_with c (renditions c (items c es ++ i ∷ [])) (length (items c es) + 1) i)
+    → freed_slots (supply_with c (renditions c (items c es)) (renditions c (items c es ++ i ∷ [])) (length (items c es) + 1) i)
     (releases_at (slice_get (renditions c (items c es)) (rendition_of i)) i) (state_of c es).slots
     ≡ map (settle c (items c es ++ i ∷ []) (time es)) (filter (stays (Publish i)) (state_of c es).slots) ++ []
 slots_are c es i low some none =
     let xs = items c es in
     let r = rendition_of i in
     let in_channel = accepted_in r (length c.renditions) (rendition_refusal c (own r xs) i) (nat_lt r (length c.renditions)) refl none in
+    let named : r < length c.renditions = (let e = in_channel.0 in grind (arith, nat_tests, e)) in
     let got = some_kept (renditions c xs) r (slice_get (renditions c xs) r) refl (ap (nat_lt r) (length-renditions c xs) ∙ in_channel.0) in
-    let supply = supply_with c (renditions c (xs ++ i ∷ [])) (length xs + 1) i in
+    let supply = supply_with c (renditions c xs) (renditions c (xs ++ i ∷ [])) (length xs + 1) i in
     ap (λ both. freed_slots supply both (state_of c es).slots) (releases_are c xs i got.0 got.1)
-    ∙ sym (each_freed c xs (time es) i supply (state_of c es).slots (not_ended c (own r xs) i in_channel.1) (each_gift c xs i (state_of c es).slots some (hinted c es)) (idle c es low))
+    ∙ sym (each_freed c xs (time es) i supply (state_of c es).slots (not_ended c (own r xs) i in_channel.1) (each_gift c xs i (state_of c es).slots some named (hinted c es)) (idle c es low))
     ∙ ap (map (settle c (xs ++ i ∷ []) (time es))) (sym (all_stay (Publish i) (state_of c es).slots (λ s. refl)))
     ∙ sym (append-nil (map (settle c (xs ++ i ∷ []) (time es)) (filter (stays (Publish i)) (state_of c es).slots)))
 
@@ -165,7 +179,7 @@ item-next channel c es i kept_now stores_now low some none on stored =
     let xs = items c es in
     let s = state_of c es in
     let releases_now = releases_at (slice_get (renditions c xs) (rendition_of i)) i in
-    ap₂ (λ ks ss. home_on channel c s ks ss (length xs + 1) (freed_slots (supply_with c ks (length xs + 1) i) releases_now s.slots)) on stored
+    ap₂ (λ ks ss. home_on channel c s ks ss (length xs + 1) (freed_slots (supply_with c (renditions c xs) ks (length xs + 1) i) releases_now s.slots)) on stored
     ∙ ap₂ (home_on channel c s (renditions c (xs ++ i ∷ [])) (stores c (xs ++ i ∷ []))) (sym (length-append xs (i ∷ []))) (slots_are c es i low some none)
     ∙ ap (λ ys. home_on channel c s (renditions c ys) (stores c ys) (length ys) (map (settle c ys (time es)) (filter (stays (Publish i)) s.slots) ++ [])) (sym (taken_is c xs i none))
 

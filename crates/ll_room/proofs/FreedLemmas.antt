@@ -12,7 +12,7 @@ use Rattle.ll_page.proofs.RenditionLemmas.{own-same, own-other}
 use Rattle.ll_item.specs.declared.part.Part as part
 use Rattle.ll_window.specs.Compact.{Compact, compact}
 use Rattle.ll_window.specs.Segments.{own, ended}
-use Rattle.ll_window.specs.Step.{ended_by, with_item}
+use Rattle.ll_window.specs.Step.{ended_by, finished_by, with_item}
 use Rattle.ll_window.proofs.StepLemmas.{compact-snoc}
 use Rattle.ll_window.proofs.WantLemmas.{held_by, part_told, segment_told}
 use Rattle.ll_verdict.specs.State.{settle}
@@ -25,16 +25,22 @@ use Rattle.ll_verdict.specs.declared.wanted.Wanted.{Wanted}
 use Rattle.ll_verdict.proofs.ListLemmas.{Each}
 use Rattle.ll_book.specs.Release.{Supply, frees, given_if, given_in, part_comes, segment_comes}
 use Rattle.ll_book.specs.declared.release.Release.{Release}
-use Rattle.ll_book.specs.Releases.{first_release, second_release}
+use Rattle.ll_book.specs.Releases.{finish_release, first_release, second_release}
 use Rattle.ll_room.specs.Freed.{freed}
 use Rattle.ll_room.proofs.IdleLemmas.{Idle}
 
 -- one rendition
 
+-- a finish brings the open segment, where there is one
+abbrev pub finishes : List part.Part → Awaited → ℕ → Bool
+finishes [] awaited number = false
+finishes (p ∷ ps) awaited number = segment_comes awaited number
+
 -- what an item brings, where this was kept before it
 abbrev pub brings : Compact → Item → Awaited → Bool
 brings k (item.Part r d b f media) awaited = part_comes awaited k.next_number (length k.open_parts) || (f && segment_comes awaited k.next_number)
-brings k (item.Break r) awaited = false
+brings k (item.Finish r) awaited = finishes k.open_parts awaited k.next_number
+brings k (item.Break r time) awaited = false
 brings k (item.Init r media) awaited = false
 brings k (item.End r) awaited = true
 brings k (item.Range r id attributes) awaited = false
@@ -78,6 +84,13 @@ segment_done k msn le e =
     ap (λ b. (nat_lt k.settings.first (k.next_number + 1) && nat_lt msn (k.next_number + 1)) || b) e
     ∙ or_false (nat_lt k.settings.first (k.next_number + 1) && nat_lt msn (k.next_number + 1)) ∙ grind (arith, nat_tests)
 
+finish_step : (ps : List part.Part) (k : Compact) (a : Awaited) → k.settings.first ≤ k.next_number → k.ended ≡ false → held_in k a ≡ false
+    → (held_in (finished_by ps k) a || (finished_by ps k).ended) ≡ finishes ps a k.next_number
+finish_step [] k a le e h = neither (held_in k a) k.ended h e
+finish_step (p ∷ ps) k Nothing le e h = absurd (true≢false h)
+finish_step (p ∷ ps) k (Segment msn) le e h = segment_done k msn le e
+finish_step (p ∷ ps) k (Part msn index) le e h = neither (held_in k (Part msn index)) k.ended h e
+
 step : (k : Compact) (i : Item) (a : Awaited) → k.settings.first ≤ k.next_number → k.ended ≡ false → held_in k a ≡ false
     → (held_in (with_item k i) a || (with_item k i).ended) ≡ brings k i a
 step k (item.Part r d b f media) Nothing le e h = absurd (true≢false h)
@@ -85,11 +98,12 @@ step k (item.Part r d b true media) (Segment msn) le e h = segment_done k msn le
 step k (item.Part r d b false media) (Segment msn) le e h = neither (held_in k (Segment msn)) k.ended h e
 step k (item.Part r d b true media) (Part msn index) le e h = part_brings k true msn index e
 step k (item.Part r d b false media) (Part msn index) le e h = part_brings k false msn index e
-step k (item.Break r) Nothing le e h = absurd (true≢false h)
+step k (item.Finish r) a le e h = finish_step k.open_parts k a le e h
+step k (item.Break r time) Nothing le e h = absurd (true≢false h)
 step k (item.Init r media) Nothing le e h = absurd (true≢false h)
-step k (item.Break r) (Segment msn) le e h = neither (held_in k (Segment msn)) k.ended h e
+step k (item.Break r time) (Segment msn) le e h = neither (held_in k (Segment msn)) k.ended h e
 step k (item.Init r media) (Segment msn) le e h = neither (held_in k (Segment msn)) k.ended h e
-step k (item.Break r) (Part msn index) le e h = neither (held_in k (Part msn index)) k.ended h e
+step k (item.Break r time) (Part msn index) le e h = neither (held_in k (Part msn index)) k.ended h e
 step k (item.Init r media) (Part msn index) le e h = neither (held_in k (Part msn index)) k.ended h e
 step k (item.End r) a le e h = ap (λ b. held_in (with_item k (item.End r)) a || b) (ended_end k.open_parts k) ∙ or_true (held_in (with_item k (item.End r)) a)
 step k (item.Range r id attributes) a le e h = neither (held_in k a) k.ended h e
@@ -143,6 +157,11 @@ split_false : (a x y : Bool) → ((a && x) || false) ≡ (a && (x || (false && y
 split_false true x y = refl
 split_false false x y = refl
 
+both_finish : (ps : List part.Part) (r n : ℕ) (w : Wanted)
+    → (frees_opt (finish_release ps r n) w || false) ≡ ((w.rendition == r) && finishes ps w.awaited n)
+both_finish [] r n w = sym (and_false (w.rendition == r))
+both_finish (p ∷ ps) r n w = or_false ((w.rendition == r) && segment_comes w.awaited n)
+
 -- the two releases of an item free what it brings
 both : (k : Compact) (i : Item) (w : Wanted)
     → (frees_opt (first_release k i) w || frees_opt (second_release k i) w) ≡ ((w.rendition == rendition_of i) && brings k i w.awaited)
@@ -150,7 +169,8 @@ both k (item.Part r d b true media) w =
     split_true (w.rendition == r) (part_comes w.awaited k.next_number (length k.open_parts)) (segment_comes w.awaited k.next_number)
 both k (item.Part r d b false media) w =
     split_false (w.rendition == r) (part_comes w.awaited k.next_number (length k.open_parts)) (segment_comes w.awaited k.next_number)
-both k (item.Break r) w = sym (and_false (w.rendition == r))
+both k (item.Finish r) w = both_finish k.open_parts r k.next_number w
+both k (item.Break r time) w = sym (and_false (w.rendition == r))
 both k (item.Init r media) w = sym (and_false (w.rendition == r))
 both k (item.End r) w = or_false (w.rendition == r) ∙ sym (and_true (w.rendition == r))
 both k (item.Range r id attributes) w = sym (and_false (w.rendition == r))

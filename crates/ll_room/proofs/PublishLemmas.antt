@@ -17,9 +17,9 @@ use Rattle.ll_verdict.specs.Waiting.{AreBelow, ticket_in}
 use Rattle.ll_book.specs.declared.release.Release.{Release}
 use Rattle.ll_book.specs.declared.release.Release.TheVariants as release
 use Rattle.ll_book.proofs.Holding.{release-law}
-use Rattle.ll_book.specs.Releases.{HasHolders, HasThose, part_of, released_with, takes_any}
+use Rattle.ll_book.specs.Releases.{HasHolders, HasThose, released_with, takes_any}
 use Rattle.ll_room.specs.Coming.{IsComing, changed, pages_in, supply_in}
-use Rattle.ll_room.specs.Freed.{AreApart, freed, freed_slots, new_pages, new_supply, releases, releases_at, with_item}
+use Rattle.ll_room.specs.Freed.{AreApart, freed, freed_slots, new_pages, new_supply, part_in, releases, releases_at, with_item}
 use Rattle.ll_verdict.specs.Full.{event_end}
 use Rattle.ll_room.specs.RoomValue.{RoomValue}
 use Rattle.ll_room.specs.Kept.{IsKept}
@@ -86,7 +86,8 @@ apart_at : (o : Option Rendition) (i : Item) → AreApart (releases_at o i)
 apart_at None i first second s e f h = absurd (none_some first e)
 apart_at (Some k) (item.Part r d b true media) first second s e f h = part_apart k.window (item.Part r d b true media) r d first second s (sym (its_own _ _ e)) (sym (its_own _ _ f)) h
 apart_at (Some k) (item.Part r d b false media) first second s e f h = absurd (none_some second f)
-apart_at (Some k) (item.Break r) first second s e f h = absurd (none_some first e)
+apart_at (Some k) (item.Finish r) first second s e f h = absurd (none_some second f)
+apart_at (Some k) (item.Break r time) first second s e f h = absurd (none_some first e)
 apart_at (Some k) (item.Init r media) first second s e f h = absurd (none_some first e)
 apart_at (Some k) (item.End r) first second s e f h = absurd (none_some second f)
 apart_at (Some k) (item.Range r id attributes) first second s e f h = absurd (none_some first e)
@@ -216,7 +217,7 @@ silent-item h now kept i e first second =
     ∙ ap (λ ss. item_on kept ss now) (sym (silent-slots (new_supply now kept i) (releases now i) now.slots first second))
 
 pub released-item : (h : RoomValue) (i : Item) (first second : Option Release) (x : Coming) → (first, second) ≡ releases h i → x.rendition ≡ rendition_of i
-    → x.part ≡ part_of i → IsComing h first second x → changed h first second x ≡ with_item h x.shown.renditions i
+    → x.part ≡ part_in h i → IsComing h first second x → changed h first second x ≡ with_item h x.shown.renditions i
 released-item h i first second x both r part is =
     let pages_are : pages_in x ≡ new_pages h x.shown.renditions i = ap₂ (λ m q. record { moment = m; rendition = q }) is.shown r in
     let supply_is : supply_in x ≡ new_supply h x.shown.renditions i = ap₂ (λ p q. record { pages = p; part = q }) pages_are part in

@@ -10,6 +10,7 @@ use Rattle.ll_rendition.specs.declared.rendition.Rendition.{Rendition}
 use Rattle.ll_verdict.specs.declared.entry.Slot.{Slot}
 use Rattle.ll_written.specs.Pages.{PagesOf}
 use Rattle.ll_book.specs.Release.{Supply, given_if, takes}
+use Rattle.ll_book.specs.declared.next_part.NextPart.{NextPart}
 use Rattle.ll_book.specs.declared.release.Release.{Release}
 use Rattle.ll_book.specs.Releases.{first_release, part_of, second_release}
 use Rattle.ll_room.specs.RoomValue.{RoomValue}
@@ -18,6 +19,14 @@ use Rattle.ll_room.specs.RoomValue.{RoomValue}
 abbrev pub releases_at : Option Rendition → Item → Option Release × Option Release
 releases_at None i = (None, None)
 releases_at (Some kept) i = (first_release kept.window i, second_release kept.window i)
+
+-- the part that an item is, where this is kept of its rendition
+abbrev pub part_at : Option Rendition → Item → Option NextPart
+part_at None i = None
+part_at (Some kept) i = part_of kept.window i
+
+abbrev pub part_in : RoomValue → Item → Option NextPart
+part_in h i = part_at (slice_get h.renditions (rendition_of i)) i
 
 abbrev pub releases : RoomValue → Item → Option Release × Option Release
 releases h i = releases_at (slice_get h.renditions (rendition_of i)) i
@@ -41,7 +50,7 @@ new_pages h kept i = record { moment = record { settings = h.settings; rendition
 
 -- what the requests get that an item releases, with which these are kept
 abbrev pub new_supply : RoomValue → List Rendition → Item → Supply
-new_supply h kept i = record { pages = new_pages h kept i; part = part_of i }
+new_supply h kept i = record { pages = new_pages h kept i; part = part_in h i }
 
 -- the room with these bytes for players
 abbrev pub with_stores : RoomValue → List StoreValue → RoomValue

@@ -2,7 +2,7 @@
 ghost use Rattle.std.specs.Prelude.{◌≡◌, ◌≢◌, ◌+◌, ◌<◌, ◌++◌, ◌∷◌, [], List, IfOk, IfErr, IsErrOf, OnOk, OnErr, MatchResult, None, Some, false, length};
 ghost use Rattle.ll_item.specs.Items.{rendition_of};
 ghost use Rattle.ll_item.specs.declared.item.Item.{Item};
-ghost use Rattle.ll_book.specs.Releases.{HasHolders, part_of, takes_any};
+ghost use Rattle.ll_book.specs.Releases.{HasHolders, takes_any};
 ghost use Rattle.ll_page.specs.View.{GoOn};
 ghost use Rattle.ll_verdict.specs.Events.{Event, Publish};
 ghost use Rattle.ll_room.specs.Freed.{AreApart, StoresGoOn, with_item, with_stores};
@@ -16,9 +16,9 @@ ghost use Rattle.ll_room.specs.declared.stamped.Stamp.TheVariants as stamp;
 use crate::room::{EVENT_END, Room};
 use crate::stamped::{Stamp, Stamped};
 use ll_book::{
-    Holders, Release, first_release, holders_for, part_of, release_with, second_release, takes_any,
+    Holders, NextPart, Release, first_release, holders_for, part_of, release_with, second_release, takes_any,
 };
-use ll_item::{Item, Media};
+use ll_item::Item;
 use ll_page::Shown;
 use ll_store::{arrive, expect};
 use ll_verdict::PublishFault;
@@ -163,14 +163,24 @@ impl Room {
         requires { refusal_by self.now item ≡ None }
         ensures goes_on { IfOk result (λ x. GoOn self.now.renditions x.shown.renditions item) }
         ensures rendition { IfOk result (λ x. x.rendition ≡ rendition_of item) }
-        ensures part { IfOk result (λ x. x.part ≡ part_of item) }
+        ensures part { IfOk result (λ x. x.part ≡ spec.part_in self.now item) }
         ensures coming { IfOk result (λ x. IsComing self.now first second x) }
     {
         let rendition = item.rendition();
-        let part = part_of(&item)?;
+        let part = self.part_of(&item)?;
         let mut shown = self.shown.again()?;
         shown.accept(item)?;
         self.find_holders(rendition, shown, part, first, second)
+    }
+
+    /// The part that an item is, with another holder of its bytes. It fails only where no memory is found.
+    fn part_of(&self, item: &Item) -> Result<Option<NextPart>, AllocError>
+        ensures { IfOk result (λ part. part ≡ spec.part_in self.now item.now) }
+    {
+        match self.shown.renditions().get(item.rendition()) {
+            Some(kept) => part_of(&kept.window, item),
+            None => Ok(None),
+        }
     }
 
     /// Makes the pages and the holders that these releases need, for an item of this rendition with which the channel is as shown.
@@ -178,7 +188,7 @@ impl Room {
         &self,
         rendition: usize,
         shown: Shown,
-        part: Option<Media>,
+        part: Option<NextPart>,
         first: Option<Release>,
         second: Option<Release>,
     ) -> Result<Coming, AllocError>
@@ -217,7 +227,7 @@ impl Room {
         first: Option<Release>,
         second: Option<Release>,
         pages: &mut Pages,
-        part: &Option<Media>,
+        part: &Option<NextPart>,
     ) -> Result<(Option<Holders>, Option<Holders>), AllocError>
         ensures first { IfOk result (λ both. HasHolders (record { pages = pages.old; part = part.now }) first self.now.slots both.0) }
         ensures second { IfOk result (λ both. HasHolders (record { pages = pages.old; part = part.now }) second self.now.slots both.1) }
@@ -252,8 +262,8 @@ struct Coming {
     shown: Shown,
     /// The playlists of its rendition that the releases need.
     pages: Vec<Pages>,
-    /// The bytes of the item, where it is a part.
-    part: Option<Media>,
+    /// The part that the item is, if it is one.
+    part: Option<NextPart>,
     /// The holders of the first release.
     first: Option<Holders>,
     /// The holders of the second release.

@@ -1,6 +1,6 @@
 -- The bytes of parts: one more offer, and as many as there are parts.
-use Rattle.std.proofs.Common.{◌≡◌, ℕ, ◌+◌, Bool, true, false, List, [], ◌∷◌, ◌++◌, fold, refl, ap, ◌∙◌, length, length-append, arith}
-use Rattle.ll_item.specs.Told.{Told, start, step}
+use Rattle.std.proofs.Common.{◌≡◌, ℕ, suc, ◌+◌, Bool, true, false, List, [], ◌∷◌, ◌++◌, fold, refl, ap, ◌∙◌, length, length-append, arith}
+use Rattle.ll_item.specs.Told.{Told, finished_last, kept_part, start, step}
 use Rattle.ll_item.specs.declared.item.Item.{Item}
 use Rattle.ll_item.specs.declared.item.Item.TheVariants as item
 use Rattle.ll_item.specs.declared.part.Part.{Part}
@@ -12,9 +12,10 @@ abbrev pub of_part : Item → List (List ℕ)
 of_part i = before_parts i []
 
 before_more : (i : Item) (xs ys : List (List ℕ)) → before_parts i (xs ++ ys) ≡ before_parts i xs ++ ys
-before_more (item.Part r d i f media) xs ys = refl
+before_more (item.Part part) xs ys = refl
 before_more (item.Init r media) xs ys = refl
-before_more (item.Break r) xs ys = refl
+before_more (item.Finish r) xs ys = refl
+before_more (item.Break r time) xs ys = refl
 before_more (item.End r) xs ys = refl
 before_more (item.Range r id attributes) xs ys = refl
 before_more (item.Unrange r id) xs ys = refl
@@ -23,10 +24,17 @@ pub part_bytes-snoc : (os : List Item) (o : Item) → part_bytes (os ++ o ∷ []
 part_bytes-snoc [] o = refl
 part_bytes-snoc (q ∷ os) o = ap (before_parts q) (part_bytes-snoc os o) ∙ before_more q (part_bytes os) (of_part o)
 
+-- a finish changes no more than a flag
+pub many-last : (ps : List Part) → length (finished_last ps) ≡ length ps
+many-last [] = refl
+many-last (p ∷ []) = refl
+many-last (p ∷ q ∷ more) = ap suc (many-last (q ∷ more))
+
 one_counted : (t : Told) (i : Item) (more : List (List ℕ)) → length (step t i).parts + length more ≡ length t.parts + length (before_parts i more)
-one_counted t (item.Part r d i f media) more = omega (arith, length-append t.parts ((record { duration = d; independent = i; finish = f; after_break = t.pending }) ∷ []))
+one_counted t (item.Part part) more = omega (arith, length-append t.parts (kept_part t.pending t.restart part ∷ []))
 one_counted t (item.Init r media) more = refl
-one_counted t (item.Break r) more = refl
+one_counted t (item.Finish r) more = ap (λ n. n + length more) (many-last t.parts)
+one_counted t (item.Break r time) more = refl
 one_counted t (item.End r) more = refl
 one_counted t (item.Range r id attributes) more = refl
 one_counted t (item.Unrange r id) more = refl

@@ -4,15 +4,16 @@ use Rattle.std.proofs.lemmas.Bool.Decides.{nat_tests}
 use Rattle.std.proofs.lemmas.List.{append-nil}
 use Rattle.std.proofs.lemmas.List.Elements.{filter-append}
 use Rattle.ll_item.specs.Settings.{Configuration}
+use Rattle.ll_item.specs.Told.{finished_last, kept_part}
 use Rattle.ll_item.specs.declared.item.Item.{Item}
 use Rattle.ll_item.specs.declared.item.Item.TheVariants as item
 use Rattle.ll_item.specs.declared.part.Part.{Part}
 use Rattle.ll_window.proofs.StepLemmas.{compact-snoc}
 use Rattle.ll_window.proofs.WindowLemmas.{broken-cons, shown-segment}
-use Rattle.ll_window.specs.Compact.{Compact, compact, first_broken, first_map, map_now}
+use Rattle.ll_window.specs.Compact.{Compact, breaks_next, compact, first_broken, first_map, map_now}
 use Rattle.ll_window.specs.Rows.{Row, broken_in, is_broken, lasting, one_if, row}
 use Rattle.ll_window.specs.Segments.{duration, ended}
-use Rattle.ll_window.specs.Step.{after_segment, ended_by, grown_by, joined, with_item, with_open, with_part_by}
+use Rattle.ll_window.specs.Step.{after_segment, ended_by, finished_by, grown_by, joined, with_item, with_open, with_part_by}
 use Rattle.ll_window.specs.declared.segment.Segment.{Segment}
 use Rattle.ll_window.specs.Window.{gone, listed, near_limit, window, window_limit}
 use Rattle.ll_store.specs.Media.{store}
@@ -49,37 +50,74 @@ head-stays : (least : ℕ) (rs : List Row) (s : Row) (other : Bool) → one_if (
 head-stays least [] s other = head_by (nat_le least (lasting [])) least s [] other
 head-stays least (r ∷ rs) s other = head_by (nat_le least (lasting (rs ++ s ∷ []))) least r (rs ++ s ∷ []) other
 
-after-later : (k : Compact) → first_map k ≤ first_map (after_segment k)
-after-later k =
+with_parts : (ps : List Part) (pending : Bool) → (ps ≡ [] → ⊥) → breaks_next ps pending ≡ is_broken ps
+with_parts [] pending some = absurd (some refl)
+with_parts (p ∷ ps) pending some = refl
+
+after-later : (k : Compact) → (k.open_parts ≡ [] → ⊥) → first_map k ≤ first_map (after_segment k)
+after-later k some =
     let j = joined k in
-    let same = head-listed (near_limit k.settings) (duration j.open_parts) j.window (is_broken j.open_parts) in
-    let stays = head-stays (window_limit k.settings) k.window (row k.next_number k.maps k.open_time k.open_parts) (is_broken j.open_parts) in
-    subst (λ b. first_map k ≤ j.discontinuity + one_if b) (sym same) (omega (arith, stays))
+    let same = head-listed (near_limit k.settings) (duration j.open_parts) j.window k.pending in
+    let its : first_map k ≡ k.discontinuity + one_if (first_broken k.window (is_broken k.open_parts)) =
+    ap (λ b. k.discontinuity + one_if (first_broken k.window b)) (with_parts k.open_parts k.pending some) in
+    let stays = head-stays (window_limit k.settings) k.window (row k.next_number k.maps k.open_time k.open_parts) k.pending in
+    subst (λ b. first_map k ≤ j.discontinuity + one_if b) (sym same) (omega (arith, its, stays))
 
-open_by : (ps : List Part) (p : Part) (rs : List Row) → one_if (first_broken rs (is_broken ps)) ≤ one_if (first_broken rs (is_broken (ps ++ p ∷ [])))
-open_by [] p [] = omega arith
-open_by (q ∷ ps) p [] = omega arith
-open_by ps p (r ∷ rs) = omega arith
+open_by : (ps : List Part) (p : Part) (rs : List Row) (pending : Bool) → p.after_break ≡ pending
+    → one_if (first_broken rs (breaks_next ps pending)) ≤ one_if (first_broken rs (breaks_next (ps ++ p ∷ []) false))
+open_by [] p [] pending e = let same = ap one_if e in omega (arith, same)
+open_by (q ∷ ps) p [] pending e = omega arith
+open_by ps p (r ∷ rs) pending e = omega arith
 
-open-later : (k : Compact) (p : Part) → first_map k ≤ first_map (with_open k p)
-open-later k p =
+open-later : (k : Compact) (p : Part) → p.after_break ≡ k.pending → first_map k ≤ first_map (with_open k p)
+open-later k p e =
     let g = grown_by k p in
-    let same = head-listed (near_limit k.settings) (duration g.open_parts) k.window (is_broken g.open_parts) in
-    subst (λ b. first_map k ≤ k.discontinuity + one_if b) (sym same) (omega (arith, open_by k.open_parts p k.window))
+    let same = head-listed (near_limit k.settings) (duration g.open_parts) k.window (breaks_next g.open_parts false) in
+    subst (λ b. first_map k ≤ k.discontinuity + one_if b) (sym same) (omega (arith, open_by k.open_parts p k.window k.pending e))
 
-by_finish : (f : Bool) (k : Compact) (p : Part) → first_map k ≤ first_map (with_part_by f k p)
-by_finish true k p = omega (arith, open-later k p, after-later (with_open k p))
-by_finish false k p = open-later k p
+one_more : (ps : List Part) (p : Part) → ps ++ p ∷ [] ≡ [] → ⊥
+one_more [] p e = absurd (cc)
+one_more (q ∷ ps) p e = absurd (cc)
 
-by_end : (ps : List Part) (k : Compact) → first_map k ≤ first_map (ended_by ps k)
-by_end [] k = omega arith
-by_end (p ∷ ps) k = after-later (record k { ended = true })
+by_finish : (f : Bool) (k : Compact) (p : Part) → p.after_break ≡ k.pending → first_map k ≤ first_map (with_part_by f k p)
+by_finish true k p e = omega (arith, open-later k p e, after-later (with_open k p) (one_more k.open_parts p))
+by_finish false k p e = open-later k p e
+
+none_cons : (p : Part) (ps : List Part) → p ∷ ps ≡ [] → ⊥
+none_cons p ps e = absurd (cc)
+
+by_end : (ps : List Part) (k : Compact) → k.open_parts ≡ ps → first_map k ≤ first_map (ended_by ps k)
+by_end [] k is = omega arith
+by_end (p ∷ ps) k is = after-later (record k { ended = true }) (λ none. none_cons p ps (sym is ∙ none))
+
+same_broken : (p : Part) (ps : List Part) (b : Bool) → breaks_next (finished_last (p ∷ ps)) b ≡ breaks_next (p ∷ ps) b
+same_broken p [] b = refl
+same_broken p (q ∷ ps) b = refl
+
+some_last : (p : Part) (ps : List Part) → finished_last (p ∷ ps) ≡ [] → ⊥
+some_last p [] e = absurd (cc)
+some_last p (q ∷ ps) e = absurd (cc)
+
+by_last : (ps : List Part) (k : Compact) → k.open_parts ≡ ps → first_map k ≤ first_map (finished_by ps k)
+by_last [] k is = omega arith
+by_last (p ∷ ps) k is =
+    let same : first_map k ≡ first_map (record k { open_parts = finished_last (p ∷ ps) }) =
+    ap (λ (os : List Part). first_map (record k { open_parts = os })) is ∙ ap (λ b. k.discontinuity + one_if (first_broken k.window b)) (sym (same_broken p ps k.pending)) in
+    omega (arith, same, after-later (record k { open_parts = finished_last (p ∷ ps) }) (some_last p ps))
+
+-- a break only adds to it
+broken_now : (rs : List Row) (ps : List Part) (pending : Bool) (n : ℕ) → n + one_if (first_broken rs (breaks_next ps pending)) ≤ n + one_if (first_broken rs (breaks_next ps true))
+broken_now [] [] true n = omega arith
+broken_now [] [] false n = omega arith
+broken_now [] (p ∷ ps) pending n = omega arith
+broken_now (r ∷ rs) ps pending n = omega arith
 
 later : (k : Compact) (i : Item) → first_map k ≤ first_map (with_item k i)
-later k (item.Part r d b f media) = by_finish f k (record { duration = d; independent = b; finish = f; after_break = k.pending })
-later k (item.End r) = by_end k.open_parts k
+later k (item.Part part) = by_finish part.finish k (kept_part k.pending k.restart part) refl
+later k (item.Finish r) = by_last k.open_parts k refl
+later k (item.End r) = by_end k.open_parts k refl
 later k (item.Init r media) = omega arith
-later k (item.Break r) = omega arith
+later k (item.Break r time) = broken_now k.window k.open_parts k.pending k.discontinuity
 later k (item.Range r id attributes) = omega arith
 later k (item.Unrange r id) = omega arith
 
@@ -148,8 +186,9 @@ with-again k k2 n bytes set le =
 section_by : (c : Configuration) (items : List Item) (k2 : Compact) (i : Item) → first_map (compact c items) ≤ first_map k2
     → kept_sections k2 (and_section (compact c items) (sections c items) i) ≡ kept_sections k2 (grown (map_now (compact c items)) (store c items) (brought_by i)).sections
 section_by c items k2 (item.Init r media) le = with-again (compact c items) k2 (map_now (compact c items)) media (sections c items) le
-section_by c items k2 (item.Part r d b f media) le = sym (kept-again (compact c items) k2 (sections c items) le)
-section_by c items k2 (item.Break r) le = sym (kept-again (compact c items) k2 (sections c items) le)
+section_by c items k2 (item.Part part) le = sym (kept-again (compact c items) k2 (sections c items) le)
+section_by c items k2 (item.Finish r) le = sym (kept-again (compact c items) k2 (sections c items) le)
+section_by c items k2 (item.Break r time) le = sym (kept-again (compact c items) k2 (sections c items) le)
 section_by c items k2 (item.End r) le = sym (kept-again (compact c items) k2 (sections c items) le)
 section_by c items k2 (item.Range r id attributes) le = sym (kept-again (compact c items) k2 (sections c items) le)
 section_by c items k2 (item.Unrange r id) le = sym (kept-again (compact c items) k2 (sections c items) le)

@@ -3,14 +3,15 @@ use Rattle.std.proofs.Common.{◌≡◌, ℕ, suc, ◌+◌, ◌*◌, ◌≤◌, 
 use Rattle.ll_item.specs.Settings.{Configuration}
 use Rattle.ll_item.specs.declared.item.Item.{Item}
 use Rattle.ll_item.specs.declared.item.Item.TheVariants as item
+use Rattle.ll_item.specs.Told.{finished_last, kept_part}
 use Rattle.ll_item.specs.declared.part.Part.{Part}
 use Rattle.ll_window.proofs.StepLemmas.{compact-snoc}
 use Rattle.ll_window.proofs.SuffixLemmas.{suffix}
 use Rattle.ll_window.proofs.WindowLemmas.{length_listed}
 use Rattle.ll_window.specs.Compact.{Compact, all_rows, compact}
-use Rattle.ll_window.specs.Rows.{Row, is_broken, one_if, row, rows}
+use Rattle.ll_window.specs.Rows.{Row, begun, is_broken, one_if, row, rows}
 use Rattle.ll_window.specs.Segments.{duration, ended, open_segment, segments}
-use Rattle.ll_window.specs.Step.{after_segment, ended_by, grown_by, joined, relisted, window_and_open, with_item, with_open, with_part_by}
+use Rattle.ll_window.specs.Step.{after_segment, ended_by, finished_by, grown_by, joined, relisted, window_and_open, with_item, with_open, with_part_by}
 use Rattle.ll_window.specs.Window.{gone, near_limit, window, window_limit}
 
 -- ---- how many
@@ -28,10 +29,11 @@ one_from [] = 0
 one_from (p ∷ ps) = 1
 
 abbrev pub finishes : Compact → Item → ℕ
-finishes k (item.Part rendition duration independent finish media) = one_of finish
+finishes k (item.Part part) = one_of part.finish
+finishes k (item.Finish rendition) = one_from k.open_parts
 finishes k (item.End rendition) = one_from k.open_parts
 finishes k (item.Init rendition media) = 0
-finishes k (item.Break rendition) = 0
+finishes k (item.Break rendition time) = 0
 finishes k (item.Range rendition id attributes) = 0
 finishes k (item.Unrange rendition id) = 0
 
@@ -53,11 +55,16 @@ by_end : (ps : List Part) (k : Compact) → length (ended_by ps k).window ≤ le
 by_end [] k = omega arith
 by_end (p ∷ ps) k = after-many (record k { ended = true })
 
+by_last : (ps : List Part) (k : Compact) → length (finished_by ps k).window ≤ length k.window + one_from ps
+by_last [] k = omega arith
+by_last (p ∷ ps) k = after-many (record k { open_parts = finished_last (p ∷ ps) })
+
 few-more : (k : Compact) (i : Item) → length (with_item k i).window ≤ length k.window + finishes k i
-few-more k (item.Part r d b f media) = by_finish f k (record { duration = d; independent = b; finish = f; after_break = k.pending })
+few-more k (item.Part part) = by_finish part.finish k (kept_part k.pending k.restart part)
+few-more k (item.Finish r) = by_last k.open_parts k
 few-more k (item.End r) = by_end k.open_parts k
 few-more k (item.Init r media) = omega arith
-few-more k (item.Break r) = omega arith
+few-more k (item.Break r time) = omega arith
 few-more k (item.Range r id attributes) = omega arith
 few-more k (item.Unrange r id) = omega arith
 
@@ -69,7 +76,7 @@ shown-few c items i going =
 
 pub length-rows : (n m t : ℕ) (gs : List (List Part)) → length (rows n m t gs) ≡ length gs
 length-rows n m t [] = refl
-length-rows n m t (g ∷ gs) = ap suc (length-rows (n + 1) (m + one_if (is_broken g)) (t + duration g) gs)
+length-rows n m t (g ∷ gs) = ap suc (length-rows (n + 1) (m + one_if (is_broken g)) (begun t g + duration g) gs)
 
 -- it shows no more than there are
 pub shown-within : (c : Configuration) (items : List Item) → length (compact c items).window ≤ length (segments items)

@@ -1,15 +1,16 @@
 -- What one more part makes of the bytes that are kept.
-use Rattle.std.proofs.Common.{◌≡◌, ℕ, ◌+◌, Bool, true, false, List, [], ◌∷◌, ◌++◌, refl, ap, ap₂, sym, ◌∙◌, length, length-append, length-drop, drop, arith}
+use Rattle.std.proofs.Common.{◌≡◌, ℕ, ◌+◌, Bool, true, false, List, [], ◌∷◌, ◌++◌, refl, ap, ap₂, sym, ◌∙◌, length, length-append, length-drop, take, drop, arith}
 use Rattle.std.proofs.lemmas.List.{append-nil, drop_all, take_all}
 use Rattle.std.proofs.lemmas.List.Sums.{fold-append}
-use Rattle.ll_item.specs.Told.{Told, start, step, told}
+use Rattle.ll_item.specs.Told.{Told, finished_last, kept_part, start, step, told}
 use Rattle.ll_item.specs.declared.item.Item.{Item}
 use Rattle.ll_item.specs.declared.item.Item.TheVariants as item
+use Rattle.ll_item.specs.declared.item.PartItem.{PartItem}
 use Rattle.ll_item.specs.declared.part.Part.{Part}
-use Rattle.ll_window.proofs.SplitLemmas.{added_by, split-snoc}
+use Rattle.ll_window.proofs.SplitLemmas.{added_by, split-last, split-snoc, with_last}
 use Rattle.ll_window.specs.Segments.{Split, closed, ended, finished_by, split}
 use Rattle.ll_store.proofs.Grouped.{grouped-finished, grouped-more, grouped-snoc, open-grown}
-use Rattle.ll_store.proofs.Parts.{all-grouped, as-many, part_bytes-snoc}
+use Rattle.ll_store.proofs.Parts.{all-grouped, as-many, many-last, part_bytes-snoc}
 use Rattle.ll_store.specs.Parts.{grouped, open_bytes, part_bytes, parts_in, segment_bytes}
 
 pub told-snoc : (os : List Item) (o : Item) → told (os ++ o ∷ []) ≡ step (told os) o
@@ -30,12 +31,14 @@ added_groups : (f : Bool) (s : Split) (p : Part) (bytes : List (List ℕ)) (b : 
 added_groups true s p bytes b h = grouped-finished s.finished s.unfinished p bytes b h
 added_groups false s p bytes b h = grouped-more s.finished bytes (b ∷ []) (omega (arith, h))
 
-pub part-finished : (os : List Item) (r d : ℕ) (i f : Bool) (b : List ℕ) → ended os ≡ false
-    → segment_bytes (os ++ item.Part r d i f b ∷ []) ≡ finished_with f (segment_bytes os) (open_bytes os) b
-part-finished os r d i f b e =
-    let o = item.Part r d i f b in
+pub part-finished : (os : List Item) (part : PartItem) → ended os ≡ false
+    → segment_bytes (os ++ item.Part part ∷ []) ≡ finished_with part.finish (segment_bytes os) (open_bytes os) part.media
+part-finished os part e =
+    let o = item.Part part in
+    let f = part.finish in
+    let b = part.media in
     let t = told os in
-    let p : Part = record { duration = d; independent = i; finish = f; after_break = t.pending } in
+    let p : Part = kept_part t.pending t.restart part in
     let many : parts_in (split t.parts).finished + length (split t.parts).unfinished ≡ length (part_bytes os) = all-grouped t.parts ∙ as-many os in
     ap₂ (λ (t : Told) bytes. groups_of t.ended (split t.parts) bytes) (told-snoc os o) (part_bytes-snoc os o)
     ∙ ap (λ e. groups_of e (split (t.parts ++ p ∷ [])) (part_bytes os ++ b ∷ [])) e
@@ -62,12 +65,14 @@ added_open true s p bytes b h =
     (omega (arith, h, parts_in-snoc s.finished (s.unfinished ++ p ∷ []), length-append s.unfinished (p ∷ []), length-append bytes (b ∷ [])))
 added_open false s p bytes b h = open-grown s.finished bytes b (omega (arith, h))
 
-pub part-open : (os : List Item) (r d : ℕ) (i f : Bool) (b : List ℕ) → ended os ≡ false
-    → open_bytes (os ++ item.Part r d i f b ∷ []) ≡ open_with f (open_bytes os) b
-part-open os r d i f b e =
-    let o = item.Part r d i f b in
+pub part-open : (os : List Item) (part : PartItem) → ended os ≡ false
+    → open_bytes (os ++ item.Part part ∷ []) ≡ open_with part.finish (open_bytes os) part.media
+part-open os part e =
+    let o = item.Part part in
+    let f = part.finish in
+    let b = part.media in
     let t = told os in
-    let p : Part = record { duration = d; independent = i; finish = f; after_break = t.pending } in
+    let p : Part = kept_part t.pending t.restart part in
     let many : parts_in (split t.parts).finished + length (split t.parts).unfinished ≡ length (part_bytes os) = all-grouped t.parts ∙ as-many os in
     ap₂ (λ (t : Told) bytes. open_of t.ended (split t.parts) bytes) (told-snoc os o) (part_bytes-snoc os o)
     ∙ ap (λ e. open_of e (split (t.parts ++ p ∷ [])) (part_bytes os ++ b ∷ [])) e
@@ -109,5 +114,27 @@ end-finished os r e =
     let t = told os in
     let many : parts_in (split t.parts).finished + length (split t.parts).unfinished ≡ length (part_bytes os) = all-grouped t.parts ∙ as-many os in
     ap₂ (λ (t : Told) bytes. groups_of t.ended (split t.parts) bytes) (told-snoc os o) (part_bytes-snoc os o ∙ append-nil (part_bytes os))
+    ∙ closed_groups (split t.parts).finished (split t.parts).unfinished (part_bytes os) many
+    ∙ ap (λ e. closed_with (open_of e (split t.parts) (part_bytes os)) (groups_of e (split t.parts) (part_bytes os))) (sym e)
+
+-- a finish does so too; nothing of the groups is told by the parts' flags
+grouped-lasts : (gs : List (List Part)) (us : List Part) (bytes : List (List ℕ)) → grouped (gs ++ closed (finished_last us)) bytes ≡ grouped (gs ++ closed us) bytes
+grouped-lasts gs [] bytes = refl
+grouped-lasts gs (p ∷ []) bytes = grouped-snoc gs (finished_last (p ∷ [])) bytes ∙ sym (grouped-snoc gs (p ∷ []) bytes)
+grouped-lasts gs (p ∷ q ∷ us) bytes =
+    grouped-snoc gs (finished_last (p ∷ q ∷ us)) bytes
+    ∙ ap (λ n. grouped gs bytes ++ take n (drop (parts_in gs) bytes) ∷ []) (many-last (p ∷ q ∷ us))
+    ∙ sym (grouped-snoc gs (p ∷ q ∷ us) bytes)
+
+pub finish-finished : (os : List Item) (r : ℕ) → ended os ≡ false
+    → segment_bytes (os ++ item.Finish r ∷ []) ≡ closed_with (open_bytes os) (segment_bytes os)
+finish-finished os r e =
+    let o = item.Finish r in
+    let t = told os in
+    let many : parts_in (split t.parts).finished + length (split t.parts).unfinished ≡ length (part_bytes os) = all-grouped t.parts ∙ as-many os in
+    ap₂ (λ (t : Told) bytes. groups_of t.ended (split t.parts) bytes) (told-snoc os o) (part_bytes-snoc os o ∙ append-nil (part_bytes os))
+    ∙ ap (λ e. groups_of e (split (finished_last t.parts)) (part_bytes os)) e
+    ∙ ap (λ (s : Split). grouped s.finished (part_bytes os)) (split-last t.parts)
+    ∙ grouped-lasts (split t.parts).finished (split t.parts).unfinished (part_bytes os)
     ∙ closed_groups (split t.parts).finished (split t.parts).unfinished (part_bytes os) many
     ∙ ap (λ e. closed_with (open_of e (split t.parts) (part_bytes os)) (groups_of e (split t.parts) (part_bytes os))) (sym e)

@@ -2,12 +2,13 @@
 use Rattle.std.proofs.Common.{◌≡◌, ℕ, ◌+◌, Bool, true, false, List, [], ◌∷◌, ◌++◌, refl, ap, ap₂, ◌∙◌, length, arith}
 use Rattle.std.proofs.lemmas.List.{drop_all}
 use Rattle.ll_item.specs.Settings.{Configuration}
-use Rattle.ll_item.specs.Told.{Told, step, told}
+use Rattle.ll_item.specs.Told.{Told, finished_last, step, told}
 use Rattle.ll_item.specs.declared.item.Item.{Item}
 use Rattle.ll_item.specs.declared.item.Item.TheVariants as item
 use Rattle.ll_window.specs.Compact.{compact, map_now}
 use Rattle.ll_window.specs.Segments.{closed, ended, split}
-use Rattle.ll_store.proofs.Parts.{all-grouped, as-many}
+use Rattle.ll_window.proofs.SplitLemmas.{split-last}
+use Rattle.ll_store.proofs.Parts.{all-grouped, as-many, many-last}
 use Rattle.ll_store.proofs.SectionBytes.{section-step}
 use Rattle.ll_store.proofs.Steps.{open_of, open_with, part-open, parts_in-closed, told-snoc}
 use Rattle.ll_store.proofs.WindowBytes.{bytes-same, window-step}
@@ -37,12 +38,25 @@ end-open items r =
     ap₂ (λ (t : Told) bytes. open_of t.ended (split t.parts) bytes) (told-snoc items (item.End r)) (bytes-same items (item.End r) refl)
     ∙ drop_all (parts_in (s.finished ++ closed s.unfinished)) (part_bytes items) (omega (arith, many, parts_in-closed s.finished s.unfinished))
 
+-- after a finish neither
+pub finish-open : (items : List Item) (r : ℕ) → ended items ≡ false → open_bytes (items ++ item.Finish r ∷ []) ≡ []
+finish-open items r going =
+    let t = told items in
+    let s = split t.parts in
+    let us = finished_last s.unfinished in
+    let many : parts_in s.finished + length s.unfinished ≡ length (part_bytes items) = all-grouped t.parts ∙ as-many items in
+    ap₂ (λ (t : Told) bytes. open_of t.ended (split t.parts) bytes) (told-snoc items (item.Finish r)) (bytes-same items (item.Finish r) refl)
+    ∙ ap (λ e. open_of e (split (finished_last t.parts)) (part_bytes items)) going
+    ∙ ap (λ s. open_of false s (part_bytes items)) (split-last t.parts)
+    ∙ drop_all (parts_in (s.finished ++ closed us)) (part_bytes items) (omega (arith, many, parts_in-closed s.finished us, many-last s.unfinished))
+
 open-step : (c : Configuration) (items : List Item) (i : Item) → ended items ≡ false
     → open_bytes (items ++ i ∷ []) ≡ (grown (map_now (compact c items)) (store c items) (brought_by i)).unfinished
-open-step c items (item.Part r d b f media) going = part-open items r d b f media going ∙ part_left f (open_bytes items) media
+open-step c items (item.Part part) going = part-open items part going ∙ part_left part.finish (open_bytes items) part.media
+open-step c items (item.Finish r) going = finish-open items r going
 open-step c items (item.End r) going = end-open items r
 open-step c items (item.Init r media) going = open-same items (item.Init r media) refl refl (bytes-same items (item.Init r media) refl)
-open-step c items (item.Break r) going = open-same items (item.Break r) refl refl (bytes-same items (item.Break r) refl)
+open-step c items (item.Break r time) going = open-same items (item.Break r time) refl refl (bytes-same items (item.Break r time) refl)
 open-step c items (item.Range r id attributes) going = open-same items (item.Range r id attributes) refl refl (bytes-same items (item.Range r id attributes) refl)
 open-step c items (item.Unrange r id) going = open-same items (item.Unrange r id) refl refl (bytes-same items (item.Unrange r id) refl)
 

@@ -11,7 +11,7 @@ use Rattle.ll_window.specs.Segments.{ended, finished_by as finished_segments, op
 use Rattle.ll_store.proofs.Last.{last-grown}
 use Rattle.ll_store.proofs.Parts.{all-grouped, as-many, of_part, part_bytes-snoc}
 use Rattle.ll_store.proofs.Shown.{finishes, one_from, one_of, shown-few, shown-within}
-use Rattle.ll_store.proofs.Steps.{closed_with, end-finished, finished_with, other-finished, part-finished}
+use Rattle.ll_store.proofs.Steps.{closed_with, end-finished, finish-finished, finished_with, other-finished, part-finished}
 use Rattle.ll_store.specs.Media.{last_of, store}
 use Rattle.ll_store.specs.Parts.{grouped, open_bytes, part_bytes, parts_in, segment_bytes}
 use Rattle.ll_store.specs.Step.{brought_by, closed, finished_by, grown}
@@ -74,15 +74,18 @@ bytes-same items i none = part_bytes-snoc items i ∙ ap (λ l. part_bytes items
 pub window-step : (c : Configuration) (items : List Item) (i : Item) → ended items ≡ false
     → last_of (length (compact c (items ++ i ∷ [])).window) (segment_bytes (items ++ i ∷ []))
     ≡ last_of (length (compact c (items ++ i ∷ [])).window) (grown (map_now (compact c items)) (store c items) (brought_by i)).window
-window-step c items (item.Part r d b f media) going =
-    let parts = open_bytes items ++ media ∷ [] in
-    grows c items (item.Part r d b f media) (finished_by f parts) going (one-finished f parts)
-    (part-finished items r d b f media going ∙ as-appended f (segment_bytes items) (open_bytes items) media)
+window-step c items (item.Part part) going =
+    let parts = open_bytes items ++ part.media ∷ [] in
+    grows c items (item.Part part) (finished_by part.finish parts) going (one-finished part.finish parts)
+    (part-finished items part going ∙ as-appended part.finish (segment_bytes items) (open_bytes items) part.media)
+window-step c items (item.Finish r) going =
+    grows c items (item.Finish r) (closed (open_bytes items)) going (one-closed (open_segment items) (open_bytes items) (open_by (ended items) items refl going))
+    (finish-finished items r going ∙ closed-appended (open_bytes items) (segment_bytes items))
 window-step c items (item.End r) going =
     grows c items (item.End r) (closed (open_bytes items)) going (one-closed (open_segment items) (open_bytes items) (open_by (ended items) items refl going))
     (end-finished items r going ∙ closed-appended (open_bytes items) (segment_bytes items))
 window-step c items (item.Init r media) going = same c items (item.Init r media) going refl (other-finished items (item.Init r media) refl refl (bytes-same items (item.Init r media) refl))
-window-step c items (item.Break r) going = same c items (item.Break r) going refl (other-finished items (item.Break r) refl refl (bytes-same items (item.Break r) refl))
+window-step c items (item.Break r time) going = same c items (item.Break r time) going refl (other-finished items (item.Break r time) refl refl (bytes-same items (item.Break r time) refl))
 window-step c items (item.Range r id attributes) going =
     same c items (item.Range r id attributes) going refl (other-finished items (item.Range r id attributes) refl refl (bytes-same items (item.Range r id attributes) refl))
 window-step c items (item.Unrange r id) going =

@@ -6,9 +6,10 @@ use Rattle.ll_item.specs.declared.part.Part.{Part}
 use Rattle.ll_window.specs.Segments.{segments}
 
 abbrev pub before_parts : Item → List (List ℕ) → List (List ℕ)
-before_parts (item.Part rendition duration independent finish media) parts = media ∷ parts
+before_parts (item.Part part) parts = part.media ∷ parts
 before_parts (item.Init rendition media) parts = parts
-before_parts (item.Break rendition) parts = parts
+before_parts (item.Finish rendition) parts = parts
+before_parts (item.Break rendition time) parts = parts
 before_parts (item.End rendition) parts = parts
 before_parts (item.Range rendition id attributes) parts = parts
 before_parts (item.Unrange rendition id) parts = parts

@@ -13,8 +13,9 @@ with_section number bytes sections = filter (λ (s : Section). not (s.number == 
 -- what an item sets after what is kept of these before it
 abbrev pub and_section : Compact → List Section → Item → List Section
 and_section k sections (item.Init rendition media) = with_section (map_now k) media sections
-and_section k sections (item.Part rendition duration independent finish media) = sections
-and_section k sections (item.Break rendition) = sections
+and_section k sections (item.Part part) = sections
+and_section k sections (item.Finish rendition) = sections
+and_section k sections (item.Break rendition time) = sections
 and_section k sections (item.End rendition) = sections
 and_section k sections (item.Range rendition id attributes) = sections
 and_section k sections (item.Unrange rendition id) = sections

@@ -24,10 +24,11 @@ left_by false parts = parts
 
 -- what an item brings
 abbrev pub brought_by : Item → Brought
-brought_by (item.Part rendition duration independent finish media) = brought.Part media finish
+brought_by (item.Part part) = brought.Part part.media part.finish
 brought_by (item.Init rendition media) = brought.Section media
-brought_by (item.End rendition) = brought.End
-brought_by (item.Break rendition) = brought.Nothing
+brought_by (item.Finish rendition) = brought.Closes
+brought_by (item.End rendition) = brought.Closes
+brought_by (item.Break rendition time) = brought.Nothing
 brought_by (item.Range rendition id attributes) = brought.Nothing
 brought_by (item.Unrange rendition id) = brought.Nothing
 
@@ -38,7 +39,7 @@ grown map s (brought.Part media finish) = record s {
   unfinished = left_by finish (s.unfinished ++ media ∷ []);
 }
 grown map s (brought.Section media) = record s { sections = with_section map media s.sections }
-grown map s brought.End = record s { window = s.window ++ closed s.unfinished; unfinished = [] }
+grown map s brought.Closes = record s { window = s.window ++ closed s.unfinished; unfinished = [] }
 grown map s brought.Nothing = s
 
 -- what is left where this is shown

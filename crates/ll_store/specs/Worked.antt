@@ -1,5 +1,5 @@
 -- The definitions at worked examples.
-use Rattle.std.specs.Prelude.{◌≡◌, ℕ, List, [], ◌∷◌, ◌++◌, true, false, Some, None, codes}
+use Rattle.std.specs.Prelude.{◌≡◌, ℕ, List, [], ◌∷◌, ◌++◌, Bool, true, false, Some, None, codes}
 use Rattle.ll_item.specs.Settings.{Configuration}
 use Rattle.ll_item.specs.declared.item.Item.{Item}
 use Rattle.ll_item.specs.declared.item.Item.TheVariants as item
@@ -21,18 +21,22 @@ settings = record {
 abbrev pub section : List ℕ → Item
 section bytes = item.Init 0 bytes
 
+abbrev part_item : ℕ → Bool → List ℕ → Item
+part_item duration finish bytes =
+    item.Part (record { rendition = 0; duration = duration; independent = false; finish = finish; media = bytes })
+
 abbrev pub part : List ℕ → Item
-part bytes = item.Part 0 1000000 false false bytes
+part bytes = part_item 1000000 false bytes
 
 abbrev pub last_part : List ℕ → Item
-last_part bytes = item.Part 0 1000000 false true bytes
+last_part bytes = part_item 1000000 true bytes
 
 -- a segment of forty seconds' length in one part, after which no earlier one is in the window
 abbrev pub long : List ℕ → Item
-long bytes = item.Part 0 40000000 false true bytes
+long bytes = part_item 40000000 true bytes
 
 abbrev pub a_break : Item
-a_break = item.Break 0
+a_break = item.Break 0 None
 
 abbrev pub end : Item
 end = item.End 0

@@ -20,8 +20,8 @@ pub enum Brought {
         /// Its bytes.
         media: Media,
     },
-    /// The end, which finishes an open segment.
-    End,
+    /// What finishes an open segment: the end, or a finish.
+    Closes,
     /// No bytes.
     Nothing,
 }
@@ -32,14 +32,14 @@ impl Brought {
         ensures { IfOk result (λ brought. brought ≡ brought_by item.now) }
     {
         Ok(match item {
-            Item::Part { finish, media, .. } => Brought::Part {
-                media: media.again()?,
-                finish: *finish,
+            Item::Part(part) => Brought::Part {
+                media: part.media.again()?,
+                finish: part.finish,
             },
             Item::Init { media, .. } => Brought::Section {
                 media: media.again()?,
             },
-            Item::End { .. } => Brought::End,
+            Item::Finish { .. } | Item::End { .. } => Brought::Closes,
             Item::Break { .. } | Item::Range { .. } | Item::Unrange { .. } => Brought::Nothing,
         })
     }

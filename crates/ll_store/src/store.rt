@@ -96,7 +96,7 @@ impl Store {
                 }
             }
             Brought::Section { media } => set(sections, map, media),
-            Brought::End => close(*alloc, segments, unfinished, size),
+            Brought::Closes => close(*alloc, segments, unfinished, size),
             Brought::Nothing => {}
         }
         keep_last(segments, window.segment_count());

@@ -3,7 +3,7 @@ use Rattle.std.proofs.Common.{◌≡◌, ℕ, ◌+◌, List, [], ◌∷◌, ◌+
 use Rattle.ll_item.specs.declared.part.Part.{Part}
 use Rattle.ll_window.specs.declared.part_position.PartPosition.{PartPosition}
 use Rattle.ll_window.specs.Numbers.{NumberedPart, numbered_parts, placed, placed_rows, number_after, last_place, NumbersLaw}
-use Rattle.ll_window.specs.Rows.{rows, one_if, is_broken}
+use Rattle.ll_window.specs.Rows.{begun, rows, one_if, is_broken}
 use Rattle.ll_window.specs.Segments.{Split, split, put_by, closed, finished_by, unfinished_by, duration}
 
 abbrev the_place : ℕ → ℕ → PartPosition
@@ -39,7 +39,7 @@ laid-rows : (number maps time : ℕ) (gs : List (List Part)) (rest : List Part)
     → placed_rows (rows number maps time gs) (number_after number gs) rest ≡ laid number 0 gs rest
 laid-rows number maps time [] rest = refl
 laid-rows number maps time (g ∷ gs) rest =
-    ap (λ more. placed number 0 g ++ more) (laid-rows (number + 1) (maps + one_if (is_broken g)) (time + duration g) gs rest)
+    ap (λ more. placed number 0 g ++ more) (laid-rows (number + 1) (maps + one_if (is_broken g)) (begun time g + duration g) gs rest)
 
 laid-closed : (number index : ℕ) (gs : List (List Part)) (ps : List Part) → laid number index (gs ++ closed ps) [] ≡ laid number index gs ps
 laid-closed number index [] [] = refl

@@ -12,12 +12,12 @@ use Rattle.ll_item.specs.declared.part.Part.{Part}
 use Rattle.ll_window.specs.declared.part_position.PartPosition.{PartPosition}
 use Rattle.ll_window.specs.Compact.{Compact, compact}
 use Rattle.ll_window.specs.Numbers.{NumberedPart, numbered_parts, last_place, placed}
-use Rattle.ll_window.specs.Rows.{Row, rows, one_if, is_broken}
+use Rattle.ll_window.specs.Rows.{Row, begun, rows, one_if, is_broken}
 use Rattle.ll_window.specs.Segments.{Split, split, closed, finished_by, unfinished_by, segments, duration}
-use Rattle.ll_item.specs.Told.{Told, start, step, told}
+use Rattle.ll_item.specs.Told.{Told, finished_last, kept_part, start, step, told}
 use Rattle.ll_window.specs.Wants.{place_of, reaches, holds_part, holds_segment, WantsLaw}
 use Rattle.ll_window.proofs.NumberLemmas.{laid, by_places, laid-by}
-use Rattle.ll_window.proofs.SplitLemmas.{added_by, split-snoc}
+use Rattle.ll_window.proofs.SplitLemmas.{added_by, many-closed, place-last, split-last, split-snoc, with_last}
 
 -- the parts, by the last of them
 
@@ -66,7 +66,7 @@ by_count : (m n maps time : ℕ) (gs : List (List Part))
     → list_any (λ (r : Row). nat_le m r.segment.number) (rows n maps time gs) ≡ (nat_lt n (n + length gs) && nat_lt m (n + length gs))
 by_count m n maps time [] = grind (arith, nat_tests)
 by_count m n maps time (g ∷ gs) =
-    let rest = by_count m (n + 1) (maps + one_if (is_broken g)) (time + duration g) gs in
+    let rest = by_count m (n + 1) (maps + one_if (is_broken g)) (begun time g + duration g) gs in
     ap (λ b. nat_le m n || b) rest ∙ grind (arith, nat_tests)
 
 pub segment_told : (k : Compact) (items : List Item) (m : ℕ) → k ≡ compact k.settings items
@@ -95,8 +95,10 @@ held-append m p n i (x ∷ ps) qs e =
     ∙ held_step x.finish _ _ _ _ _ (held-append m p (n + 1) 0 ps qs) (held-append m p n (i + 1) ps qs) (sym (held_any m p (numbered n i x) _ _ x.finish) ∙ e)
 
 part_stays : (m p n : ℕ) (t : Told) (i : Item) → held m p (numbered_parts n 0 t.parts) ≡ true → held m p (numbered_parts n 0 (step t i).parts) ≡ true
-part_stays m p n t (item.Part r d f g media) e = held-append m p n 0 t.parts _ e
-part_stays m p n t (item.Break r) e = e
+part_stays m p n t (item.Part part) e = held-append m p n 0 t.parts _ e
+part_stays m p n t (item.Finish r) e =
+    by_last m p n 0 (finished_last t.parts) ∙ ap (held_by m p) (place-last n 0 t.parts) ∙ sym (by_last m p n 0 t.parts) ∙ e
+part_stays m p n t (item.Break r ms) e = e
 part_stays m p n t (item.Init r media) e = e
 part_stays m p n t (item.End r) e = e
 part_stays m p n t (item.Range r id attributes) e = e
@@ -131,12 +133,21 @@ ended_more : (e : Bool) (s : Split) → length (finished_by e s) ≤ length (fin
 ended_more true s = omega arith
 ended_more false s = omega (arith, length-append s.finished (closed s.unfinished))
 
+last_more : (e : Bool) (s : Split) → length (finished_by e s) ≤ length (finished_by e (with_last s))
+last_more true s =
+    let m = many-closed s.unfinished in
+    omega (arith, m, length-append s.finished (closed s.unfinished), length-append s.finished (closed (finished_last s.unfinished)), length-append (s.finished ++ closed (finished_last s.unfinished)) [])
+last_more false s = omega (arith, length-append s.finished (closed (finished_last s.unfinished)))
+
 no_fewer : (t : Told) (i : Item) → count t ≤ count (step t i)
-no_fewer t (item.Part r d f g media) =
-    let p : Part = record { duration = d; independent = f; finish = g; after_break = t.pending } in
-    let more = no_fewer_by t.ended g (split t.parts) p in
+no_fewer t (item.Part part) =
+    let p : Part = kept_part t.pending t.restart part in
+    let more = no_fewer_by t.ended part.finish (split t.parts) p in
     let e = ap (λ s. length (finished_by t.ended s)) (split-snoc t.parts p) in omega (arith, more, e)
-no_fewer t (item.Break r) = omega arith
+no_fewer t (item.Finish r) =
+    let more = last_more t.ended (split t.parts) in
+    let e = ap (λ s. length (finished_by t.ended s)) (split-last t.parts) in omega (arith, more, e)
+no_fewer t (item.Break r ms) = omega arith
 no_fewer t (item.Init r media) = omega arith
 no_fewer t (item.End r) = ended_more t.ended (split t.parts)
 no_fewer t (item.Range r id attributes) = omega arith
@@ -162,8 +173,9 @@ both c m p t = (
 )
 
 silent_step : (c : Configuration) (m p : ℕ) (t : Told) (i : Item) → is_about_ranges i ≡ true → both c m p (step t i) ≡ both c m p t
-silent_step c m p t (item.Part r d b f media) h = absurd (grind (arith, h))
-silent_step c m p t (item.Break r) h = absurd (grind (arith, h))
+silent_step c m p t (item.Part part) h = absurd (grind (arith, h))
+silent_step c m p t (item.Finish r) h = absurd (grind (arith, h))
+silent_step c m p t (item.Break r ms) h = absurd (grind (arith, h))
 silent_step c m p t (item.Init r media) h = absurd (grind (arith, h))
 silent_step c m p t (item.End r) h = absurd (grind (arith, h))
 silent_step c m p t (item.Range r id attributes) h = refl

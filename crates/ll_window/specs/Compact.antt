@@ -6,7 +6,7 @@ use Rattle.ll_item.specs.declared.item.Item.{Item}
 use Rattle.ll_item.specs.declared.part.Part.{Part}
 use Rattle.ll_window.specs.declared.part_position.PartPosition.{PartPosition}
 use Rattle.ll_window.specs.Numbers.{numbered_parts, last_place}
-use Rattle.ll_window.specs.Rows.{Row, row, rows, lasting, broken_in, is_broken, one_if}
+use Rattle.ll_window.specs.Rows.{Row, row, rows, begun, restarted, time_after, broken_in, is_broken, one_if}
 use Rattle.ll_item.specs.Told.{end_time, told}
 use Rattle.ll_window.specs.Segments.{parts, segments, open_segment, duration, ended}
 use Rattle.ll_window.specs.Window.{window_limit, near_limit, gone, window, listed, skipped_in}
@@ -26,6 +26,8 @@ pub record Compact : Type 0 where
   pub end_time : ℕ
   -- whether a break stands after the last part
   pub pending : Bool
+  -- the time that a break after the last part sets, where one does: milliseconds
+  pub restart : Option ℕ
   -- how many broken segments have left the window (section 4.4.3.3)
   pub discontinuity : ℕ
   -- where the last part stands, where there is one
@@ -45,13 +47,27 @@ compact c items = record {
   open_parts = open_segment items;
   next_number = c.first + length (segments items);
   maps = broken_in (all_rows c items);
-  open_time = c.start * 1000 + lasting (all_rows c items);
+  open_time = begun (time_after (c.start * 1000) (segments items)) (open_segment items);
   end_time = end_time items;
   pending = (told items).pending;
+  restart = (told items).restart;
   discontinuity = broken_in (gone (window_limit c) (all_rows c items));
   last = last_place (numbered_parts c.first 0 (parts items));
   ended = ended items;
 }
+
+abbrev pub clock_by : List Part → Option ℕ → ℕ → ℕ
+clock_by [] restart time = restarted restart time
+clock_by (p ∷ ps) restart time = time + duration (p ∷ ps)
+
+-- when the open segment begins with one more part
+abbrev pub opens_by : List Part → Option ℕ → ℕ → ℕ
+opens_by [] restart time = restarted restart time
+opens_by (p ∷ ps) restart time = time
+
+-- when the next part begins: where the last one ends, or when a break after it says
+abbrev pub clock : Compact → ℕ
+clock k = clock_by k.open_parts k.restart k.open_time
 
 -- the map number of the segment that the next part belongs to: how many segments are broken so far, and one more where a break is pending
 abbrev pub map_now : Compact → ℕ
@@ -62,10 +78,15 @@ abbrev pub first_broken : List Row → Bool → Bool
 first_broken [] other = other
 first_broken (row ∷ rows) other = row.segment.broken
 
--- the map number in force at the first segment that playlists show, of the window's or the open one: as many broken segments as have left the
+-- whether the segment of these parts is broken; where there are none yet, whether the next one's would be
+abbrev pub breaks_next : List Part → Bool → Bool
+breaks_next [] pending = pending
+breaks_next (p ∷ ps) pending = p.after_break
+
+-- the map number in force at the first segment that playlists show, of the window's or the open one, or of the next where there are none: as many broken segments as have left the
 -- window, and one more where that one is broken
 abbrev pub first_map : Compact → ℕ
-first_map k = k.discontinuity + one_if (first_broken k.window (is_broken k.open_parts))
+first_map k = k.discontinuity + one_if (first_broken k.window (breaks_next k.open_parts k.pending))
 
 -- the open segment, where it has a part
 abbrev pub open_row : ℕ → ℕ → ℕ → List Part → Option Row

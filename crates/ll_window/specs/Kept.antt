@@ -1,5 +1,5 @@
 -- For private contracts: what a window keeps beside its value.
-use Rattle.std.specs.Prelude.{◌≡◌, ℕ, ◌+◌, ◌*◌, ◌<◌, ◌≤◌, List, [], ◌∷◌, false, Some}
+use Rattle.std.specs.Prelude.{None, ◌≡◌, ℕ, ◌+◌, ◌*◌, ◌<◌, ◌≤◌, List, [], ◌∷◌, false, Some}
 use Rattle.ll_attr.specs.YearEnd.{last_micro}
 use Rattle.ll_item.specs.Settings.{Configuration, number_end}
 use Rattle.ll_item.specs.declared.part.Part.{Part}
@@ -8,21 +8,23 @@ use Rattle.ll_window.specs.declared.finished.Finished.{Finished}
 use Rattle.ll_window.specs.declared.part_position.PartPosition.{PartPosition}
 use Rattle.ll_window.specs.declared.segment.Segment.{Segment}
 use Rattle.ll_window.specs.Hidden.{AreHidden}
-use Rattle.ll_window.specs.Rows.{Row, lasting, broken_in}
+use Rattle.ll_window.specs.Rows.{Row, restarted, lasting, broken_in}
 use Rattle.ll_window.specs.Segments.{duration}
 use Rattle.ll_window.specs.Window.{near_limit}
 
--- each of these segments ends so long before this time as those after it last
+-- each of these segments ends at least so long before this time as those after it last
 abbrev pub AreTimed : List Row → ℕ → Type 0
 AreTimed [] time = Unit
-AreTimed (r ∷ rs) time = (r.segment.time + r.segment.duration + lasting rs ≡ time) × AreTimed rs time
+AreTimed (r ∷ rs) time = (r.segment.time + r.segment.duration + lasting rs ≤ time) × AreTimed rs time
 
--- with one more part of so many microseconds, which stands here
-abbrev pub grown : Progress → ℕ → PartPosition → Progress
-grown p micros place = record p {
+-- with one more part of so many microseconds, which stands here, and where the open segment begins at this time
+abbrev pub grown : Progress → ℕ → ℕ → PartPosition → Progress
+grown p time micros place = record p {
+  open_time = time;
   open_duration = p.open_duration + micros;
   end_time = p.end_time + micros;
   pending = false;
+  restart = None;
   last = Some place;
 }
 
@@ -45,12 +47,14 @@ spare (p ∷ ps) = 0
 pub record IsKept (c : Configuration) (f : Finished) (open_parts : List Part) (p : Progress) : Type 0 where
   pub sum : f.lasting ≡ lasting f.rows.items
   pub lasts : p.open_duration ≡ duration open_parts
-  pub ends : c.start * 1000 + p.end_time ≡ p.open_time + p.open_duration
+  pub ends : c.start * 1000 + p.end_time ≤ p.open_time + p.open_duration
   pub timed : AreTimed f.rows.items p.open_time
   pub within : lasting f.rows.items ≤ p.open_time
   pub breaks : f.discontinuity + broken_in f.rows.items ≡ p.maps
   pub few_maps : p.maps ≤ p.next_number
   pub numbers : p.next_number ≤ number_end + spare open_parts
-  pub times : c.start * 1000 + p.end_time ≤ last_micro
+  pub times : restarted p.restart (p.open_time + p.open_duration) ≤ last_micro
+  -- a break sets no time before the last part's end
+  pub forward : p.open_time + p.open_duration ≤ restarted p.restart (p.open_time + p.open_duration)
   pub hidden : AreHidden f
   pub far : 0 < f.far → near_limit c ≤ f.near_lasting + p.open_duration

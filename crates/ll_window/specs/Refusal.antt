@@ -5,9 +5,9 @@ use Rattle.ll_item.specs.Settings.{Configuration, number_end}
 use Rattle.ll_item.specs.declared.item.Item.{Item}
 use Rattle.ll_item.specs.declared.item.Item.TheVariants as item
 use Rattle.ll_item.specs.declared.part.Part.{Part}
-use Rattle.ll_window.specs.declared.window.PushFault.{PushFault}
-use Rattle.ll_window.specs.declared.window.PushFault.TheVariants.{Ended, BadDuration, TooLong, OpenSegment, CountEnd, TimeEnd}
-use Rattle.ll_window.specs.Compact.{Compact}
+use Rattle.ll_window.specs.declared.fault.PushFault.{PushFault}
+use Rattle.ll_window.specs.declared.fault.PushFault.TheVariants.{Ended, BadDuration, TooLong, OpenSegment, CountEnd, TimeEnd, NoSegment, TimeBack}
+use Rattle.ll_window.specs.Compact.{Compact, clock, compact}
 use Rattle.ll_item.specs.Told.{end_time}
 use Rattle.ll_window.specs.Segments.{segments, open_segment, duration, ended}
 
@@ -16,25 +16,36 @@ abbrev pub rounded : ℕ → ℕ
 rounded micros = (micros + 500000) / 1000000
 
 -- why a part of so many microseconds may not follow, where its segment has this number and lasts so long without it,
--- and the parts before it end at this time
+-- and it begins at this time
 abbrev pub part_refusal : Configuration → ℕ → ℕ → ℕ → ℕ → Option PushFault
 part_refusal c number lasts ends micros =
     if micros == 0 then Some BadDuration
     else if nat_lt c.part_target micros || nat_lt c.target (rounded (lasts + micros)) then Some TooLong
     else if nat_lt number_end number then Some CountEnd
-    else if nat_lt last_micro (c.start * 1000 + ends + micros) then Some TimeEnd
+    else if nat_lt last_micro (ends + micros) then Some TimeEnd
     else None
 
--- why a break may not follow these parts of the open segment: it has one
-abbrev pub break_refusal : List Part → Option PushFault
-break_refusal [] = None
-break_refusal (p ∷ ps) = Some OpenSegment
+-- why a time may not be set where the next part begins at this one
+abbrev pub time_refusal : ℕ → Option ℕ → Option PushFault
+time_refusal begins None = None
+time_refusal begins (Some ms) = if nat_lt (ms * 1000) begins then Some TimeBack else if nat_lt last_micro (ms * 1000) then Some TimeEnd else None
+
+-- why a break may not follow these parts of the open segment: it has one; nor set this time, where the next part begins at that one
+abbrev pub break_refusal : List Part → ℕ → Option ℕ → Option PushFault
+break_refusal [] begins time = time_refusal begins time
+break_refusal (p ∷ ps) begins time = Some OpenSegment
+
+-- why the open segment can't be finished: it has no part
+abbrev pub finish_refusal : List Part → Option PushFault
+finish_refusal [] = Some NoSegment
+finish_refusal (p ∷ ps) = None
 
 -- why an item may not follow these items of its rendition, which has not ended
 abbrev pub refusal_before_end : Configuration → List Item → Item → Option PushFault
-refusal_before_end c before (item.Part rendition micros independent finish media) =
-    part_refusal c (c.first + length (segments before)) (duration (open_segment before)) (end_time before) micros
-refusal_before_end c before (item.Break rendition) = break_refusal (open_segment before)
+refusal_before_end c before (item.Part part) =
+    part_refusal c (c.first + length (segments before)) (duration (open_segment before)) (clock (compact c before)) part.duration
+refusal_before_end c before (item.Finish rendition) = finish_refusal (open_segment before)
+refusal_before_end c before (item.Break rendition time) = break_refusal (open_segment before) (clock (compact c before)) time
 refusal_before_end c before (item.Init rendition media) = None
 refusal_before_end c before (item.End rendition) = None
 refusal_before_end c before (item.Range rendition id attributes) = None
@@ -50,8 +61,9 @@ refusal c before item = refusal_by (ended before) (refusal_before_end c before i
 
 -- why an item may not follow where this is kept of the items before it and the rendition has not ended
 abbrev pub refusal_going_on : Compact → Item → Option PushFault
-refusal_going_on k (item.Part rendition micros independent finish media) = part_refusal k.settings k.next_number (duration k.open_parts) k.end_time micros
-refusal_going_on k (item.Break rendition) = break_refusal k.open_parts
+refusal_going_on k (item.Part part) = part_refusal k.settings k.next_number (duration k.open_parts) (clock k) part.duration
+refusal_going_on k (item.Finish rendition) = finish_refusal k.open_parts
+refusal_going_on k (item.Break rendition time) = break_refusal k.open_parts (clock k) time
 refusal_going_on k (item.Init rendition media) = None
 refusal_going_on k (item.End rendition) = None
 refusal_going_on k (item.Range rendition id attributes) = None

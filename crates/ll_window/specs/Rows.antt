@@ -1,5 +1,5 @@
 -- What is told of each finished segment.
-use Rattle.std.specs.Prelude.{ℕ, ◌+◌, List, [], ◌∷◌, Bool, true, false, Option, Some, None, sum_by}
+use Rattle.std.specs.Prelude.{ℕ, ◌+◌, ◌*◌, List, [], ◌∷◌, Bool, true, false, Option, Some, None, sum_by}
 use Rattle.ll_item.specs.declared.part.Part.{Part}
 use Rattle.ll_window.specs.declared.segment.Segment.{Segment}
 use Rattle.ll_window.specs.Segments.{duration}
@@ -36,12 +36,28 @@ row number maps time ps = record {
   parts = ps;
 }
 
+-- the time that a break sets, or else this one
+abbrev pub restarted : Option ℕ → ℕ → ℕ
+restarted None time = time
+restarted (Some ms) time = ms * 1000
+
+-- when a segment begins, where the one before ends at this time: then, unless a timed break stands before its first part
+abbrev pub begun : ℕ → List Part → ℕ
+begun time [] = time
+begun time (p ∷ ps) = restarted p.restart time
+
+-- when these segments end, where the one before them ends at this time
+abbrev pub time_after : ℕ → List (List Part) → ℕ
+time_after time [] = time
+time_after time (segment ∷ segments) = time_after (begun time segment + duration segment) segments
+
 -- one row for each segment, the first after so many broken ones: each number is one more than the last (section 4.4.3.2),
--- each segment begins when the last one ends
+-- each segment begins when the last one ends, or when a break says
 abbrev pub rows : ℕ → ℕ → ℕ → List (List Part) → List Row
 rows number maps time [] = []
 rows number maps time (segment ∷ segments) =
-    row number maps time segment ∷ rows (number + 1) (maps + one_if (is_broken segment)) (time + duration segment) segments
+    row number maps (begun time segment) segment
+    ∷ rows (number + 1) (maps + one_if (is_broken segment)) (begun time segment + duration segment) segments
 
 -- microseconds
 abbrev pub lasting : List Row → ℕ

@@ -1,15 +1,16 @@
 -- For private contracts: what one more item makes of what is kept of the items before it, and why it may not follow them.
-use Rattle.std.specs.Prelude.{◌+◌, List, [], ◌∷◌, ◌++◌, Bool, true, false, Option, Some, None, length}
+use Rattle.std.specs.Prelude.{ℕ, ◌+◌, List, [], ◌∷◌, ◌++◌, Bool, true, false, Option, Some, None, length}
 use Rattle.ll_item.specs.declared.item.Item.{Item}
 use Rattle.ll_item.specs.declared.item.Item.TheVariants as item
 use Rattle.ll_item.specs.declared.part.Part.{Part}
 use Rattle.ll_window.specs.declared.part_position.PartPosition.{PartPosition}
-use Rattle.ll_window.specs.Compact.{Compact}
+use Rattle.ll_window.specs.Compact.{Compact, opens_by}
 use Rattle.ll_window.specs.Refusal.{part_refusal, break_refusal, refusal_by}
 use Rattle.ll_window.specs.Rows.{Row, row, one_if, is_broken, broken_in}
+use Rattle.ll_item.specs.Told.{finished_last, first_of, kept_part}
 use Rattle.ll_window.specs.Segments.{duration}
 use Rattle.ll_window.specs.Window.{window_limit, near_limit, gone, window, listed}
-use Rattle.ll_window.specs.declared.window.PushFault.{PushFault}
+use Rattle.ll_window.specs.declared.fault.PushFault.{PushFault}
 
 -- where the next part stands
 abbrev pub next_place : Compact → PartPosition
@@ -22,9 +23,11 @@ relisted k = record k { window = listed (near_limit k.settings) (duration k.open
 -- the open segment has one more part
 abbrev pub grown_by : Compact → Part → Compact
 grown_by k p = record k {
+  open_time = opens_by k.open_parts k.restart k.open_time;
   open_parts = k.open_parts ++ p ∷ [];
   end_time = k.end_time + p.duration;
   pending = false;
+  restart = None;
   last = Some (next_place k);
 }
 
@@ -60,8 +63,16 @@ abbrev pub with_part : Compact → Part → Compact
 with_part k p = with_part_by p.finish k p
 
 -- a break stands after the last part
-abbrev pub with_break : Compact → Compact
-with_break k = record k { pending = true }
+abbrev pub with_break : Compact → Option ℕ → Compact
+with_break k time = record k { pending = true; restart = first_of time k.restart }
+
+abbrev pub finished_by : List Part → Compact → Compact
+finished_by [] k = k
+finished_by (p ∷ ps) k = after_segment (record k { open_parts = finished_last (p ∷ ps) })
+
+-- the open segment ends with its last part
+abbrev pub with_finish : Compact → Compact
+with_finish k = finished_by k.open_parts k
 
 abbrev pub ended_by : List Part → Compact → Compact
 ended_by [] k = record k { ended = true }
@@ -72,9 +83,9 @@ abbrev pub with_end : Compact → Compact
 with_end k = ended_by k.open_parts k
 
 abbrev pub with_item : Compact → Item → Compact
-with_item k (item.Part rendition duration independent finish media) =
-    with_part k (record { duration = duration; independent = independent; finish = finish; after_break = k.pending })
-with_item k (item.Break rendition) = with_break k
+with_item k (item.Part part) = with_part k (kept_part k.pending k.restart part)
+with_item k (item.Finish rendition) = with_finish k
+with_item k (item.Break rendition time) = with_break k time
 with_item k (item.Init rendition media) = k
 with_item k (item.End rendition) = with_end k
 with_item k (item.Range rendition id attributes) = k

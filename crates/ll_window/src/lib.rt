@@ -2,6 +2,7 @@
 //! draft-pantos-hls-rfc8216bis-13.
 #![tactic(auto)]
 
+mod fault;
 mod finished;
 mod laws;
 mod part_position;
@@ -10,7 +11,8 @@ mod segment;
 mod wants;
 mod window;
 
+pub use fault::{PushError, PushFault};
 pub use laws::{numbers_law, ranges_law, wants_law, window_law};
 pub use part_position::PartPosition;
 pub use segment::Segment;
-pub use window::{PushFault, Window};
+pub use window::Window;

@@ -1,5 +1,6 @@
 //! How far a rendition has come.
 ghost use Rattle.std.specs.Prelude.{◌≡◌, ◌+◌, ◌<◌, ◌≤◌, ◌^◌};
+ghost use Rattle.ll_window.specs.Compact.{breaks_next};
 ghost use Rattle.ll_window.specs.Rows.{row};
 ghost use Rattle.ll_window.specs.Segments.{duration};
 ghost use Rattle.ll_window.specs.Rows as spec;
@@ -25,6 +26,8 @@ pub(crate) struct Progress {
     pub(crate) end_time: u64,
     /// Whether a break stands after the last part.
     pub(crate) pending: bool,
+    /// The time that a break after the last part sets, where one does: milliseconds.
+    pub(crate) restart: Option<u64>,
     /// Where the last part stands, where there is one.
     pub(crate) last: Option<PartPosition>,
     /// Whether the rendition has ended.
@@ -56,16 +59,28 @@ impl Progress {
         self.maps + one_if(is_broken(parts)) + one_if(self.pending)
     }
 
-    /// With one more part of so many microseconds, which stands here.
-    pub(crate) fn with_part(self, micros: u64, place: PartPosition) -> Progress
+    /// Whether the segment of these parts is broken; where there are none yet, whether the next one's would be.
+    pub(crate) fn breaks(&self, parts: &[Part]) -> bool
+        ensures { result ≡ breaks_next parts.now self.now.pending }
+    {
+        match parts.first() {
+            Some(part) => part.after_break,
+            None => self.pending,
+        }
+    }
+
+    /// With one more part of so many microseconds, which stands here, where the open segment begins at this time.
+    pub(crate) fn with_part(self, time: u64, micros: u64, place: PartPosition) -> Progress
         requires open { self.open_duration + micros < 2 ^ 64 }
         requires end { self.end_time + micros < 2 ^ 64 }
-        ensures { result ≡ grown self micros place }
+        ensures { result ≡ grown self time micros place }
     {
         Progress {
+            open_time: time,
             open_duration: self.open_duration + micros,
             end_time: self.end_time + micros,
             pending: false,
+            restart: None,
             last: Some(place),
             ..self
         }

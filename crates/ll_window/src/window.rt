@@ -3,57 +3,30 @@ ghost use Rattle.std.specs.Arc.{arc_value};
 ghost use Rattle.std.specs.Option.{option_map};
 ghost use Rattle.ll_item.specs.declared.item.Item.{Item};
 ghost use Rattle.ll_attr.specs.YearEnd.{last_micro};
-ghost use Rattle.ll_window.specs.Compact.{compact, first_map, map_now, unfinished};
+ghost use Rattle.ll_window.specs.Compact.{clock, compact, opens_by, first_map, map_now, unfinished};
 ghost use Rattle.ll_window.specs.Compact as kept;
-ghost use Rattle.ll_window.specs.Refusal.{refusal, refusal_after, part_refusal};
+ghost use Rattle.ll_window.specs.Refusal.{refusal, refusal_after, part_refusal, break_refusal, finish_refusal, time_refusal};
 ghost use Rattle.ll_window.specs.Segments.{duration};
-ghost use Rattle.ll_window.specs.Step.{relisted, with_item, with_part, with_part_by, with_end};
+ghost use Rattle.ll_window.specs.Step.{relisted, with_item, with_part, with_part_by, with_break, with_end, with_finish};
 ghost use Rattle.ll_window.specs.Step as step;
+ghost use Rattle.ll_window.specs.declared.fault.PushError.TheVariants as error;
 ghost use Rattle.ll_window.specs.Window.{segment_at, parts_at};
 
+use crate::fault::{PushError, PushFault};
 use crate::finished::Finished;
 use crate::part_position::PartPosition;
-use crate::progress::{Progress, is_broken, one_if};
+use crate::progress::{Progress, one_if};
 use crate::segment::Segment;
 use ll_item::{Item, Part, Settings};
 use std::alloc::{AllocError, Global};
 use std::marker::Model;
 use std::sync::Arc;
-use thiserror::Error;
 
 /// The largest media sequence number.
 const LAST_NUMBER: u64 = 1 << 60;
 
 /// The last microsecond of the year 9999, from 1970 on.
 const LAST_MICRO: u64 = 253_402_300_799_999_999;
-
-/// Why an item may not follow the items before it: the first rule that refuses it, in this order. Memory is answered
-/// only where no rule refuses it.
-#[derive(Clone, Copy, Debug, PartialEq, Eq, Error)]
-pub enum PushFault {
-    /// Anything after the end of its rendition (EXT-X-ENDLIST, section 4.4.3.4).
-    #[error("Ended")]
-    Ended,
-    /// A part of 0 microseconds.
-    #[error("BadDuration")]
-    BadDuration,
-    /// A part longer than the part target (EXT-X-PART-INF, section 4.4.3.7), or with which its segment lasts longer than the
-    /// target duration, in whole seconds and half a second upwards (EXT-X-TARGETDURATION, section 4.4.3.1).
-    #[error("TooLong")]
-    TooLong,
-    /// A break inside a segment: it has parts and none that finishes it (EXT-X-DISCONTINUITY, section 4.4.4.3).
-    #[error("OpenSegment")]
-    OpenSegment,
-    /// A part of a segment whose media sequence number is past 2^60 (EXT-X-MEDIA-SEQUENCE, section 4.4.3.2).
-    #[error("CountEnd")]
-    CountEnd,
-    /// A part that ends past the year 9999.
-    #[error("TimeEnd")]
-    TimeEnd,
-    /// No memory was found.
-    #[error("Memory")]
-    Memory,
-}
 
 /// What of all items of one rendition is still needed: the finished segments that a playlist shows and the parts of the
 /// open one. A segment leaves once those after it alone last as long as the window does at least (section 6.2.2).
@@ -82,6 +55,7 @@ impl Model for Window {
       open_time = w.progress.open_time;
       end_time = w.progress.end_time;
       pending = w.progress.pending;
+      restart = w.progress.restart;
       discontinuity = w.finished.discontinuity;
       last = w.progress.last;
       ended = w.progress.ended;
@@ -109,6 +83,7 @@ impl Window {
             open_duration: 0,
             end_time: 0,
             pending: false,
+            restart: None,
             last: None,
             ended: false,
         };
@@ -121,29 +96,29 @@ impl Window {
         }
     }
 
-    /// Adds the next item, or answers the first rule that refuses it, or that memory ran out; nothing changes then. A date range
+    /// Adds the next item, or returns the first rule that refuses it, or that memory ran out, and changes nothing then. A date range
     /// changes nothing here, and the end alone refuses it. The caller brings the items of one rendition alone: which one an item
     /// names isn't looked at.
-    pub fn push(&mut self, item: Item) -> Result<(), PushFault>
+    pub fn push(&mut self, item: Item) -> Result<(), PushError>
         ensures accepted { (items : List Item) → self.old ≡ compact self.old.settings items
             → OnOk result ((refusal self.old.settings items item ≡ None)
             × (self.new ≡ compact self.old.settings (items ++ item ∷ []))) }
         ensures refused { (items : List Item) → self.old ≡ compact self.old.settings items
-            → IfErr result (λ f. f ≢ PushFault.Memory → refusal self.old.settings items item ≡ Some f) }
+            → IfErr result (λ e. e ≢ PushError.Memory → option_map error.Refused (refusal self.old.settings items item) ≡ Some e) }
         ensures memory { (items : List Item) → self.old ≡ compact self.old.settings items
-            → IsErrOf result PushFault.Memory → refusal self.old.settings items item ≡ None }
+            → IsErrOf result PushError.Memory → refusal self.old.settings items item ≡ None }
         ensures unchanged { OnErr result (self.new ≡ self.old) }
     {
         if let Some(fault) = self.fault(&item) {
-            return Err(fault);
+            return Err(PushError::Refused(fault));
         }
         match self.accept(item) {
             Ok(()) => Ok(()),
-            Err(AllocError) => Err(PushFault::Memory),
+            Err(AllocError) => Err(PushError::Memory),
         }
     }
 
-    /// What `push` would answer but for memory; nothing changes.
+    /// Returns the rule by which `push` would refuse `item`.
     pub fn test(&self, item: &Item) -> Result<(), PushFault>
         ensures first { (items : List Item) → self.now ≡ compact self.now.settings items
             → MatchResult result (λ _. refusal self.now.settings items item.now ≡ None) (λ f. refusal self.now.settings items item.now ≡ Some f) }
@@ -212,13 +187,13 @@ impl Window {
         self.progress.map_number(self.open_parts.as_slice())
     }
 
-    /// The number of the Media Initialization Section in force at the first segment that a playlist shows, which is finished or open.
+    /// The number of the Media Initialization Section in force at the first segment that a playlist shows, which is finished or open, or is the next.
     pub fn first_map_number(&self) -> u64
         ensures { result ≡ first_map self.now }
     {
         let broken = match self.finished.row(0) {
             Some(kept) => kept.segment.broken,
-            None => is_broken(self.open_parts.as_slice()),
+            None => self.progress.breaks(self.open_parts.as_slice()),
         };
         self.finished.discontinuity + one_if(broken)
     }
@@ -299,15 +274,49 @@ impl Window {
         match item {
             Item::Init { .. } | Item::End { .. } | Item::Range { .. } | Item::Unrange { .. } =>
                 None,
-            Item::Part { duration, .. } => self.part_fault(*duration),
-            Item::Break { .. } if self.open_parts.is_empty() => None,
+            Item::Part(part) => self.part_fault(part.duration),
+            Item::Finish { .. } if self.open_parts.is_empty() => Some(PushFault::NoSegment),
+            Item::Finish { .. } => None,
+            Item::Break { time, .. } if self.open_parts.is_empty() => self.time_fault(*time),
             Item::Break { .. } => Some(PushFault::OpenSegment),
+        }
+    }
+
+    /// Why this time may not be set.
+    fn time_fault(&self, time: Option<u64>) -> Option<PushFault>
+        ensures { result ≡ time_refusal (clock self.now) time }
+    {
+        match time {
+            Some(ms) if ms.saturating_mul(1_000) < self.clock() => Some(PushFault::TimeBack),
+            Some(ms) if LAST_MICRO < ms.saturating_mul(1_000) => Some(PushFault::TimeEnd),
+            _ => None,
+        }
+    }
+
+    /// When the next part begins, in microseconds since 1970-01-01T00:00:00Z: where the last one ends, or when a break after it says.
+    pub fn clock(&self) -> u64
+        ensures value { result ≡ clock self.now }
+        ensures time { result ≤ last_micro }
+    {
+        match self.progress.restart {
+            Some(ms) if self.open_parts.is_empty() => ms * 1_000,
+            _ => self.progress.open_time + self.progress.open_duration,
+        }
+    }
+
+    /// When the open segment begins, with one more part.
+    fn begun(&self) -> u64
+        ensures { result ≡ opens_by self.now.open_parts self.now.restart self.now.open_time }
+    {
+        match self.progress.restart {
+            Some(ms) if self.open_parts.is_empty() => ms * 1_000,
+            _ => self.progress.open_time,
         }
     }
 
     /// Why a part of so many microseconds may not follow.
     fn part_fault(&self, micros: u64) -> Option<PushFault>
-        ensures { result ≡ part_refusal self.now.settings self.now.next_number (duration self.now.open_parts) self.now.end_time micros }
+        ensures { result ≡ part_refusal self.now.settings self.now.next_number (duration self.now.open_parts) (clock self.now) micros }
     {
         let (part_target, target) = (self.settings.part_target(), self.settings.target());
         if micros == 0 {
@@ -318,14 +327,14 @@ impl Window {
             Some(PushFault::TooLong)
         } else if LAST_NUMBER < self.progress.next_number {
             Some(PushFault::CountEnd)
-        } else if LAST_MICRO < self.settings.start() * 1_000 + self.progress.end_time + micros {
+        } else if LAST_MICRO < self.clock() + micros {
             Some(PushFault::TimeEnd)
         } else {
             None
         }
     }
 
-    /// Adds an item that `test` lets go. It fails only where no memory is found, and changes nothing then.
+    /// Adds an item that passes `test`. If it runs out of memory, nothing changes.
     pub fn accept(&mut self, item: Item) -> Result<(), AllocError>
         requires { refusal_after self.old item ≡ None }
         ensures accepted { (items : List Item) → self.old ≡ compact self.old.settings items → OnOk result (self.new ≡ compact self.old.settings (items ++ item ∷ [])) }
@@ -342,18 +351,15 @@ impl Window {
         ensures err { OnErr result (self.new ≡ self.old) }
     {
         match item {
-            Item::Part {
-                duration,
-                independent,
-                finish,
-                ..
-            } => self.add_part(Part {
-                duration,
-                independent,
-                finish,
+            Item::Part(part) => self.add_part(Part {
+                duration: part.duration,
+                independent: part.independent,
+                finish: part.finish,
                 after_break: self.progress.pending,
+                restart: self.progress.restart,
             })?,
-            Item::Break { .. } => self.progress.pending = true,
+            Item::Finish { .. } => self.finish_open()?,
+            Item::Break { time, .. } => self.add_break(time),
             Item::End { .. } => self.end()?,
             Item::Init { .. } | Item::Range { .. } | Item::Unrange { .. } => {}
         }
@@ -362,16 +368,16 @@ impl Window {
 
     /// Adds a part that may follow.
     fn add_part(&mut self, part: Part) -> Result<(), AllocError>
-        requires { part_refusal self.old.settings self.old.next_number (duration self.old.open_parts) self.old.end_time part.duration ≡ None }
+        requires { part_refusal self.old.settings self.old.next_number (duration self.old.open_parts) (clock self.old) part.duration ≡ None }
         ensures ok { OnOk result (self.new ≡ with_part self.old part) }
         ensures err { OnErr result (self.new ≡ self.old) }
     {
         if part.finish {
             self.finish(part)?;
         } else {
-            let place = self.next_place();
+            let (begun, place) = (self.begun(), self.next_place());
             self.open_parts.push(part)?;
-            self.progress = self.progress.with_part(part.duration, place);
+            self.progress = self.progress.with_part(begun, part.duration, place);
             self.hide();
         }
         Ok(())
@@ -379,12 +385,14 @@ impl Window {
 
     /// Adds the last part of a segment, which may follow.
     fn finish(&mut self, part: Part) -> Result<(), AllocError>
-        requires { part_refusal self.old.settings self.old.next_number (duration self.old.open_parts) self.old.end_time part.duration ≡ None }
+        requires { part_refusal self.old.settings self.old.next_number (duration self.old.open_parts) (clock self.old) part.duration ≡ None }
         ensures ok { OnOk result (self.new ≡ with_part_by true self.old part) }
         ensures err { OnErr result (self.new ≡ self.old) }
     {
         let least = self.settings.window() * 1_000_000;
-        let progress = self.progress.with_part(part.duration, self.next_place());
+        let progress = self
+            .progress
+            .with_part(self.begun(), part.duration, self.next_place());
         self.open_parts.push(part)?;
         let parts = &mut self.open_parts;
         match self.finished.finish(self.alloc, least, progress, parts) {
@@ -395,6 +403,47 @@ impl Window {
             }
             Err(AllocError) => {
                 self.open_parts.pop();
+                Err(AllocError)
+            }
+        }
+    }
+
+    /// Adds a break that may follow.
+    fn add_break(&mut self, time: Option<u64>)
+        requires { break_refusal self.old.open_parts (clock self.old) time ≡ None }
+        ensures { self.new ≡ with_break self.old time }
+    {
+        self.progress.pending = true;
+        if time.is_some() {
+            self.progress.restart = time;
+        }
+    }
+
+    /// Finishes the open segment with its last part.
+    fn finish_open(&mut self) -> Result<(), AllocError>
+        requires { finish_refusal self.old.open_parts ≡ None }
+        ensures ok { OnOk result (self.new ≡ with_finish self.old) }
+        ensures err { OnErr result (self.new ≡ self.old) }
+    {
+        let least = self.settings.window() * 1_000_000;
+        let progress = self.progress;
+        let parts = &mut self.open_parts;
+        let Some(last) = parts.pop() else {
+            unreachable!();
+        };
+        parts.push_reserved(Part {
+            finish: true,
+            ..last
+        });
+        match self.finished.finish(self.alloc, least, progress, parts) {
+            Ok(segment) => {
+                self.progress = progress.after(segment);
+                self.hide();
+                Ok(())
+            }
+            Err(AllocError) => {
+                parts.pop();
+                parts.push_reserved(last);
                 Err(AllocError)
             }
         }

@@ -7,7 +7,7 @@ use Rattle.ll_room.proofs.KeptLemmas.{few-events}
 use Rattle.ll_room.proofs.PublishLemmas.{apart, released-item}
 use Rattle.ll_room.proofs.StoreLemmas.{coming-with, free-few, stored}
 use Rattle.ll_room.specs.Coming.{IsComing, changed}
-use Rattle.ll_room.specs.Freed.{AreApart, StoresGoOn, with_item, with_stores}
+use Rattle.ll_room.specs.Freed.{AreApart, StoresGoOn, part_in, with_item, with_stores}
 use Rattle.ll_room.specs.RoomValue.{RoomValue}
 use Rattle.ll_room.specs.contracts.room.Room.{the_view}
 use Rattle.ll_store.specs.Stores.{all_kept, map_at, stores_with}
@@ -43,6 +43,7 @@ returns-clause-accepted c =
     c.change.ensures
     ∙ ap (λ r. with_stores r ss)
     (ap (λ (r : RoomValue). changed r c.args.first c.args.second x) c.self.view_is
-    ∙ released-item now c.args.item c.args.first c.args.second x c.requires.releases c.in_ok-coming.ensures.rendition c.in_ok-coming.ensures.part is)
+    ∙ released-item now c.args.item c.args.first c.args.second x c.requires.releases c.in_ok-coming.ensures.rendition
+    (c.in_ok-coming.ensures.part ∙ ap (λ (r : RoomValue). part_in r c.args.item) c.self.view_is) is)
     ∙ ap₂ (λ ks q. with_stores (with_item now ks c.args.item) q) (sym (ap (λ (r : RoomValue). r.renditions) c.change.ensures))
     (sym (ap (λ (r : RoomValue). r.stores) c.change.ensures))

@@ -1,11 +1,13 @@
 -- Why an item may not follow is told by what is kept.
-use Rattle.std.proofs.Common.{None, Some}
+use Rattle.std.proofs.Common.{None, Some, ap}
+use Rattle.std.specs.Option.{option_map}
+use Rattle.ll_window.specs.declared.fault.PushError.TheVariants.{Refused}
 use Rattle.ll_window.proofs.StepLemmas.{refusal_told}
 use Rattle.ll_window.proofs.window.Window.push.Goals as goal
 
 pub returns-in-Some-clause-refused : goal.returns-in-Some-clause-refused
 returns-in-Some-clause-refused c items reached not_memory =
-    refusal_told c.args.self.now items c.args.item (Some c.in-Some.fault) c.in-Some.ensures reached
+    ap (option_map Refused) (refusal_told c.args.self.now items c.args.item (Some c.in-Some.fault) c.in-Some.ensures reached)
 
 pub returns-in-Ok-clause-accepted : goal.returns-in-Ok-clause-accepted
 returns-in-Ok-clause-accepted c items reached =
