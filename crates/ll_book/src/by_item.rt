@@ -4,8 +4,8 @@ ghost use Rattle.ll_book.specs.Releases as spec;
 
 use crate::book::Book;
 use crate::holders::Holders;
-use crate::release::Release;
 use crate::next_part::NextPart;
+use crate::release::Release;
 use ll_item::Item;
 use ll_window::Window;
 use ll_written::Pages;

@@ -55,9 +55,10 @@ id_line id h = inside_from is_id_byte id refl refl (and_parts _ (list_all is_id_
 abbrev HasLine : Item → Type 0
 HasLine (item.Range rendition id attributes) = is_one_line id ≡ true
 HasLine (item.Unrange rendition id) = Unit
-HasLine (item.Part rendition duration independent finish media) = Unit
+HasLine (item.Part p) = Unit
 HasLine (item.Init rendition media) = Unit
-HasLine (item.Break rendition) = Unit
+HasLine (item.Finish rendition) = Unit
+HasLine (item.Break rendition time) = Unit
 HasLine (item.End rendition) = Unit
 
 abbrev IsOnLine : Listed → Type 0
@@ -66,9 +67,10 @@ IsOnLine x = is_one_line x.id ≡ true
 has_line : (c : Configuration) (before : List Item) (i : Item) → range.refusal c before i ≡ None → HasLine i
 has_line c before (item.Range r id attributes) h = id_line id (added (end_time before) id attributes (announced c before) h).0
 has_line c before (item.Unrange r id) h = tt
-has_line c before (item.Part r duration independent finish media) h = tt
+has_line c before (item.Part p) h = tt
 has_line c before (item.Init r media) h = tt
-has_line c before (item.Break r) h = tt
+has_line c before (item.Finish r) h = tt
+has_line c before (item.Break r time) h = tt
 has_line c before (item.End r) h = tt
 
 one_taken : (c : Configuration) (before : List Item) (i : Item) (o : Option PublishFault) → refusal c before i ≡ o → All HasLine before
@@ -90,9 +92,10 @@ step_lines t (item.Range r id attributes) line h =
     let x : Listed = record { id = id; attributes = spelling attributes; added = t.end_time } in
     All-append IsOnLine t.listed (x ∷ []) h (All-cons IsOnLine x [] line (All-nil IsOnLine))
 step_lines t (item.Unrange r id) line h = All-filter (λ (x : Listed). not (bytes_eq id x.id)) IsOnLine t.listed h
-step_lines t (item.Part r duration independent finish media) line h = h
+step_lines t (item.Part p) line h = h
 step_lines t (item.Init r media) line h = h
-step_lines t (item.Break r) line h = h
+step_lines t (item.Finish r) line h = h
+step_lines t (item.Break r time) line h = h
 step_lines t (item.End r) line h = h
 
 on_lines : (t : Told) (xs : List Item) → All HasLine xs → All IsOnLine t.listed → All IsOnLine (fold step t xs).listed

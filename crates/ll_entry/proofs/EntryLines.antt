@@ -11,21 +11,22 @@ use Rattle.ll_format.specs.Format.{◌>>=◌, Format, up_to}
 use Rattle.ll_format.specs.Words.{is_one_line}
 use Rattle.ll_format.proofs.FormatLaws.{FormatLaws, WordLaws, up_to-laws, to_end-laws, key_again, inside_both}
 use Rattle.ll_item.proofs.LastWord.{cut-is, words-more}
-use Rattle.ll_item.specs.Items.{blank, item_in, media_of}
+use Rattle.ll_item.specs.Items.{blank, flags_text, item_in, media_of}
 use Rattle.ll_item.specs.Media.{media_limit, zeros}
 use Rattle.ll_item.specs.Names.{is_name}
 use Rattle.ll_item.specs.Settings.{Configuration, limit_broken}
 use Rattle.ll_item.proofs.WithinLimits.{within}
 use Rattle.ll_item.specs.declared.item.Item.{Item}
 use Rattle.ll_item.specs.declared.item.Item.TheVariants as item
-use Rattle.ll_entry.specs.ItemLines.{IsWritable, item_line, part_line, init_line, break_line, end_line, range_line, unrange_line, flags_text, name_of}
+use Rattle.ll_entry.specs.ItemLaws.{IsWritable}
+use Rattle.ll_item.specs.ItemLines.{item_line, part_line, init_line, finish_line, break_line, timed_break_line, break_text, counted_line, end_line, range_line, unrange_line, name_of, published_line}
 use Rattle.ll_item.specs.declared.what.What.{What}
 use Rattle.ll_item.specs.declared.what.What.TheVariants as what
 use Rattle.ll_verdict.specs.declared.reply.Outcome.{Outcome}
 use Rattle.ll_entry.specs.Entries.{reply_fields, place_fields, ask_fields, media_fields, file_fields, collect_fields, want_by, where_named, ask_of, media_in, media_of as request_of, collect_of, counted, entry_by, item_text, measured, media, publish_by, published, entry_in}
 use Rattle.ll_entry.specs.Blank.{blank_entry}
 use Rattle.ll_entry.specs.Laws.{EntryLaw}
-use Rattle.ll_entry.specs.Lines.{msn_of, part_of, ask_values, asked_line, media_values, counted_line, entry_line, published_line, AwaitedWithin, IsSpelled, WhatWithin}
+use Rattle.ll_entry.specs.Lines.{msn_of, part_of, ask_values, asked_line, media_values, entry_line, AwaitedWithin, IsSpelled, WhatWithin}
 use Rattle.ll_entry.specs.Replies.{most, count, or_dash, FileWithin, WithinDash, OutcomeWithin, awaited_of, with_key}
 use Rattle.ll_entry.specs.Frame.{last_line}
 use Rattle.ll_entry.specs.declared.entry.Recorded.{Recorded}
@@ -212,9 +213,21 @@ init_again : (name : List ℕ) (n : ℕ) → n ≤ media_limit → item_text Two
 unfolding init_line
 init_again name n few = counted-again (init_line name) n few
 
-break_again : (name : List ℕ) → item_text Two (break_line name) ≡ Some (break_line name, 0)
+finish_again : (name : List ℕ) → item_text Two (finish_line name) ≡ Some (finish_line name, 0)
+unfolding finish_line
+finish_again name = refl
+
+plain_again : (name : List ℕ) → item_text Two (break_line name) ≡ Some (break_line name, 0)
 unfolding break_line
-break_again name = refl
+plain_again name = refl
+
+timed_again : (name : List ℕ) (ms : ℕ) → item_text Two (timed_break_line name ms) ≡ Some (timed_break_line name ms, 0)
+unfolding timed_break_line
+timed_again name ms = refl
+
+break_again : (name : List ℕ) (time : Option ℕ) → item_text Two (break_text name time) ≡ Some (break_text name time, 0)
+break_again name None = plain_again name
+break_again name (Some ms) = timed_again name ms
 
 end_again : (name : List ℕ) → item_text Two (end_line name) ≡ Some (end_line name, 0)
 unfolding end_line
@@ -230,9 +243,10 @@ unfolding unrange_line
 unrange_again name id = refl
 
 text_again : (c : Configuration) (i : Item) → length (media_of i) ≤ media_limit → item_text Two (published_line c i) ≡ Some (item_line c i, length (media_of i))
-text_again c (item.Part r duration independent finish media) few = part_again (name_of c r) (flags_text independent finish) duration (length media) few
+text_again c (item.Part p) few = part_again (name_of c p.rendition) (flags_text p.independent p.finish) p.duration (length p.media) few
 text_again c (item.Init r media) few = init_again (name_of c r) (length media) few
-text_again c (item.Break r) few = break_again (name_of c r)
+text_again c (item.Finish r) few = finish_again (name_of c r)
+text_again c (item.Break r time) few = break_again (name_of c r) time
 text_again c (item.End r) few = end_again (name_of c r)
 text_again c (item.Range r id attributes) few = range_again c r id attributes
 text_again c (item.Unrange r id) few = unrange_again (name_of c r) id
@@ -241,17 +255,19 @@ counted_one : (line : List ℕ) (n : ℕ) → n ≤ media_limit → is_one_line 
 counted_one line n few h = inside_both line (codes " " ++ decimal n) h (number-word n (omega (arith, few))).one_line
 
 line_again : (c : Configuration) (i : Item) → length (media_of i) ≤ media_limit → is_one_line (item_line c i) ≡ true → is_one_line (published_line c i) ≡ true
-line_again c (item.Part r duration independent finish media) few h = counted_one (item_line c (item.Part r duration independent finish media)) (length media) few h
+line_again c (item.Part p) few h = counted_one (item_line c (item.Part p)) (length p.media) few h
 line_again c (item.Init r media) few h = counted_one (item_line c (item.Init r media)) (length media) few h
-line_again c (item.Break r) few h = h
+line_again c (item.Finish r) few h = h
+line_again c (item.Break r time) few h = h
 line_again c (item.End r) few h = h
 line_again c (item.Range r id attributes) few h = h
 line_again c (item.Unrange r id) few h = h
 
 few-bytes : (c : Configuration) (i : Item) → IsWritable c i → length (media_of i) ≤ media_limit
-few-bytes c (item.Part r duration independent finish media) h = h.2
+few-bytes c (item.Part p) h = h.2
 few-bytes c (item.Init r media) h = h.1
-few-bytes c (item.Break r) h = omega arith
+few-bytes c (item.Finish r) h = omega arith
+few-bytes c (item.Break r time) h = omega arith
 few-bytes c (item.End r) h = omega arith
 few-bytes c (item.Range r id attributes) h = omega arith
 few-bytes c (item.Unrange r id) h = omega arith
@@ -263,10 +279,11 @@ as_many media few = subst (λ n. n ≤ media_limit) (sym (length-replicate (leng
 -- the line of an item is read as the item with zeros in place of its bytes
 blank_back : (c : Configuration) (i : Item) → limit_broken c ≡ None → IsWritable c i
     → (item_in c (item_line c i) (zeros (length (media_of i))) ≡ Ok (blank i)) × (is_one_line (item_line c i) ≡ true)
-blank_back c (item.Part r duration independent finish media) none h =
-    item_back c (item.Part r duration independent finish (zeros (length media))) none (h.0, h.1, as_many media h.2)
+blank_back c (item.Part p) none h =
+    item_back c (item.Part (record p { media = zeros (length p.media) })) none (h.0, h.1, as_many p.media h.2)
 blank_back c (item.Init r media) none h = item_back c (item.Init r (zeros (length media))) none (h.0, as_many media h.1)
-blank_back c (item.Break r) none h = item_back c (item.Break r) none h
+blank_back c (item.Finish r) none h = item_back c (item.Finish r) none h
+blank_back c (item.Break r time) none h = item_back c (item.Break r time) none h
 blank_back c (item.End r) none h = item_back c (item.End r) none h
 blank_back c (item.Range r id attributes) none h = item_back c (item.Range r id attributes) none h
 blank_back c (item.Unrange r id) none h = item_back c (item.Unrange r id) none h

@@ -11,7 +11,8 @@ use Rattle.ll_range.specs.Announced as range
 use Rattle.ll_rendition.specs.Kept.{kept}
 use Rattle.ll_rendition.specs.Refusal.{rendition_refusal}
 use Rattle.ll_verdict.specs.Accepted.{refusal}
-use Rattle.ll_window.specs.Compact.{Compact, compact}
+use Rattle.ll_window.proofs.StepLemmas.{kept_of}
+use Rattle.ll_window.specs.Compact.{clock, compact}
 use Rattle.ll_window.specs.Numbers.{last_place, numbered_parts}
 use Rattle.ll_window.specs.Refusal as window
 use Rattle.ll_window.specs.Rows.{Row, broken_in, lasting, rows}
@@ -22,9 +23,10 @@ use Rattle.ll_window.specs.declared.part_position.PartPosition.{PartPosition}
 -- ---- one rendition's items
 
 step-blank : (t : Told) (i : Item) → step t (blank i) ≡ step t i
-step-blank t (item.Part r d i f media) = refl
+step-blank t (item.Part p) = refl
 step-blank t (item.Init r media) = refl
-step-blank t (item.Break r) = refl
+step-blank t (item.Finish r) = refl
+step-blank t (item.Break r time) = refl
 step-blank t (item.End r) = refl
 step-blank t (item.Range r id attributes) = refl
 step-blank t (item.Unrange r id) = refl
@@ -37,9 +39,10 @@ pub told-blank : (xs : List Item) → told (map blank xs) ≡ told xs
 told-blank xs = fold-blank start xs
 
 pub rendition-blank : (i : Item) → rendition_of (blank i) ≡ rendition_of i
-rendition-blank (item.Part r d i f media) = refl
+rendition-blank (item.Part p) = refl
 rendition-blank (item.Init r media) = refl
-rendition-blank (item.Break r) = refl
+rendition-blank (item.Finish r) = refl
+rendition-blank (item.Break r time) = refl
 rendition-blank (item.End r) = refl
 rendition-blank (item.Range r id attributes) = refl
 rendition-blank (item.Unrange r id) = refl
@@ -73,26 +76,11 @@ rows_of c t = rows c.first 0 (c.start * 1000) (finished_of t)
 abbrev pub last_in : Configuration → Told → Option PartPosition
 last_in c t = last_place (numbered_parts c.first 0 t.parts)
 
-abbrev compact_of : Configuration → Told → Compact
-compact_of c t = record {
-  settings = c;
-  window = shown.listed (shown.near_limit c) (duration (open_of t)) (shown.window (shown.window_limit c) (rows_of c t));
-  open_parts = open_of t;
-  next_number = c.first + length (finished_of t);
-  maps = broken_in (rows_of c t);
-  open_time = c.start * 1000 + lasting (rows_of c t);
-  end_time = t.end_time;
-  pending = t.pending;
-  discontinuity = broken_in (shown.gone (shown.window_limit c) (rows_of c t));
-  last = last_in c t;
-  ended = t.ended;
-}
-
 abbrev announced_of : Configuration → Told → range.Announced
 announced_of c t = record { limit = skip_limit c; listed = t.listed; recent = filter (range.is_recent (skip_limit c) t.end_time) t.removals }
 
 pub compact-blank : (c : Configuration) (xs : List Item) → compact c (map blank xs) ≡ compact c xs
-compact-blank c xs = ap (compact_of c) (told-blank xs)
+compact-blank c xs = ap (kept_of c) (told-blank xs)
 
 announced-blank : (c : Configuration) (xs : List Item) → range.announced c (map blank xs) ≡ range.announced c xs
 announced-blank c xs = ap (announced_of c) (told-blank xs)
@@ -108,18 +96,21 @@ each-blank c xs r (name ∷ names) =
 -- ---- what is refused
 
 window-blank : (c : Configuration) (xs : List Item) (i : Item) → window.refusal c (map blank xs) (blank i) ≡ window.refusal c xs i
-window-blank c xs (item.Part r d i f media) =
-    ap (λ (t : Told). window.refusal_by t.ended (window.part_refusal c (c.first + length (finished_of t)) (duration (open_of t)) t.end_time d)) (told-blank xs)
+window-blank c xs (item.Part p) =
+    ap (λ (t : Told). window.refusal_by t.ended (window.part_refusal c (c.first + length (finished_of t)) (duration (open_of t)) (clock (kept_of c t)) p.duration)) (told-blank xs)
 window-blank c xs (item.Init r media) = ap (λ (t : Told). window.refusal_by t.ended None) (told-blank xs)
-window-blank c xs (item.Break r) = ap (λ (t : Told). window.refusal_by t.ended (window.break_refusal (open_of t))) (told-blank xs)
+window-blank c xs (item.Finish r) = ap (λ (t : Told). window.refusal_by t.ended (window.finish_refusal (open_of t))) (told-blank xs)
+window-blank c xs (item.Break r time) =
+    ap (λ (t : Told). window.refusal_by t.ended (window.break_refusal (open_of t) (clock (kept_of c t)) time)) (told-blank xs)
 window-blank c xs (item.End r) = ap (λ (t : Told). window.refusal_by t.ended None) (told-blank xs)
 window-blank c xs (item.Range r id attributes) = ap (λ (t : Told). window.refusal_by t.ended None) (told-blank xs)
 window-blank c xs (item.Unrange r id) = ap (λ (t : Told). window.refusal_by t.ended None) (told-blank xs)
 
 range-blank : (c : Configuration) (xs : List Item) (i : Item) → range.refusal c (map blank xs) (blank i) ≡ range.refusal c xs i
-range-blank c xs (item.Part r d i f media) = refl
+range-blank c xs (item.Part p) = refl
 range-blank c xs (item.Init r media) = refl
-range-blank c xs (item.Break r) = refl
+range-blank c xs (item.Finish r) = refl
+range-blank c xs (item.Break r time) = refl
 range-blank c xs (item.End r) = refl
 range-blank c xs (item.Range r id attributes) = ap (λ (t : Told). range.add_refusal t.end_time id attributes (announced_of c t)) (told-blank xs)
 range-blank c xs (item.Unrange r id) = ap (λ (t : Told). range.remove_refusal id (announced_of c t)) (told-blank xs)

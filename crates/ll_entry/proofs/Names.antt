@@ -10,7 +10,8 @@ use Rattle.ll_format.proofs.WordLaws.{inside_from, lacks_from}
 use Rattle.ll_item.specs.Items.{named, rendition_named}
 use Rattle.ll_item.specs.Names.{is_name, is_name_byte, is_among, are_names}
 use Rattle.ll_item.specs.Settings.{Configuration, names_in}
-use Rattle.ll_entry.specs.ItemLines.{name_of, names_text}
+use Rattle.ll_item.specs.ItemLines.{name_of}
+use Rattle.ll_entry.specs.SettingsLine.{names_text}
 use Rattle.ll_entry.proofs.Cuts.{cut_again, all-joined, IsWord}
 
 -- the bytes of a name

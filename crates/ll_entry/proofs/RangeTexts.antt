@@ -4,7 +4,7 @@ use Rattle.ll_attr.specs.Attributes.{attributes_in, spelling}
 use Rattle.ll_attr.specs.declared.attributes.Attribute.{Attribute}
 use Rattle.ll_page.proofs.RangeTexts.{read-with_id}
 use Rattle.ll_range.specs.Attributes.{are_allowed, is_id}
-use Rattle.ll_entry.specs.ItemLines.{with_id}
+use Rattle.ll_item.specs.ItemLines.{with_id}
 
 some_read : (id : List ℕ) (a : Attribute) (more : List Attribute) (text : List ℕ) → is_id id ≡ true → are_allowed (a ∷ more) ≡ true → spelling (a ∷ more) ≡ text
     → attributes_in text ≡ Ok (a ∷ more) → attributes_in (spelling (with_id id (a ∷ more))) ≡ Ok (with_id id (a ∷ more))

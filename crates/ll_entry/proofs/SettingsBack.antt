@@ -9,7 +9,7 @@ use Rattle.ll_item.specs.Names.{is_name}
 use Rattle.ll_item.specs.Settings.{Configuration, IsWithin, limit_broken, settings_in, settings_by, configuration_of, number_of, names_in, unless_broken, ◌>>=◌}
 use Rattle.ll_item.proofs.WithinLimits.{within}
 use Rattle.ll_entry.specs.ItemLaws.{SettingsLaw}
-use Rattle.ll_entry.specs.ItemLines.{names_text, settings_line}
+use Rattle.ll_entry.specs.SettingsLine.{names_text, settings_line}
 use Rattle.ll_entry.proofs.Cuts.{AreWords, no_more, also, IsWord, words_back, words_line, keyed}
 use Rattle.ll_entry.proofs.Names.{name-word, names_back, names-word}
 use Rattle.ll_entry.proofs.Numbers.{number-back, number-word}

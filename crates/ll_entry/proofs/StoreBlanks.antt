@@ -27,9 +27,10 @@ zeros_for bytes = zeros (length bytes)
 -- ---- parts
 
 before-blank : (i : Item) (parts : List (List ℕ)) → before_parts (blank i) (map zeros_for parts) ≡ map zeros_for (before_parts i parts)
-before-blank (item.Part r d i f media) parts = refl
+before-blank (item.Part p) parts = refl
 before-blank (item.Init r media) parts = refl
-before-blank (item.Break r) parts = refl
+before-blank (item.Finish r) parts = refl
+before-blank (item.Break r time) parts = refl
 before-blank (item.End r) parts = refl
 before-blank (item.Range r id attributes) parts = refl
 before-blank (item.Unrange r id) parts = refl
@@ -68,9 +69,10 @@ with-blank n bytes ss =
     ∙ sym (map-append blank_section (filter other ss) (last ∷ []))
 
 and-blank : (k : Compact) (ss : List Section) (i : Item) → and_section k (map blank_section ss) (blank i) ≡ map blank_section (and_section k ss i)
-and-blank k ss (item.Part r d i f media) = refl
+and-blank k ss (item.Part p) = refl
 and-blank k ss (item.Init r media) = with-blank (map_now k) media ss
-and-blank k ss (item.Break r) = refl
+and-blank k ss (item.Finish r) = refl
+and-blank k ss (item.Break r time) = refl
 and-blank k ss (item.End r) = refl
 and-blank k ss (item.Range r id attributes) = refl
 and-blank k ss (item.Unrange r id) = refl

@@ -1,6 +1,6 @@
 -- The entries of a record, in each format: each tells one event of a channel, and what the reply came to where there was one.
-use Rattle.std.specs.Prelude.{ℕ, List, ◌&&◌, ◌||◌, Bool, Option, Some, None, Result, Ok, Err, codes, if◌then◌else◌, is_some}
-use Rattle.ll_attr.specs.Words.{after}
+use Rattle.std.specs.Prelude.{ℕ, ◌==◌, List, ◌&&◌, ◌||◌, Bool, false, length, not, Option, Some, None, Result, Ok, Err, codes, if◌then◌else◌, is_some}
+use Rattle.ll_attr.specs.Words.{after, words}
 use Rattle.ll_directive.specs.Targets.{WantValue, media_want}
 use Rattle.ll_directive.specs.declared.want.Awaited.{Awaited}
 use Rattle.ll_format.specs.Format.{Format, Word, ◌>>=◌, to_end, up_to}
@@ -91,6 +91,17 @@ is_part_line text = is_some (after (codes "part ") text)
 abbrev pub is_init_line : List ℕ → Bool
 is_init_line text = is_some (after (codes "init ") text)
 
+abbrev pub is_finish_line : List ℕ → Bool
+is_finish_line text = is_some (after (codes "finish ") text)
+
+-- whether a break has more words than the name of its rendition
+abbrev pub has_time : Option (List ℕ) → Bool
+has_time None = false
+has_time (Some text) = not (length (words text) == 1)
+
+abbrev pub is_timed_break : List ℕ → Bool
+is_timed_break text = has_time (after (codes "break ") text)
+
 -- so many bytes as an item may have, without leading zeros
 abbrev pub media : Word ℕ
 media = number media_limit
@@ -103,9 +114,9 @@ abbrev pub counted : List ℕ → Option (List ℕ × ℕ)
 counted text = cut_last text >>= measured
 
 -- The line of an item in an entry, and how many bytes it has. In format 2 this number stands after the line of a part and of an initialization
--- section; format 1 knows no initialization sections and tells no bytes of parts.
+-- section; format 1 knows no initialization sections, no finishes and no breaks that set a time, and tells no bytes of parts.
 abbrev pub item_text : Version → List ℕ → Option (List ℕ × ℕ)
-item_text One text = if is_init_line text then None else Some (text, 0)
+item_text One text = if is_init_line text || is_finish_line text || is_timed_break text then None else Some (text, 0)
 item_text Two text = if is_part_line text || is_init_line text then counted text else Some (text, 0)
 
 -- an item of so many bytes: these are told by their number alone, and zeros stand for them

@@ -12,7 +12,7 @@ use Rattle.ll_entry.specs.declared.version.Version.TheVariants.{Two}
 use Rattle.ll_entry.specs.declared.entry.Recorded.{Recorded}
 use Rattle.ll_format.specs.Words.{is_one_line}
 use Rattle.ll_item.specs.Settings.{Configuration, limit_broken}
-use Rattle.ll_entry.specs.ItemLines.{settings_line}
+use Rattle.ll_entry.specs.SettingsLine.{settings_line}
 use Rattle.ll_verdict.specs.Events.{Event}
 
 -- a chain of this channel in the format that is written, after so many entries of earlier chains

@@ -4,10 +4,10 @@ pub mod Entered
 pub mod Entries
 pub mod Frame
 pub mod ItemLaws
-pub mod ItemLines
 pub mod Laws
 pub mod Leads
 pub mod Lines
 pub mod Replies
+pub mod SettingsLine
 pub mod Told
 pub mod Writable

@@ -9,7 +9,8 @@ use Rattle.ll_item.specs.Settings.{Configuration}
 use Rattle.ll_item.specs.declared.item.Item.{Item}
 use Rattle.ll_item.specs.declared.item.Item.TheVariants as item
 use Rattle.ll_item.specs.declared.skip_kind.SkipKind.{SkipKind}
-use Rattle.ll_entry.specs.ItemLines.{IsWritable, item_line}
+use Rattle.ll_entry.specs.ItemLaws.{IsWritable}
+use Rattle.ll_item.specs.ItemLines.{published_line}
 use Rattle.ll_item.specs.declared.what.What.{What}
 use Rattle.ll_item.specs.declared.what.What.TheVariants as what
 use Rattle.ll_verdict.specs.declared.reply.Outcome.{Outcome}
@@ -41,19 +42,6 @@ media_values ask want reply = (ask, (want.rendition, (want.what, reply)))
 abbrev pub asked_line : Bool → ℕ → WantValue → Option Outcome → List ℕ
 asked_line true ask want reply = codes "A " ++ (ask_fields Two).print (ask_values ask want reply)
 asked_line false ask want reply = codes "M " ++ media_fields.print (media_values ask want reply)
-
--- the line of an item that has so many bytes
-abbrev pub counted_line : List ℕ → ℕ → List ℕ
-counted_line line n = line ++ (codes " " ++ decimal n)
-
--- the line of an item: how many bytes it has stands after that of a part and of an initialization section
-abbrev pub published_line : Configuration → Item → List ℕ
-published_line c (item.Part rendition duration independent finish media) = counted_line (item_line c (item.Part rendition duration independent finish media)) (length media)
-published_line c (item.Init rendition media) = counted_line (item_line c (item.Init rendition media)) (length media)
-published_line c (item.Break rendition) = item_line c (item.Break rendition)
-published_line c (item.Range rendition id attributes) = item_line c (item.Range rendition id attributes)
-published_line c (item.Unrange rendition id) = item_line c (item.Unrange rendition id)
-published_line c (item.End rendition) = item_line c (item.End rendition)
 
 -- the line that spells an entry of the record of a channel
 abbrev pub entry_line : Configuration → Recorded → List ℕ

@@ -3,7 +3,8 @@ use Rattle.std.specs.Prelude.{◌≡◌, List, None}
 use Rattle.ll_item.specs.Settings.{Configuration, limit_broken}
 use Rattle.ll_item.specs.declared.item.Item.{Item}
 use Rattle.ll_verdict.specs.Full.{refusal_after}
-use Rattle.ll_entry.specs.ItemLines.{IsTyped, IsWritable}
+use Rattle.ll_item.specs.ItemLines.{IsTyped}
+use Rattle.ll_entry.specs.ItemLaws.{IsWritable}
 use Rattle.ll_verdict.specs.Events.{Event}
 
 -- an item that no rule refuses has a line of its own

@@ -6,7 +6,6 @@
 mod entry;
 mod fault;
 mod frame;
-mod item;
 mod laws;
 mod reading;
 mod settings;

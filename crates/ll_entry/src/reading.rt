@@ -10,7 +10,7 @@ ghost use Rattle.ll_item.specs.Media.{media_limit, zeros};
 use crate::entry::{EntryFault, Recorded};
 use crate::version::Version;
 use crate::words::{awaited, count, or_dash, or_held, outcome, update};
-use ll_attr::{Text, after};
+use ll_attr::{Text, after, cut};
 use ll_directive::{Want, media_file};
 use ll_format::{number, until};
 use ll_item::{Item, MEDIA_LIMIT, Payload, Settings, SkipKind, What, cut_last, is_name};
@@ -77,17 +77,27 @@ fn read_item(
     Ok(Recorded::Publish(item))
 }
 
-/// The line of an item, and how many bytes it has. In format 2 this number stands after the line of a part and of an initialization section;
-/// format 1 knows no initialization sections and tells no bytes of parts.
+/// Returns the line of an item, and the number of its bytes. In format 2 this number stands after the line of a part and of an initialization
+/// section; format 1 knows no initialization sections, no finishes and no breaks that set a time, and tells no bytes of parts.
 fn item_text(version: Version, text: &str) -> Option<(&str, u64)>
     ensures value { MatchOption result (spec.item_text version text.now ≡ None) (λ item. spec.item_text version text.now ≡ Some (item.0.now, item.1)) }
     ensures few { IfSome result (λ item. item.1 ≤ media_limit) }
 {
     let is_init = after(text, "init ").is_some();
     match version {
-        Version::One if is_init => None,
+        Version::One if is_init || after(text, "finish ").is_some() || is_timed_break(text) => None,
         Version::Two if is_init || after(text, "part ").is_some() => counted(text),
         _ => Some((text, 0)),
+    }
+}
+
+/// Returns whether `text` is a break with more words than the name of its rendition.
+fn is_timed_break(text: &str) -> bool
+    ensures { result ≡ spec.is_timed_break text.now }
+{
+    match after(text, "break ") {
+        Some(rest) => cut(rest, ' ').is_some(),
+        None => false,
     }
 }
 

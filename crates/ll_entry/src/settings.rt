@@ -1,13 +1,13 @@
 //! Settings, written.
 ghost use Rattle.std.specs.Prelude.{◌≡◌, ◌++◌, ◌∷◌, IfOk, OnOk, codes, decimal, flat_map, string_bytes};
-ghost use Rattle.ll_entry.specs.ItemLines.{names_text, settings_line};
+ghost use Rattle.ll_entry.specs.SettingsLine.{names_text, settings_line};
 
 use ll_attr::Text;
 use ll_item::Settings;
 use std::alloc::{AllocError, Global};
 
 /// The line that spells settings. It fails only where no memory is found.
-#[tactic(auto, unfolding(crate::specs::ItemLines::settings_line))]
+#[tactic(auto, unfolding(crate::specs::SettingsLine::settings_line))]
 pub fn settings_text(alloc: Global, settings: &Settings) -> Result<String, AllocError>
     ensures { IfOk result (λ text. string_bytes text ≡ settings_line settings.now) }
 {

@@ -6,14 +6,13 @@ ghost use Rattle.ll_directive.specs.Files.{file_name, is_playlist};
 ghost use Rattle.ll_item.specs.Settings.{Configuration};
 ghost use Rattle.ll_item.specs.declared.what.What.TheVariants.{Playlist};
 ghost use Rattle.ll_entry.specs.Lines as spec;
-ghost use Rattle.ll_entry.specs.Lines.{IsSpelled, counted_line, entry_line};
+ghost use Rattle.ll_entry.specs.Lines.{IsSpelled, entry_line};
 ghost use Rattle.ll_entry.specs.Replies.{count, kind, or_dash_text, or_held_text, outcome_text};
 ghost use Rattle.ll_entry.specs.declared.version.Version.TheVariants.{Two};
 ghost use Rattle.ll_entry.specs.declared.entry.Recorded.TheVariants as recorded;
-ghost use Rattle.ll_entry.specs.ItemLines.{IsTyped};
+ghost use Rattle.ll_item.specs.ItemLines.{IsTyped};
 ghost use Rattle.ll_line.specs.Uris.{uri_text};
 
-use crate::item::item_text;
 use arrayvec::ArrayString;
 use itoa::Buffer;
 use ll_directive::{Awaited, Want};
@@ -28,29 +27,16 @@ const LINE: usize = 160;
 /// Memory for what it tells after the rendition's name.
 const PLACE: usize = 96;
 
-/// The line of an item that was accepted; that of a part or of an initialization section ends with how many bytes it has. It fails only where no
-/// memory is found.
+/// Returns the line of an item that was accepted in a channel of `settings`; that of a part or of an initialization section ends with the number
+/// of its bytes.
 pub fn publish_line(alloc: Global, settings: &Settings, item: &Item) -> Result<String, AllocError>
     ensures text { IfOk result (λ t. string_bytes t ≡ entry_line settings.now (recorded.Publish item.now)) }
     ensures spelled { OnOk result (IsTyped item.now) }
 {
-    let text = item_text(alloc, settings, item)?;
-    let line = text.as_str();
-    match item {
-        Item::Part { media, .. } | Item::Init { media, .. } => {
-            counted_text(alloc, line, media.len())
-        }
-        Item::Break { .. } | Item::End { .. } | Item::Range { .. } | Item::Unrange { .. } => {
-            format!(in alloc; "P {line}")
-        }
-    }
-}
-
-/// `P LINE LENGTH`
-fn counted_text(alloc: Global, line: &str, length: u64) -> Result<String, AllocError>
-    ensures { IfOk result (λ t. string_bytes t ≡ codes "P " ++ counted_line line.now length) }
-{
-    format!(in alloc; "P {line} {length}")
+    let mut line = String::with_capacity(alloc, LINE)?;
+    line.push_str("P ")?;
+    item.push_published_line(settings, &mut line)?;
+    Ok(line)
 }
 
 /// The line of a request of this number, for a playlist or for media, and of what it got at once; none where it was held. It fails only

@@ -119,9 +119,17 @@ break_at (Ok rendition) time = Ok (Break rendition time)
 abbrev pub last_milli : ℕ
 last_milli = 253402300799999
 
--- milliseconds since 1970, in 1 to 15 digits, up to the year 9999
+-- whether a zero stands before another digit
+abbrev pub leads_with_zero : List ℕ → Bool
+leads_with_zero [] = false
+leads_with_zero (first ∷ []) = false
+leads_with_zero (first ∷ next ∷ more) = first == 48
+
+-- milliseconds since 1970, in 1 to 15 digits without leading zeros, up to the year 9999
 abbrev pub time_in : List ℕ → Option ℕ
-time_in text = option_and_then (λ ms. if nat_le ms last_milli then Some ms else None) (number_in 15 text)
+time_in text =
+    if leads_with_zero text then None
+    else option_and_then (λ ms. if nat_le ms last_milli then Some ms else None) (number_in 15 text)
 
 abbrev pub timed_break : Configuration → List ℕ → Option ℕ → Result Item ItemFault
 timed_break c name None = Err BadLine

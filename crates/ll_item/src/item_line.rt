@@ -109,10 +109,20 @@ fn read_break(settings: &Settings, text: &str) -> Result<Item, ItemFault>
 fn break_time(text: &str) -> Option<u64>
     ensures { result ≡ spec.time_in text.now }
 {
+    if leads_with_zero(text) {
+        return None;
+    }
     match parse_number(text, 15) {
         Some(ms) if ms <= LAST_MILLI => Some(ms),
         _ => None,
     }
+}
+
+/// Returns whether a zero stands before another digit.
+fn leads_with_zero(text: &str) -> bool
+    ensures { result ≡ spec.leads_with_zero text.now }
+{
+    matches!(text.as_bytes(), [b'0', _, ..])
 }
 
 /// The part whose rendition, duration and flags are the words of this text.

@@ -64,15 +64,16 @@ not_true false e = refl
 
 free_step : (c : Configuration) (before : List Item) (i : Item) → refusal c before i ≡ None → IsFree (skip_limit c) (told before)
     → IsFree (skip_limit c) (step (told before) i)
-free_step c before (item.Part r d b f media) none h =
+free_step c before (item.Part p) none h =
     let t = told before in
     record {
       apart = h.apart;
       free = each-with (λ (x : Listed). was_lately (skip_limit c) t.end_time x.id t.removals ≡ false)
-          (λ (x : Listed). was_lately (skip_limit c) (t.end_time + d) x.id t.removals ≡ false)
-          (λ x e. not-lately (skip_limit c) t.end_time (t.end_time + d) x.id t.removals (omega arith) e) t.listed h.free;
+          (λ (x : Listed). was_lately (skip_limit c) (t.end_time + p.duration) x.id t.removals ≡ false)
+          (λ x e. not-lately (skip_limit c) t.end_time (t.end_time + p.duration) x.id t.removals (omega arith) e) t.listed h.free;
     }
-free_step c before (item.Break r) none h = record { apart = h.apart; free = h.free }
+free_step c before (item.Finish r) none h = record { apart = h.apart; free = h.free }
+free_step c before (item.Break r time) none h = record { apart = h.apart; free = h.free }
 free_step c before (item.Init r media) none h = record { apart = h.apart; free = h.free }
 free_step c before (item.End r) none h = record { apart = h.apart; free = h.free }
 free_step c before (item.Range r id attributes) none h =

@@ -42,10 +42,11 @@ without id gone [] = refl
 without id gone (x ∷ xs) = without_by (is_one_of x.id gone) id x (filter (is_left gone) xs) (filter (is_left (id ∷ gone)) xs) (without id gone xs)
 
 one_more : (t u : Told) (i : Item) → IsChanged t u → IsChanged t (step u i)
-one_more t u (item.Part r d b f media) h =
+one_more t u (item.Part p) h =
     let l = h.later in
     record { gone = h.gone; new = h.new; listed = h.listed; later = omega (arith, l); young = h.young; removed = h.removed }
-one_more t u (item.Break r) h = record { gone = h.gone; new = h.new; listed = h.listed; later = h.later; young = h.young; removed = h.removed }
+one_more t u (item.Finish r) h = record { gone = h.gone; new = h.new; listed = h.listed; later = h.later; young = h.young; removed = h.removed }
+one_more t u (item.Break r time) h = record { gone = h.gone; new = h.new; listed = h.listed; later = h.later; young = h.young; removed = h.removed }
 one_more t u (item.Init r media) h = record { gone = h.gone; new = h.new; listed = h.listed; later = h.later; young = h.young; removed = h.removed }
 one_more t u (item.End r) h = record { gone = h.gone; new = h.new; listed = h.listed; later = h.later; young = h.young; removed = h.removed }
 one_more t u (item.Range r id attributes) h =

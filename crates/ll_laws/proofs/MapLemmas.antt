@@ -2,7 +2,7 @@
 use Rattle.std.proofs.Common.{◌≡◌, ℕ, suc, ◌+◌, List, [], ◌∷◌, ◌++◌, Bool, true, false, nat_le, nat_lt, cond, map, take, drop, Some, None, refl, ap, ◌∙◌, arith}
 use Rattle.std.proofs.lemmas.List.{take-append-drop}
 use Rattle.ll_item.specs.declared.part.Part.{Part}
-use Rattle.ll_window.specs.Rows.{Row, rows, one_if, is_broken, lasting}
+use Rattle.ll_window.specs.Rows.{begun, Row, rows, one_if, is_broken, lasting}
 use Rattle.ll_window.specs.Segments.{duration}
 use Rattle.ll_window.specs.Window.{window, listed, shown_by}
 use Rattle.ll_line.specs.Playlist.{Finished}
@@ -23,7 +23,7 @@ led rs = map (finished_of true) rs
 
 pub counted-rows : (number maps time : ℕ) (gs : List (List Part)) → AreCounted maps (rows number maps time gs)
 counted-rows number maps time [] = tt
-counted-rows number maps time (g ∷ gs) = (refl, counted-rows (number + 1) (maps + one_if (is_broken g)) (time + duration g) gs)
+counted-rows number maps time (g ∷ gs) = (refl, counted-rows (number + 1) (maps + one_if (is_broken g)) (begun time g + duration g) gs)
 
 counted_by : (b : Bool) (least maps : ℕ) (r : Row) (rs : List Row) → AreCounted maps (r ∷ rs) → (m : ℕ) × AreCounted m (window least rs)
     → (m : ℕ) × AreCounted m (cond b (window least rs) (r ∷ rs))

@@ -6,13 +6,13 @@ use Rattle.ll_item.specs.Settings.{Configuration, skip_limit}
 use Rattle.ll_item.specs.declared.item.Item.{Item}
 use Rattle.ll_item.specs.declared.item.Item.TheVariants as item
 use Rattle.ll_item.specs.declared.part.Part.{Part}
-use Rattle.ll_window.specs.declared.window.PushFault.{PushFault}
-use Rattle.ll_window.specs.Compact.{Compact, compact, skip_count}
+use Rattle.ll_window.specs.declared.fault.PushFault.{PushFault}
+use Rattle.ll_window.specs.Compact.{Compact, clock, compact, skip_count}
 use Rattle.ll_window.specs.Refusal.{part_refusal, refusal, refusal_by, refusal_before_end}
 use Rattle.ll_window.specs.Rows.{Row, lasting}
 use Rattle.ll_item.specs.Told.{end_time}
 use Rattle.ll_window.specs.Segments.{own, segments, open_segment, duration, ended}
-use Rattle.ll_window.specs.Step.{with_part_by, with_item, ended_by}
+use Rattle.ll_window.specs.Step.{with_part_by, with_item, ended_by, finished_by}
 use Rattle.ll_window.specs.Window.{skipped_in}
 use Rattle.ll_window.proofs.SkipLemmas.{skipped-none}
 use Rattle.ll_window.proofs.StepLemmas.{compact-snoc, duration-snoc}
@@ -44,12 +44,17 @@ end_step : (ps : List Part) (k : Compact) (limit : ℕ) → duration k.open_part
 end_step [] k limit le = le
 end_step (p ∷ ps) k limit le = omega arith
 
+finish_step : (ps : List Part) (k : Compact) (limit : ℕ) → duration k.open_parts ≤ limit → duration (finished_by ps k).open_parts ≤ limit
+finish_step [] k limit le = le
+finish_step (p ∷ ps) k limit le = omega arith
+
 item_step : (c : Configuration) (before : List Item) (i : Item) → 1 ≤ c.target → 6 * c.target ≤ c.skip → refusal_before_end c before i ≡ None
     → duration (open_segment before) ≤ skip_limit c → duration (with_item (compact c before) i).open_parts ≤ skip_limit c
-item_step c before (item.Part r d i f media) one six none le =
-    let low = part_limit c (c.first + length (segments before)) (duration (open_segment before)) (end_time before) d none in
-    part_step f (compact c before) _ (skip_limit c) (short (skip_limit c) c.target c.skip (duration (open_segment before) + d) one six refl low)
-item_step c before (item.Break r) one six none le = le
+item_step c before (item.Part p) one six none le =
+    let low = part_limit c (c.first + length (segments before)) (duration (open_segment before)) (clock (compact c before)) p.duration none in
+    part_step p.finish (compact c before) _ (skip_limit c) (short (skip_limit c) c.target c.skip (duration (open_segment before) + p.duration) one six refl low)
+item_step c before (item.Finish r) one six none le = finish_step (open_segment before) (compact c before) (skip_limit c) le
+item_step c before (item.Break r time) one six none le = le
 item_step c before (item.Init r media) one six none le = le
 item_step c before (item.End r) one six none le = end_step (open_segment before) (compact c before) (skip_limit c) le
 item_step c before (item.Range r id attributes) one six none le = le

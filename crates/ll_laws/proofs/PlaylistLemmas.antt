@@ -5,7 +5,7 @@ use Rattle.ll_item.specs.Settings.{Configuration}
 use Rattle.ll_item.specs.declared.item.Item.{Item}
 use Rattle.ll_item.specs.declared.part.Part.{Part}
 use Rattle.ll_window.specs.Compact.{Compact, compact, all_rows}
-use Rattle.ll_window.specs.Rows.{Row, row, rows, one_if, is_broken, lasting}
+use Rattle.ll_window.specs.Rows.{begun, Row, row, rows, one_if, is_broken, lasting}
 use Rattle.ll_window.specs.Segments.{own, segments, open_segment, duration}
 use Rattle.ll_window.specs.Window.{window_limit, near_limit, window, listed, shown_by}
 use Rattle.ll_window.proofs.WindowLemmas.{length_listed}
@@ -17,7 +17,7 @@ use Rattle.ll_laws.proofs.RowLemmas.{left, left-le, window-drop}
 
 pub length-rows : (n m t : ℕ) (gs : List (List Part)) → length (rows n m t gs) ≡ length gs
 length-rows n m t [] = refl
-length-rows n m t (g ∷ gs) = ap suc (length-rows (n + 1) (m + one_if (is_broken g)) (t + duration g) gs)
+length-rows n m t (g ∷ gs) = ap suc (length-rows (n + 1) (m + one_if (is_broken g)) (begun t g + duration g) gs)
 
 pub length-printed : (leads : Bool) (rs : List Row) → length (printed leads rs) ≡ length rs
 length-printed leads [] = refl
@@ -33,8 +33,8 @@ pub record GoesOn (n m t : ℕ) (gs hs : List (List Part)) : Type 0 where
 pub rows-append : (n m t : ℕ) (gs hs : List (List Part)) → GoesOn n m t gs hs
 rows-append n m t [] hs = record { number = n; maps = m; time = t; whole = refl }
 rows-append n m t (g ∷ gs) hs =
-    let more = rows-append (n + 1) (m + one_if (is_broken g)) (t + duration g) gs hs in
-    record { number = more.number; maps = more.maps; time = more.time; whole = ap (λ rs. row n m t g ∷ rs) more.whole }
+    let more = rows-append (n + 1) (m + one_if (is_broken g)) (begun t g + duration g) gs hs in
+    record { number = more.number; maps = more.maps; time = more.time; whole = ap (λ rs. row n m (begun t g) g ∷ rs) more.whole }
 
 number_shown : (b : Bool) (n m t : ℕ) (g : List Part) → (shown_by b (row n m t g)).segment.number ≡ n + 0
 number_shown true n m t g = omega arith
@@ -45,10 +45,10 @@ number_first : (k : Compact) (near tail n m t w : ℕ) (gs : List (List Part)) �
     → sequence_of k (listed near tail (drop w (rows n m t gs))) ≡ n + w
 number_first k near tail n m t zero [] le e = e
 number_first k near tail n m t zero (g ∷ gs) le e =
-    number_shown (nat_lt (lasting (rows (n + 1) (m + one_if (is_broken g)) (t + duration g) gs) + tail) near) n m t g
+    number_shown (nat_lt (lasting (rows (n + 1) (m + one_if (is_broken g)) (begun t g + duration g) gs) + tail) near) n m (begun t g) g
 number_first k near tail n m t (suc w) [] le e = absurd (omega arith)
 number_first k near tail n m t (suc w) (g ∷ gs) le e =
-    let rest = number_first k near tail (n + 1) (m + one_if (is_broken g)) (t + duration g) w gs (omega arith) (omega (arith, e)) in
+    let rest = number_first k near tail (n + 1) (m + one_if (is_broken g)) (begun t g + duration g) w gs (omega arith) (omega (arith, e)) in
     omega (arith, rest)
 
 -- how many segments of a rendition have left the window

@@ -62,8 +62,9 @@ listed_id id xs e h =
 
 listable_step : (c : Configuration) (before : List Item) (i : Item) → range.refusal c before i ≡ None → HasTexts i → AreListable (told before)
     → AreListable (step (told before) i)
-listable_step c before (item.Part r d b f media) none texts h = record { each = h.each; named = h.named; removed = h.removed }
-listable_step c before (item.Break r) none texts h = record { each = h.each; named = h.named; removed = h.removed }
+listable_step c before (item.Part p) none texts h = record { each = h.each; named = h.named; removed = h.removed }
+listable_step c before (item.Finish r) none texts h = record { each = h.each; named = h.named; removed = h.removed }
+listable_step c before (item.Break r time) none texts h = record { each = h.each; named = h.named; removed = h.removed }
 listable_step c before (item.Init r media) none texts h = record { each = h.each; named = h.named; removed = h.removed }
 listable_step c before (item.End r) none texts h = record { each = h.each; named = h.named; removed = h.removed }
 listable_step c before (item.Range r id attributes) none texts h =

@@ -40,7 +40,7 @@ breaks_low : (c : Configuration) (xs : List Item) → IsBounded (compact c xs) �
 breaks_low c xs b = let l = few-breaks c xs in let n = b.numbers in omega (arith, l, n)
 
 times_low : (c : Configuration) (xs : List Item) → IsBounded (compact c xs) → end_time xs < duration_end
-times_low c xs b = let t = b.times in omega (arith, t)
+times_low c xs b = omega (arith, b.ends, b.forward, b.times)
 
 -- the reports that stand in a rendition's playlist
 abbrev pub reports_at : Configuration → List Item → ℕ → List Report

@@ -5,7 +5,7 @@ use Rattle.ll_item.specs.Settings.{Configuration}
 use Rattle.ll_item.specs.declared.item.Item.{Item}
 use Rattle.ll_item.specs.declared.part.Part.{Part}
 use Rattle.ll_window.specs.Compact.{compact, all_rows}
-use Rattle.ll_window.specs.Rows.{Row, rows, one_if, is_broken, lasting, broken_in}
+use Rattle.ll_window.specs.Rows.{begun, Row, rows, one_if, is_broken, lasting, broken_in}
 use Rattle.ll_item.specs.Told.{end_time}
 use Rattle.ll_window.specs.Segments.{Split, split, closed, finished_by, unfinished_by, parts, segments, open_segment, duration, ended}
 use Rattle.ll_window.specs.Window.{window_limit, near_limit, gone, window, listed, shown_by}
@@ -25,7 +25,7 @@ rows-short : (most n m t : ℕ) (gs : List (List Part)) → total gs ≤ most �
 rows-short most n m t [] le = tt
 rows-short most n m t (g ∷ gs) le =
     let e = total-cons g gs in
-    ((omega (arith, e), omega (arith, e)), rows-short most (n + 1) (m + one_if (is_broken g)) (t + duration g) gs (omega (arith, e)))
+    ((omega (arith, e), omega (arith, e)), rows-short most (n + 1) (m + one_if (is_broken g)) (begun t g + duration g) gs (omega (arith, e)))
 
 finished_short : (b : Bool) (s : Split) (most : ℕ) → total s.finished + duration s.unfinished ≤ most → total (finished_by b s) ≤ most
 finished_short true s most le = let a = total-append s.finished (closed s.unfinished) in let b = total-closed s.unfinished in omega (arith, a, b)

@@ -3,7 +3,7 @@
 use Rattle.std.proofs.Common.{◌≡◌, ℕ, ◌+◌, ◌≤◌, arith, List, [], ◌∷◌, ◌++◌, Bool, true, false, sum_by, refl, ap, sym, ◌∙◌}
 use Rattle.std.proofs.lemmas.List.Sums.{sum_by-append}
 use Rattle.ll_item.specs.declared.part.Part.{Part}
-use Rattle.ll_window.specs.Rows.{row, rows, one_if, is_broken, lasting}
+use Rattle.ll_window.specs.Rows.{begun, row, rows, one_if, is_broken, lasting}
 use Rattle.ll_window.specs.Segments.{Split, split, put_by, finished_by, unfinished_by, closed, duration}
 use Rattle.ll_window.specs.Window.{skipped_in}
 use Rattle.ll_window.proofs.WindowLemmas.{lasting-cons}
@@ -22,15 +22,15 @@ total-append gs hs = sum_by-append duration gs hs
 lasting-rows : (n m t : ℕ) (gs : List (List Part)) → lasting (rows n m t gs) ≡ total gs
 lasting-rows n m t [] = refl
 lasting-rows n m t (g ∷ gs) =
-    lasting-cons (row n m t g) (rows (n + 1) (m + one_if (is_broken g)) (t + duration g) gs)
-    ∙ ap (λ l. duration g + l) (lasting-rows (n + 1) (m + one_if (is_broken g)) (t + duration g) gs)
+    lasting-cons (row n m (begun t g) g) (rows (n + 1) (m + one_if (is_broken g)) (begun t g + duration g) gs)
+    ∙ ap (λ l. duration g + l) (lasting-rows (n + 1) (m + one_if (is_broken g)) (begun t g + duration g) gs)
     ∙ sym (total-cons g gs)
 
 -- where the first isn't skipped, none is
 none-rows : (limit tail n m t : ℕ) (g : List Part) (gs : List (List Part)) → total gs + tail ≤ limit → skipped_in limit tail (rows n m t (g ∷ gs)) ≡ 0
 none-rows limit tail n m t g gs le =
-    let l = lasting-rows (n + 1) (m + one_if (is_broken g)) (t + duration g) gs in
-    skipped-none limit tail (row n m t g) (rows (n + 1) (m + one_if (is_broken g)) (t + duration g) gs) (omega (arith, l))
+    let l = lasting-rows (n + 1) (m + one_if (is_broken g)) (begun t g + duration g) gs in
+    skipped-none limit tail (row n m (begun t g) g) (rows (n + 1) (m + one_if (is_broken g)) (begun t g + duration g) gs) (omega (arith, l))
 
 abbrev onto : Bool → Part → Split → Split
 onto a q s = put_by a q s.finished s.unfinished
@@ -130,3 +130,15 @@ pub none-later : (limit n m t : ℕ) (e : Bool) (u qs : List Part) → Going u �
 none-later limit n m t e u qs h le =
     rw (split-joined u qs h) (none_joined limit n m t e u (split qs).finished (split qs).unfinished
     (let a = whole-split (u ++ qs) in let b = (rw (split-joined u qs h) at a) in omega arith))
+
+whole-finished : (e : Bool) (s : Split) → total (finished_by e s) + duration (unfinished_by e s) ≡ whole s
+whole-finished true s = let a = total-append s.finished (closed s.unfinished) in let b = total-closed s.unfinished in omega (arith, a, b)
+whole-finished false s = refl
+
+-- no segment is skipped that one more finish ends, nor one that the parts after it make, where these last no longer than the limit
+pub none-finished : (limit n m t : ℕ) (e : Bool) (u qs : List Part) → duration qs ≤ limit
+    → skipped_in limit (duration (unfinished_by e (split qs))) (rows n m t (closed u ++ finished_by e (split qs))) ≡ 0
+none-finished limit n m t e [] qs le = none-later limit n m t e [] qs tt (omega (arith, le))
+none-finished limit n m t e (p ∷ u) qs le =
+    none-rows limit (duration (unfinished_by e (split qs))) n m t (p ∷ u) (finished_by e (split qs))
+    (let a = whole-finished e (split qs) in let b = whole-split qs in omega (arith, a, b, le))

@@ -39,8 +39,9 @@ pub record IsSpelled (list : List Attribute) : Type 0 where
 abbrev pub HasTexts : Item → Type 0
 HasTexts (item.Range rendition id attributes) = (is_utf8 id ≡ true) × IsSpelled attributes
 HasTexts (item.Unrange rendition id) = is_utf8 id ≡ true
-HasTexts (item.Part rendition duration independent finish media) = Unit
-HasTexts (item.Break rendition) = Unit
+HasTexts (item.Part part) = Unit
+HasTexts (item.Finish rendition) = Unit
+HasTexts (item.Break rendition time) = Unit
 HasTexts (item.Init rendition media) = Unit
 HasTexts (item.End rendition) = Unit
 

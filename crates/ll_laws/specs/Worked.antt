@@ -62,17 +62,22 @@ afternoon = record {
   start = 1772895845250;
 }
 
+-- a part of a rendition, which lasts so many microseconds, is independent and finishes its segment, or not
+abbrev pub part : ℕ → ℕ → Bool → Bool → Item
+part rendition duration independent finish =
+    item.Part (record { rendition = rendition; duration = duration; independent = independent; finish = finish; media = [] })
+
 abbrev pub whole_part : Item
-whole_part = item.Part 0 1000000 true true []
+whole_part = part 0 1000000 true true
 
 -- eight segments of a second, of which the fourth is broken from the third
 abbrev pub eight_seconds : List Item
 eight_seconds =
-    whole_part ∷ whole_part ∷ whole_part ∷ item.Break 0 ∷ whole_part ∷ whole_part ∷ whole_part ∷ whole_part ∷ whole_part ∷ []
+    whole_part ∷ whole_part ∷ whole_part ∷ item.Break 0 None ∷ whole_part ∷ whole_part ∷ whole_part ∷ whole_part ∷ whole_part ∷ []
 
 -- one part, which is a whole segment
 abbrev pub one_part : List Item
-one_part = item.Part 0 1000000 true true [] ∷ []
+one_part = part 0 1000000 true true ∷ []
 
 abbrev pub start_date : Attribute
 start_date = record { name = codes "START-DATE"; value = Quoted (codes "1970-01-01T00:00:00Z") }
@@ -84,7 +89,7 @@ dated id = item.Range 0 id (start_date ∷ [])
 abbrev pub eight_seconds_with_ranges : List Item
 eight_seconds_with_ranges =
     dated (codes "a") ∷ dated (codes "b") ∷ dated (codes "c") ∷ whole_part ∷ item.Unrange 0 (codes "c") ∷ whole_part ∷ item.Unrange 0 (codes "b")
-    ∷ dated (codes "d") ∷ whole_part ∷ item.Break 0 ∷ whole_part ∷ whole_part ∷ whole_part ∷ whole_part ∷ whole_part ∷ []
+    ∷ dated (codes "d") ∷ whole_part ∷ item.Break 0 None ∷ whole_part ∷ whole_part ∷ whole_part ∷ whole_part ∷ whole_part ∷ []
 
 abbrev pub one_second : Attribute
 one_second = record { name = codes "DURATION"; value = Bare (codes "1.0") }
@@ -92,29 +97,29 @@ one_second = record { name = codes "DURATION"; value = Bare (codes "1.0") }
 -- three date ranges, of which the first leaves, around a part
 abbrev pub ranges_and_part : List Item
 ranges_and_part =
-    item.Range 0 (codes "x") (start_date ∷ []) ∷ item.Range 0 (codes "b c") (start_date ∷ one_second ∷ []) ∷ item.Part 0 1000000 true true []
+    item.Range 0 (codes "x") (start_date ∷ []) ∷ item.Range 0 (codes "b c") (start_date ∷ one_second ∷ []) ∷ part 0 1000000 true true
     ∷ item.Unrange 0 (codes "x") ∷ item.Range 0 (codes "a") (one_second ∷ start_date ∷ []) ∷ []
 
 -- parts of both renditions, three of them of the second, which go on with a break after a finished segment
 abbrev pub mixed_parts : List Item
 mixed_parts =
-    item.Part 1 334000 true false [] ∷ item.Part 0 300000 true true [] ∷ item.Part 1 333999 false true [] ∷ item.Break 1 ∷ item.Break 0
-    ∷ item.Part 1 1 true false [] ∷ item.End 0 ∷ []
+    part 1 334000 true false ∷ part 0 300000 true true ∷ part 1 333999 false true ∷ item.Break 1 None ∷ item.Break 0 None
+    ∷ part 1 1 true false ∷ item.End 0 ∷ []
 
 abbrev pub dependent_part : Item
-dependent_part = item.Part 0 1000000 false true []
+dependent_part = part 0 1000000 false true
 
 -- eleven segments of a second, of which the first, the second and the sixth are broken, then two parts that go on; two parts
 -- of the other rendition among them
 abbrev pub afternoon_parts : List Item
 afternoon_parts =
-    item.Break 0 ∷ whole_part ∷ item.Break 0 ∷ dependent_part ∷ item.Part 1 300000 true false [] ∷ dependent_part ∷ dependent_part ∷ dependent_part
-    ∷ item.Break 0 ∷ dependent_part ∷ dependent_part ∷ dependent_part ∷ dependent_part ∷ dependent_part ∷ dependent_part
-    ∷ item.Part 1 200000 false false [] ∷ item.Part 0 500000 true false [] ∷ item.Part 0 250000 false false [] ∷ []
+    item.Break 0 None ∷ whole_part ∷ item.Break 0 None ∷ dependent_part ∷ part 1 300000 true false ∷ dependent_part ∷ dependent_part ∷ dependent_part
+    ∷ item.Break 0 None ∷ dependent_part ∷ dependent_part ∷ dependent_part ∷ dependent_part ∷ dependent_part ∷ dependent_part
+    ∷ part 1 200000 false false ∷ part 0 500000 true false ∷ part 0 250000 false false ∷ []
 
 -- the end comes while a segment is open
 abbrev pub ends_open : List Item
-ends_open = item.Part 0 1000000 true false [] ∷ item.Part 0 500000 false false [] ∷ item.End 0 ∷ []
+ends_open = part 0 1000000 true false ∷ part 0 500000 false false ∷ item.End 0 ∷ []
 
 abbrev pub header_text : List ℕ
 header_text =

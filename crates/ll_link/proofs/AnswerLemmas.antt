@@ -6,7 +6,7 @@ use Rattle.ll_hub.specs.Calls.{IsItemRefused, IsPublishFault}
 use Rattle.ll_item.proofs.ChannelLemmas.{named-within}
 use Rattle.ll_item.specs.declared.item.Item.{Item}
 use Rattle.ll_item.specs.declared.item.ItemFault.{ItemFault}
-use Rattle.ll_publish.specs.Refusals.{item_refusal, refusal_of}
+use Rattle.ll_publish.specs.Refusals.{item_refusal, out_of_memory}
 use Rattle.ll_publish.specs.declared.refusal.Refusal.{Refusal}
 use Rattle.ll_publish.specs.declared.refusal.Refusal.TheVariants as refusal
 use Rattle.ll_rendition.specs.declared.fault.PublishFault.{PublishFault}
@@ -51,7 +51,7 @@ named-at channels name place c e =
 -- an item that the hub refuses is refused by a rule of its channel, unless no memory was found
 module _ (c : Configuration) (place : ℕ) (text media : List ℕ) (channels : List Configuration) (found : Item) (seen : List ℕ) where
   module _ (known : slice_get channels place ≡ Some c) (read : item_in c text media ≡ Ok found) where
-    ruled-by : (reason : Refusal) (fault : PublishFault) → refusal_of fault ≡ reason → IsItemRefused channels place found seen fault → reason ≢ refusal.Memory
+    ruled-by : (reason : Refusal) (fault : PublishFault) → refusal.Rule fault ≡ reason → IsItemRefused channels place found seen fault → reason ≢ out_of_memory
         → IsRuledOut c text media reason
     ruled-by reason fault is refused other = record {
       item = found;
@@ -60,7 +60,7 @@ module _ (c : Configuration) (place : ℕ) (text media : List ℕ) (channels : L
       fault = fault;
       rule =
           subst (λ s. IsRefused s found refused.seen fault) (same_Some refused.settings c (sym refused.known.channel ∙ known))
-          (refused.refused (λ memory. other (sym is ∙ ap refusal_of memory)));
+          (refused.refused (λ memory. other (sym is ∙ ap refusal.Rule memory)));
       told = sym is;
     }
 
@@ -71,7 +71,7 @@ module _ (c : Configuration) (place : ℕ) (text media : List ℕ) (channels : L
     pub answer-refused : (fault : HubFault) (reason : Refusal) → Ok reason ≡ refused_by fault → IsPublishFault channels place found seen fault
         → IsReason (refused_item (item_in c text media)) (IsRuledOut c text media) reason
     answer-refused (hub.Room other (room.Publish fault)) reason e p not =
-        inr (ruled-by reason fault (let same : Ok reason ≡ Ok (refusal_of fault) = e in cc) p.1 not)
+        inr (ruled-by reason fault (let same : Ok reason ≡ Ok (refusal.Rule fault) = e in cc) p.1 not)
     answer-refused (hub.Room other (room.Ask fault)) reason e p not = never reason e
     answer-refused (hub.Room other (room.Clock fault)) reason e p not = never reason e
     answer-refused hub.UnknownChannel reason e p not = never reason e

@@ -7,7 +7,7 @@ use Rattle.ll_item.specs.declared.item.Item.{Item}
 use Rattle.ll_item.specs.declared.item.ItemFault.{ItemFault}
 use Rattle.ll_item.specs.Channels.{channel_of_name}
 use Rattle.ll_publish.specs.Line as says
-use Rattle.ll_publish.specs.Refusals.{item_refusal, refusal_of}
+use Rattle.ll_publish.specs.Refusals.{item_refusal, out_of_memory}
 use Rattle.ll_publish.specs.declared.refusal.Refusal.{Refusal}
 use Rattle.ll_publish.specs.declared.refusal.Refusal.TheVariants as refusal
 use Rattle.ll_publish.specs.declared.refusal.Refusal.TheVariants.{BadLine, UnknownChannel, LineTooLong, MediaTooLong}
@@ -59,7 +59,7 @@ pub record IsRuledOut (c : Configuration) (text media : List ℕ) (reason : Refu
   pub seen : ℕ
   pub fault : PublishFault
   pub rule : IsRefused c item seen fault
-  pub told : reason ≡ refusal_of fault
+  pub told : reason ≡ refusal.Rule fault
 
 -- the same of each, in the hub's channel of this name
 pub record IsItemIn (channels : List Configuration) (name text media : List ℕ) (mark : StampedValue ℕ) : Type 0 where
@@ -89,7 +89,7 @@ IsOverruled channels says.MediaTooLong reason = ⊥
 
 -- why an item or a line is refused: for what is said before any room is asked, or by a rule of its channel; unless no memory was found
 abbrev pub IsReason : Option Refusal → (Refusal → Type 0) → Refusal → Type 0
-IsReason before Ruled reason = reason ≢ refusal.Memory → (before ≡ Some reason) ⊎ Ruled reason
+IsReason before Ruled reason = reason ≢ out_of_memory → (before ≡ Some reason) ⊎ Ruled reason
 
 abbrev pub IsAnswer : Option Refusal → (StampedValue ℕ → Type 0) → (Refusal → Type 0) → Result (StampedValue ℕ) Refusal → Type 0
 IsAnswer before Published Ruled (Ok mark) = Published mark
@@ -108,7 +108,7 @@ IsAnswerTo channels line answer = IsAnswer (refused_before channels line) (IsAnn
 
 -- what is answered to an item that the hub refuses; no refusal of the channel's room ends the connection with Hub
 abbrev pub refused_by : HubFault → Result Refusal LinkFault
-refused_by (hub.Room place (room.Publish fault)) = Ok (refusal_of fault)
+refused_by (hub.Room place (room.Publish fault)) = Ok (refusal.Rule fault)
 refused_by other = Err Hub
 
 -- ---- a player's request

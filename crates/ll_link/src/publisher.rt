@@ -21,6 +21,7 @@ use ll_item::{Item, ItemFault, Payload, Settings};
 use ll_publish::{Feed, Line, Refusal, reply_text};
 use ll_room::Stamped;
 use ll_server::Gate;
+use ll_verdict::PublishFault;
 use std::sync::Wait;
 
 /// What a publisher's line comes to: how many items its channel has accepted with it, or why it is refused.
@@ -233,7 +234,7 @@ fn is_full(answer: &Published) -> bool
 {
     match answer {
         Ok(_) => false,
-        Err(reason) => *reason == Refusal::RecordFull,
+        Err(reason) => *reason == Refusal::Rule(PublishFault::RecordFull),
     }
 }
 

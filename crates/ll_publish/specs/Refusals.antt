@@ -5,61 +5,59 @@ use Rattle.ll_item.specs.declared.item.ItemFault.TheVariants as item
 use Rattle.ll_rendition.specs.declared.fault.PublishFault.{PublishFault}
 use Rattle.ll_rendition.specs.declared.fault.PublishFault.TheVariants as fault
 use Rattle.ll_publish.specs.declared.refusal.Refusal.{Refusal}
-use Rattle.ll_publish.specs.declared.refusal.Refusal.TheVariants.{NoRendition, Ended, BadDuration, TooLong, OpenSegment, CountEnd, TimeEnd, IdTaken, BadAttribute, IdUnknown, RecordFull, Memory, BadLine, UnknownChannel, LineTooLong, MediaTooLong}
+use Rattle.ll_publish.specs.declared.refusal.Refusal.TheVariants.{Rule, BadLine, UnknownChannel, LineTooLong, MediaTooLong}
 
--- the channel's refusal of an item
-abbrev pub refusal_of : PublishFault → Refusal
-refusal_of fault.NoRendition = NoRendition
-refusal_of fault.Ended = Ended
-refusal_of fault.BadDuration = BadDuration
-refusal_of fault.TooLong = TooLong
-refusal_of fault.OpenSegment = OpenSegment
-refusal_of fault.CountEnd = CountEnd
-refusal_of fault.TimeEnd = TimeEnd
-refusal_of fault.IdTaken = IdTaken
-refusal_of fault.BadAttribute = BadAttribute
-refusal_of fault.IdUnknown = IdUnknown
-refusal_of fault.RecordFull = RecordFull
-refusal_of fault.Memory = Memory
+abbrev pub out_of_memory : Refusal
+out_of_memory = Rule fault.Memory
 
 -- why a line is no item
 abbrev pub item_refusal : ItemFault → Refusal
 item_refusal item.BadLine = BadLine
-item_refusal item.NoRendition = NoRendition
-item_refusal item.BadAttribute = BadAttribute
-item_refusal item.Memory = Memory
+item_refusal item.NoRendition = Rule fault.NoRendition
+item_refusal item.BadAttribute = Rule fault.BadAttribute
+item_refusal item.Memory = Rule fault.Memory
+
+abbrev pub rule_code : PublishFault → ℕ
+rule_code fault.NoRendition = 1
+rule_code fault.Ended = 2
+rule_code fault.BadDuration = 3
+rule_code fault.TooLong = 4
+rule_code fault.OpenSegment = 5
+rule_code fault.CountEnd = 6
+rule_code fault.TimeEnd = 7
+rule_code fault.IdTaken = 8
+rule_code fault.BadAttribute = 9
+rule_code fault.IdUnknown = 10
+rule_code fault.RecordFull = 11
+rule_code fault.Memory = 12
+rule_code fault.NoSegment = 17
+rule_code fault.TimeBack = 18
 
 abbrev pub refusal_code : Refusal → ℕ
-refusal_code NoRendition = 1
-refusal_code Ended = 2
-refusal_code BadDuration = 3
-refusal_code TooLong = 4
-refusal_code OpenSegment = 5
-refusal_code CountEnd = 6
-refusal_code TimeEnd = 7
-refusal_code IdTaken = 8
-refusal_code BadAttribute = 9
-refusal_code IdUnknown = 10
-refusal_code RecordFull = 11
-refusal_code Memory = 12
+refusal_code (Rule fault) = rule_code fault
 refusal_code BadLine = 13
 refusal_code UnknownChannel = 14
 refusal_code LineTooLong = 15
 refusal_code MediaTooLong = 16
 
+abbrev pub rule_name : PublishFault → List ℕ
+rule_name fault.NoRendition = codes "NoRendition"
+rule_name fault.Ended = codes "Ended"
+rule_name fault.BadDuration = codes "BadDuration"
+rule_name fault.TooLong = codes "TooLong"
+rule_name fault.OpenSegment = codes "OpenSegment"
+rule_name fault.CountEnd = codes "CountEnd"
+rule_name fault.TimeEnd = codes "TimeEnd"
+rule_name fault.IdTaken = codes "IdTaken"
+rule_name fault.BadAttribute = codes "BadAttribute"
+rule_name fault.IdUnknown = codes "IdUnknown"
+rule_name fault.RecordFull = codes "RecordFull"
+rule_name fault.Memory = codes "Memory"
+rule_name fault.NoSegment = codes "NoSegment"
+rule_name fault.TimeBack = codes "TimeBack"
+
 abbrev pub refusal_name : Refusal → List ℕ
-refusal_name NoRendition = codes "NoRendition"
-refusal_name Ended = codes "Ended"
-refusal_name BadDuration = codes "BadDuration"
-refusal_name TooLong = codes "TooLong"
-refusal_name OpenSegment = codes "OpenSegment"
-refusal_name CountEnd = codes "CountEnd"
-refusal_name TimeEnd = codes "TimeEnd"
-refusal_name IdTaken = codes "IdTaken"
-refusal_name BadAttribute = codes "BadAttribute"
-refusal_name IdUnknown = codes "IdUnknown"
-refusal_name RecordFull = codes "RecordFull"
-refusal_name Memory = codes "Memory"
+refusal_name (Rule fault) = rule_name fault
 refusal_name BadLine = codes "BadLine"
 refusal_name UnknownChannel = codes "UnknownChannel"
 refusal_name LineTooLong = codes "LineTooLong"

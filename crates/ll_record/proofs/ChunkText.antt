@@ -12,7 +12,7 @@ use Rattle.ll_entry.specs.Leads.{IsChunkOf, IsLed, chain_of, chunk_text}
 use Rattle.ll_entry.specs.Frame.{header_text, last_line}
 use Rattle.ll_entry.specs.declared.version.Version.TheVariants.{Two}
 use Rattle.ll_room.specs.RoomValue.{RoomValue}
-use Rattle.ll_entry.specs.ItemLines.{settings_line}
+use Rattle.ll_entry.specs.SettingsLine.{settings_line}
 use Rattle.ll_verdict.specs.Events.{Event}
 use Rattle.ll_record.specs.Chunk.{ChunkValue, IsFaithful}
 use Rattle.ll_record.specs.Recording.{IsRecorded, Recording}

@@ -19,7 +19,7 @@ use Rattle.ll_room.specs.StampedValue.{StampedValue}
 use Rattle.ll_room.specs.Ticket.{Ticket}
 use Rattle.ll_room.specs.declared.asked.Closed.TheVariants as given_up
 use Rattle.ll_room.specs.declared.asked.Collected.TheVariants.{Got}
-use Rattle.ll_entry.specs.ItemLines.{IsTyped}
+use Rattle.ll_item.specs.ItemLines.{IsTyped}
 use Rattle.ll_verdict.proofs.StateLemmas.{state-snoc}
 use Rattle.ll_verdict.specs.Events.{Event, Publish, Ask, Clock, Collect, Close}
 use Rattle.ll_verdict.specs.Outcome.{outcome_of}

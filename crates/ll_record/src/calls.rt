@@ -11,7 +11,7 @@ ghost use Rattle.ll_verdict.specs.Full.{event_end, is_full};
 ghost use Rattle.ll_room.specs.Full.{refusal_by};
 ghost use Rattle.ll_room.specs.RoomValue.{tickets};
 ghost use Rattle.ll_room.specs.declared.stamped.Stamp.TheVariants as stamp;
-ghost use Rattle.ll_entry.specs.ItemLines.{IsTyped};
+ghost use Rattle.ll_item.specs.ItemLines.{IsTyped};
 ghost use Rattle.ll_verdict.specs.Events.{Event, Ask, Clock, Publish};
 ghost use Rattle.ll_verdict.specs.Verdict.{at_once, held};
 

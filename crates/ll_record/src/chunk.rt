@@ -3,7 +3,7 @@ ghost use Rattle.std.specs.Prelude.{◌≡◌, ◌++◌, IfOk, codes, true};
 ghost use Rattle.std.specs.Str.{is_utf8};
 ghost use Rattle.ll_entry.specs.Leads.{chunk_text};
 ghost use Rattle.ll_entry.specs.Frame.{last_line};
-ghost use Rattle.ll_entry.specs.ItemLines.{settings_line};
+ghost use Rattle.ll_entry.specs.SettingsLine.{settings_line};
 
 use ll_entry::{LAST_LINE, Version, header_text, settings_text};
 use ll_item::Settings;

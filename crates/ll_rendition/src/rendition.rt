@@ -1,5 +1,5 @@
 //! What is kept of one rendition, and its next item, in two steps: a test, and a step that memory alone can refuse.
-ghost use Rattle.std.specs.Prelude.{◌≡◌, ◌++◌, ◌∷◌, [], IfOk, List, true, false, MatchResult, OnOk, OnErr, None, Some};
+ghost use Rattle.std.specs.Prelude.{◌≡◌, ◌≢◌, ◌++◌, ◌∷◌, [], IfErr, IfOk, List, true, false, MatchResult, OnOk, OnErr, None, Some};
 ghost use Rattle.ll_item.specs.Items.{is_about_ranges};
 ghost use Rattle.ll_item.specs.Settings.{Configuration};
 ghost use Rattle.ll_item.specs.declared.item.Item.{Item};
@@ -44,9 +44,10 @@ impl Rendition {
         Ok(copies)
     }
 
-    /// Whether one more item may follow, or the first rule that refuses it. It takes no memory.
+    /// Returns the first rule that refuses `item` as the next one. It takes no memory.
     pub fn test(&self, item: &Item) -> Result<(), PublishFault>
-        ensures { MatchResult result (λ u. refusal_of self.now item.now ≡ None) (λ f. refusal_of self.now item.now ≡ Some f) }
+        ensures rule { MatchResult result (λ u. refusal_of self.now item.now ≡ None) (λ f. refusal_of self.now item.now ≡ Some f) }
+        ensures not_memory { IfErr result (λ f. f ≢ PublishFault.Memory) }
     {
         if let Err(fault) = self.window.test(item) {
             return Err(push_fault(fault));
@@ -120,7 +121,8 @@ fn test_ranges(end: u64, ranges: &Ranges, item: &Item) -> Result<(), RangeFault>
 
 /// What a window refuses, by its name in a channel.
 fn push_fault(fault: PushFault) -> PublishFault
-    ensures { result ≡ of_push fault }
+    ensures name { result ≡ of_push fault }
+    ensures not_memory { result ≢ PublishFault.Memory }
 {
     match fault {
         PushFault::Ended => PublishFault::Ended,
@@ -136,7 +138,8 @@ fn push_fault(fault: PushFault) -> PublishFault
 
 /// What date ranges refuse, by its name in a channel.
 fn range_fault(fault: RangeFault) -> PublishFault
-    ensures { result ≡ of_range fault }
+    ensures name { result ≡ of_range fault }
+    ensures not_memory { result ≢ PublishFault.Memory }
 {
     match fault {
         RangeFault::IdTaken => PublishFault::IdTaken,

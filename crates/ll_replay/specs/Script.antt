@@ -4,7 +4,8 @@ use Rattle.ll_connection.specs.Turn as connection
 use Rattle.ll_connection.specs.Visit.{Luck}
 use Rattle.ll_rooms.specs.declared.owner.Owner.{Owner}
 use Rattle.ll_rooms.specs.declared.owner.Owner.TheVariants.{Get, Connection}
-use Rattle.ll_publish.specs.Refusals.{no_line, ok_line, refusal_of}
+use Rattle.ll_publish.specs.Refusals.{no_line, ok_line}
+use Rattle.ll_publish.specs.declared.refusal.Refusal.TheVariants.{Rule}
 use Rattle.ll_script.specs.Answers.{clock_line, fault_line, reply_lines, unasked_line}
 use Rattle.ll_script.specs.Lines.{acts, starved}
 use Rattle.ll_script.specs.declared.act.Act.{Act}
@@ -77,7 +78,7 @@ unavailable_text (Connection n) = []
 -- the lines of an answer
 abbrev pub spelled : answer.ActAnswer → List ℕ
 spelled (said.Accepted count) = ok_line count
-spelled (said.Refused reason) = no_line (refusal_of reason)
+spelled (said.Refused reason) = no_line (Rule reason)
 spelled (said.ClockRefused reason) = clock_line reason
 spelled (said.Replied owner reply) = reply_text owner reply
 spelled (said.Unavailable owner) = unavailable_text owner

@@ -19,7 +19,7 @@ use ll_item::{Channels, Item, Settings};
 use ll_publish::Refusal;
 use ll_rooms::{ActAnswer, AskStop, Owner, Rooms};
 use ll_script::{Act, Acts, LineFault, clock_line, fault_line, read_line};
-use ll_verdict::{ClockFault, Reply};
+use ll_verdict::{ClockFault, PublishFault, Reply};
 use std::alloc::{AllocError, Global};
 use std::marker::Model;
 
@@ -304,7 +304,7 @@ impl Driver {
                 })
             }
             Err(AllocError) => {
-                let answer = refuse(self.alloc, Refusal::Memory)?;
+                let answer = refuse(self.alloc, Refusal::Rule(PublishFault::Memory))?;
                 Ok(Done::quiet(answer))
             }
         }

@@ -2,7 +2,7 @@
 ghost use Rattle.std.specs.Prelude.{◌≡◌, ◌+◌, Some};
 
 use ll_device::{Failed, Reader, TwoCounts, Writer};
-use ll_replay::{Refusal, RunFault, Summary, run, run_within};
+use ll_replay::{RunFault, Summary, run, run_within};
 use std::alloc::{AllocError, Global};
 use std::marker::Brand;
 use std::sync::ledger::{Blank, Ledger};
@@ -259,30 +259,6 @@ fn reads_are_counted(rt: HostRuntime) {
     ] {
         let ran = run_most(rt.alloc(), script, from, WHOLE, Some(most));
         assert_eq!(rt; ran.result, result, "{most} reads");
-    }
-}
-
-#[test]
-fn refusals_have_codes_and_names(rt: HostRuntime) {
-    let cases = [
-        (Refusal::NoRendition, 1, "NoRendition"),
-        (Refusal::Ended, 2, "Ended"),
-        (Refusal::BadDuration, 3, "BadDuration"),
-        (Refusal::TooLong, 4, "TooLong"),
-        (Refusal::OpenSegment, 5, "OpenSegment"),
-        (Refusal::CountEnd, 6, "CountEnd"),
-        (Refusal::TimeEnd, 7, "TimeEnd"),
-        (Refusal::IdTaken, 8, "IdTaken"),
-        (Refusal::BadAttribute, 9, "BadAttribute"),
-        (Refusal::IdUnknown, 10, "IdUnknown"),
-        (Refusal::RecordFull, 11, "RecordFull"),
-        (Refusal::Memory, 12, "Memory"),
-        (Refusal::BadLine, 13, "BadLine"),
-        (Refusal::UnknownChannel, 14, "UnknownChannel"),
-        (Refusal::LineTooLong, 15, "LineTooLong"),
-    ];
-    for (refusal, code, name) in cases {
-        assert_eq!(rt; (refusal.code(), refusal.name()), (code, name));
     }
 }
 

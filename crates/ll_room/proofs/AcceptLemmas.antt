@@ -11,7 +11,7 @@ use Rattle.ll_page.proofs.RenditionLemmas.{length-renditions, rendition-got}
 use Rattle.ll_window.specs.Compact.{compact}
 use Rattle.ll_window.specs.Refusal as window
 use Rattle.ll_window.specs.Segments.{ended, own}
-use Rattle.ll_window.specs.declared.window.PushFault.{PushFault}
+use Rattle.ll_window.specs.declared.fault.PushFault.{PushFault}
 use Rattle.ll_verdict.specs.Accepted.{refusal}
 use Rattle.ll_rendition.specs.Refusal.{first_refusal, of_push, refusal_at, refusal_of, rendition_refusal}
 use Rattle.ll_verdict.specs.Events.{Event, Publish, items, time, taken}

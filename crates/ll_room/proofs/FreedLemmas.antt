@@ -12,7 +12,8 @@ use Rattle.ll_page.proofs.RenditionLemmas.{own-same, own-other}
 use Rattle.ll_item.specs.declared.part.Part as part
 use Rattle.ll_window.specs.Compact.{Compact, compact}
 use Rattle.ll_window.specs.Segments.{own, ended}
-use Rattle.ll_window.specs.Step.{ended_by, finished_by, with_item}
+use Rattle.ll_item.specs.Told.{kept_part}
+use Rattle.ll_window.specs.Step.{ended_by, finished_by, with_item, with_part_by}
 use Rattle.ll_window.proofs.StepLemmas.{compact-snoc}
 use Rattle.ll_window.proofs.WantLemmas.{held_by, part_told, segment_told}
 use Rattle.ll_verdict.specs.State.{settle}
@@ -25,7 +26,8 @@ use Rattle.ll_verdict.specs.declared.wanted.Wanted.{Wanted}
 use Rattle.ll_verdict.proofs.ListLemmas.{Each}
 use Rattle.ll_book.specs.Release.{Supply, frees, given_if, given_in, part_comes, segment_comes}
 use Rattle.ll_book.specs.declared.release.Release.{Release}
-use Rattle.ll_book.specs.Releases.{finish_release, first_release, second_release}
+use Rattle.ll_book.specs.declared.release.Release.TheVariants as release
+use Rattle.ll_book.specs.Releases.{finish_release, first_release, second_release, segment_if}
 use Rattle.ll_room.specs.Freed.{freed}
 use Rattle.ll_room.proofs.IdleLemmas.{Idle}
 
@@ -38,7 +40,7 @@ finishes (p ∷ ps) awaited number = segment_comes awaited number
 
 -- what an item brings, where this was kept before it
 abbrev pub brings : Compact → Item → Awaited → Bool
-brings k (item.Part r d b f media) awaited = part_comes awaited k.next_number (length k.open_parts) || (f && segment_comes awaited k.next_number)
+brings k (item.Part p) awaited = part_comes awaited k.next_number (length k.open_parts) || (p.finish && segment_comes awaited k.next_number)
 brings k (item.Finish r) awaited = finishes k.open_parts awaited k.next_number
 brings k (item.Break r time) awaited = false
 brings k (item.Init r media) awaited = false
@@ -91,13 +93,18 @@ finish_step (p ∷ ps) k Nothing le e h = absurd (true≢false h)
 finish_step (p ∷ ps) k (Segment msn) le e h = segment_done k msn le e
 finish_step (p ∷ ps) k (Part msn index) le e h = neither (held_in k (Part msn index)) k.ended h e
 
+part_step : (f : Bool) (k : Compact) (p : part.Part) (a : Awaited) → k.settings.first ≤ k.next_number → k.ended ≡ false → held_in k a ≡ false
+    → (held_in (with_part_by f k p) a || (with_part_by f k p).ended)
+    ≡ (part_comes a k.next_number (length k.open_parts) || (f && segment_comes a k.next_number))
+part_step f k p Nothing le e h = absurd (true≢false h)
+part_step true k p (Segment msn) le e h = segment_done k msn le e
+part_step false k p (Segment msn) le e h = neither (held_in k (Segment msn)) k.ended h e
+part_step true k p (Part msn index) le e h = part_brings k true msn index e
+part_step false k p (Part msn index) le e h = part_brings k false msn index e
+
 step : (k : Compact) (i : Item) (a : Awaited) → k.settings.first ≤ k.next_number → k.ended ≡ false → held_in k a ≡ false
     → (held_in (with_item k i) a || (with_item k i).ended) ≡ brings k i a
-step k (item.Part r d b f media) Nothing le e h = absurd (true≢false h)
-step k (item.Part r d b true media) (Segment msn) le e h = segment_done k msn le e
-step k (item.Part r d b false media) (Segment msn) le e h = neither (held_in k (Segment msn)) k.ended h e
-step k (item.Part r d b true media) (Part msn index) le e h = part_brings k true msn index e
-step k (item.Part r d b false media) (Part msn index) le e h = part_brings k false msn index e
+step k (item.Part p) a le e h = part_step p.finish k (kept_part k.pending k.restart p) a le e h
 step k (item.Finish r) a le e h = finish_step k.open_parts k a le e h
 step k (item.Break r time) Nothing le e h = absurd (true≢false h)
 step k (item.Init r media) Nothing le e h = absurd (true≢false h)
@@ -162,13 +169,16 @@ both_finish : (ps : List part.Part) (r n : ℕ) (w : Wanted)
 both_finish [] r n w = sym (and_false (w.rendition == r))
 both_finish (p ∷ ps) r n w = or_false ((w.rendition == r) && segment_comes w.awaited n)
 
+both_part : (f : Bool) (k : Compact) (r : ℕ) (w : Wanted)
+    → (frees_opt (Some (release.Part r k.next_number (length k.open_parts))) w || frees_opt (segment_if f r k.next_number) w)
+    ≡ ((w.rendition == r) && (part_comes w.awaited k.next_number (length k.open_parts) || (f && segment_comes w.awaited k.next_number)))
+both_part true k r w = split_true (w.rendition == r) (part_comes w.awaited k.next_number (length k.open_parts)) (segment_comes w.awaited k.next_number)
+both_part false k r w = split_false (w.rendition == r) (part_comes w.awaited k.next_number (length k.open_parts)) (segment_comes w.awaited k.next_number)
+
 -- the two releases of an item free what it brings
 both : (k : Compact) (i : Item) (w : Wanted)
     → (frees_opt (first_release k i) w || frees_opt (second_release k i) w) ≡ ((w.rendition == rendition_of i) && brings k i w.awaited)
-both k (item.Part r d b true media) w =
-    split_true (w.rendition == r) (part_comes w.awaited k.next_number (length k.open_parts)) (segment_comes w.awaited k.next_number)
-both k (item.Part r d b false media) w =
-    split_false (w.rendition == r) (part_comes w.awaited k.next_number (length k.open_parts)) (segment_comes w.awaited k.next_number)
+both k (item.Part p) w = both_part p.finish k p.rendition w
 both k (item.Finish r) w = both_finish k.open_parts r k.next_number w
 both k (item.Break r time) w = sym (and_false (w.rendition == r))
 both k (item.Init r media) w = sym (and_false (w.rendition == r))

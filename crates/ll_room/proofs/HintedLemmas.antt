@@ -66,7 +66,7 @@ finish-goes (q ∷ ps) k (Part m p) h = earlier m p k.next_number (length k.open
 
 -- an item that doesn't bring it leaves it to the next part
 next-goes : (k : Compact) (i : Item) (a : Awaited) → comes_in k a ≡ true → brings k i a ≡ false → comes_in (with_item k i) a ≡ true
-next-goes k (item.Part r d b f media) a h none = absurd (true≢false (sym (ap (λ x. x || (f && segment_comes a k.next_number)) h) ∙ none))
+next-goes k (item.Part p) a h none = absurd (true≢false (sym (ap (λ x. x || (p.finish && segment_comes a k.next_number)) h) ∙ none))
 next-goes k (item.Finish r) a h none = finish-goes k.open_parts k a h
 next-goes k (item.End r) a h none = absurd (true≢false none)
 next-goes k (item.Break r time) a h none = h
@@ -225,7 +225,7 @@ by_item : (c : Configuration) (its : List Item) (i : Item) (m p : ℕ) → 1 ≤
     → part_comes (Part m p) (c.first + length (segments its)) (length (open_segment its)) ≡ true
     → brings (compact c its) i (Part m p) ≡ true
     → media c (its ++ i ∷ []) (what.Part m p) ≡ bytes_for (part_of (compact c its) i) (what.Part m p)
-by_item c its (item.Part r d b f bytes) m p low going missing comes brought = came c its r d b f bytes m p low going missing comes
+by_item c its (item.Part its_part) m p low going missing comes brought = came c its its_part m p low going missing comes
 by_item c its (item.End r) m p low going missing comes brought = never c its r m p going missing
 by_item c its (item.Finish r) m p low going missing comes brought = absurd (true≢false (sym (finishes-none (open_segment its) m p (c.first + length (segments its)) brought)))
 by_item c its (item.Break r time) m p low going missing comes brought = absurd (true≢false (sym brought))

@@ -8,5 +8,6 @@ pub mod KeptLemmas
 pub mod PublishLemmas
 pub mod SettleLemmas
 pub mod StandLemmas
+pub mod StandingLemmas
 pub mod StoreLemmas
 pub mod TicketLemmas

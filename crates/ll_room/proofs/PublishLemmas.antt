@@ -17,7 +17,7 @@ use Rattle.ll_verdict.specs.Waiting.{AreBelow, ticket_in}
 use Rattle.ll_book.specs.declared.release.Release.{Release}
 use Rattle.ll_book.specs.declared.release.Release.TheVariants as release
 use Rattle.ll_book.proofs.Holding.{release-law}
-use Rattle.ll_book.specs.Releases.{HasHolders, HasThose, released_with, takes_any}
+use Rattle.ll_book.specs.Releases.{HasHolders, HasThose, released_with, segment_if, takes_any}
 use Rattle.ll_room.specs.Coming.{IsComing, changed, pages_in, supply_in}
 use Rattle.ll_room.specs.Freed.{AreApart, freed, freed_slots, new_pages, new_supply, part_in, releases, releases_at, with_item}
 use Rattle.ll_verdict.specs.Full.{event_end}
@@ -76,16 +76,20 @@ its_own x y e = cc
 none_some : {X : Type 0} (x : X) → None ≡ Some x → ⊥
 none_some x e = true≢false (ap is_none e)
 
-part_apart : (k : Compact) (i : Item) (r n : ℕ) (first second : Release) (s : Slot) → first ≡ release.Part r k.next_number (length k.open_parts)
+part_apart : (k : Compact) (r : ℕ) (first second : Release) (s : Slot) → first ≡ release.Part r k.next_number (length k.open_parts)
     → second ≡ release.Segment r k.next_number → takes first s ≡ true → takes second s ≡ false
-part_apart k i r n first second s e f h =
+part_apart k r first second s e f h =
     ap (λ w. takes w s) f
     ∙ apart_by s.entry.wanted.awaited (is_waiting s) (s.entry.wanted.rendition == r) k.next_number (length k.open_parts) (sym (ap (λ w. takes w s) e) ∙ h)
 
+apart_part : (f : Bool) (k : Compact) (r : ℕ) (first second : Release) (s : Slot) → Some (release.Part r k.next_number (length k.open_parts)) ≡ Some first
+    → segment_if f r k.next_number ≡ Some second → takes first s ≡ true → takes second s ≡ false
+apart_part true k r first second s e f h = part_apart k r first second s (sym (its_own _ _ e)) (sym (its_own _ _ f)) h
+apart_part false k r first second s e f h = absurd (none_some second f)
+
 apart_at : (o : Option Rendition) (i : Item) → AreApart (releases_at o i)
 apart_at None i first second s e f h = absurd (none_some first e)
-apart_at (Some k) (item.Part r d b true media) first second s e f h = part_apart k.window (item.Part r d b true media) r d first second s (sym (its_own _ _ e)) (sym (its_own _ _ f)) h
-apart_at (Some k) (item.Part r d b false media) first second s e f h = absurd (none_some second f)
+apart_at (Some k) (item.Part part) first second s e f h = apart_part part.finish k.window part.rendition first second s e f h
 apart_at (Some k) (item.Finish r) first second s e f h = absurd (none_some second f)
 apart_at (Some k) (item.Break r time) first second s e f h = absurd (none_some first e)
 apart_at (Some k) (item.Init r media) first second s e f h = absurd (none_some first e)

@@ -16,7 +16,8 @@ ghost use Rattle.ll_room.specs.declared.stamped.Stamp.TheVariants as stamp;
 use crate::room::{EVENT_END, Room};
 use crate::stamped::{Stamp, Stamped};
 use ll_book::{
-    Holders, NextPart, Release, first_release, holders_for, part_of, release_with, second_release, takes_any,
+    Holders, NextPart, Release, first_release, holders_for, part_of, release_with, second_release,
+    takes_any,
 };
 use ll_item::Item;
 use ll_page::Shown;
@@ -49,9 +50,10 @@ impl Room {
         }
     }
 
-    /// The first rule that refuses an item, if one does.
+    /// Returns the first rule that refuses `item`, if one does.
     pub fn test(&self, item: &Item) -> Result<(), PublishFault>
-        ensures { MatchResult result (λ u. refusal_by self.now item.now ≡ None) (λ f. refusal_by self.now item.now ≡ Some f) }
+        ensures rule { MatchResult result (λ u. refusal_by self.now item.now ≡ None) (λ f. refusal_by self.now item.now ≡ Some f) }
+        ensures not_memory { IfErr result (λ f. f ≢ PublishFault.Memory) }
     {
         match self.shown.renditions().get(item.rendition()) {
             Some(kept) => kept.test(item)?,

@@ -1,19 +1,21 @@
 //! What a room keeps of its channel, and what it tells of it.
-ghost use Rattle.std.specs.Prelude.{◌≡◌, ◌≤◌, ◌^◌, ◌++◌, [], IfOk, filter, find, length, option_map};
+ghost use Rattle.std.specs.Prelude.{◌≡◌, ◌<◌, ◌≤◌, ◌^◌, ◌++◌, [], IfOk, List, MatchOption, filter, find, length, option_map};
 ghost use Rattle.std.specs.Arc.{arc_value};
 ghost use Rattle.ll_page.specs.View as view;
 ghost use Rattle.ll_verdict.specs.Waiting as waiting;
 ghost use Rattle.ll_verdict.specs.State.{state_of};
 ghost use Rattle.ll_room.specs.Answers.{is_open};
 ghost use Rattle.ll_verdict.specs.Full.{is_full};
-ghost use Rattle.ll_room.specs.RoomValue.{room_value};
+ghost use Rattle.ll_room.specs.RoomValue.{Stands, room_value};
+ghost use Rattle.ll_verdict.specs.Events.{Event, items};
+ghost use Rattle.ll_verdict.specs.Standing.{standing};
 
 use ll_book::Book;
 use ll_item::Settings;
 use ll_page::{Rendition, Shown};
 use ll_range::Ranges;
 use ll_store::{Store, new_stores};
-use ll_verdict::Entry;
+use ll_verdict::{Entry, Standing};
 use ll_window::Window;
 use ll_written::Written;
 use std::alloc::{AllocError, Global};
@@ -141,6 +143,16 @@ impl Room {
         ensures rising { waiting.IsRising 0 self.now.slots }
     {
         self.book.len()
+    }
+
+    /// Returns where the rendition of this index stands, or `None` if the channel has none of that index. It is no event.
+    pub fn standing(&self, rendition: usize) -> Option<Standing>
+        ensures { (events : List Event) → Stands self.now events
+            → MatchOption result (length self.now.settings.renditions ≤ rendition)
+            (λ s. (rendition < length self.now.settings.renditions) × (s ≡ standing self.now.settings (items self.now.settings events) rendition)) }
+    {
+        let kept = self.shown.renditions().get(rendition)?;
+        Some(Standing::of(self.shown.count(), kept))
     }
 
     /// Whether the channel has taken as many events as it takes.

@@ -12,7 +12,7 @@ use Rattle.ll_item.specs.Settings.{Configuration}
 use Rattle.ll_item.specs.declared.item.Item.{Item}
 use Rattle.ll_item.specs.declared.item.ItemFault.{ItemFault}
 use Rattle.ll_item.specs.declared.item.ItemFault.TheVariants as fault
-use Rattle.ll_publish.specs.Refusals.{item_refusal}
+use Rattle.ll_publish.specs.Refusals.{item_refusal, out_of_memory}
 use Rattle.ll_publish.specs.declared.refusal.Refusal.TheVariants as refused
 use Rattle.ll_script.specs.Hex.{bytes_in_hex}
 use Rattle.ll_script.specs.Lines.{bytes_spelled, item_act, item_with, offer_to, offer_within}
@@ -63,7 +63,7 @@ refused-alike c line media blank e =
 -- ---- no memory was found for the bytes
 
 unkept-fine : (channels : List Configuration) (place : ℕ) (r : Result Item ItemFault) → result_err r ≡ None
-    → IsRead channels (Some (item_act place r ∷ [])) (Ok (list.One (Refuse refused.Memory)))
+    → IsRead channels (Some (item_act place r ∷ [])) (Ok (list.One (Refuse out_of_memory)))
 unkept-fine channels place (Ok item) e = refl
 unkept-fine channels place (Err f) e = absurd (none-some f (sym e))
 
@@ -81,7 +81,7 @@ unkept-wrong channels place (Err g) f other e =
 
 -- an item that could be read, but for memory, with zeros in place of its bytes is refused for nothing else
 unkept-memory : (channels : List Configuration) (place : ℕ) (c : Configuration) (line media blank : List ℕ) → blank ≡ zeros (length media)
-    → IsOk (item_in c line blank) → IsRead channels (Some (item_act place (item_in c line media) ∷ [])) (Ok (list.One (Refuse refused.Memory)))
+    → IsOk (item_in c line blank) → IsRead channels (Some (item_act place (item_in c line media) ∷ [])) (Ok (list.One (Refuse out_of_memory)))
 unkept-memory channels place c line media blank e ok =
     unkept-fine channels place (item_in c line media) (refused-alike c line media blank e ∙ no_fault (item_in c line blank) ok)
   where
@@ -92,7 +92,7 @@ unkept-memory channels place c line media blank e ok =
 -- with zeros in place of its bytes it was read
 pub unkept-ok : (channels : List Configuration) (place : ℕ) (c : Configuration) (line media blank : List ℕ) (r : Result Item ItemFault)
     → blank ≡ zeros (length media) → IfOk r (λ item. item_in c line blank ≡ Ok item) → None ≡ result_err r
-    → IsRead channels (Some (item_act place (item_in c line media) ∷ [])) (Ok (list.One (Refuse refused.Memory)))
+    → IsRead channels (Some (item_act place (item_in c line media) ∷ [])) (Ok (list.One (Refuse out_of_memory)))
 unkept-ok channels place c line media blank (Ok item) e is none = unkept-memory channels place c line media blank e (subst IsOk (sym is) refl)
 unkept-ok channels place c line media blank (Err f) e is none = absurd (none-some f none)
 

@@ -17,9 +17,10 @@ use Rattle.ll_item.specs.Announced.{told_bytes}
 use Rattle.ll_publish.specs.Line.{Line}
 use Rattle.ll_publish.specs.Line as said
 use Rattle.ll_publish.specs.Lines.{line_of}
-use Rattle.ll_publish.specs.Refusals.{item_refusal}
+use Rattle.ll_publish.specs.Refusals.{item_refusal, out_of_memory}
 use Rattle.ll_publish.specs.declared.refusal.Refusal.{Refusal}
 use Rattle.ll_publish.specs.declared.refusal.Refusal.TheVariants as refused
+use Rattle.ll_rendition.specs.declared.fault.PublishFault.TheVariants as rule
 use Rattle.ll_script.specs.Hex.{bytes_in_hex}
 use Rattle.ll_script.specs.declared.act.Act.{Act}
 use Rattle.ll_script.specs.declared.act.Act.TheVariants.{Declare, Offer, Refuse, Ask, Answer, Close, Clock, RefuseClock, Bytes, Drop}
@@ -182,7 +183,7 @@ acts channels last line = if is_passed_over line then Some [] else acts_by chann
 
 -- what an act comes to for which no memory is found: an item is refused so, a request is answered so; no other act is
 abbrev pub starved : Act → Act
-starved (Offer place item) = Refuse refused.Memory
+starved (Offer place item) = Refuse out_of_memory
 starved (Ask id place want) = Answer id target.Memory
 starved other = other
 
@@ -204,7 +205,7 @@ is_memory_fault target.Memory = true
 is_memory_fault other = false
 
 abbrev pub is_memory_refusal : Refusal → Bool
-is_memory_refusal refused.Memory = true
+is_memory_refusal (refused.Rule rule.Memory) = true
 is_memory_refusal other = false
 
 -- whether what was read of a line tells that no memory was found for its item or request

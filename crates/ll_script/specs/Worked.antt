@@ -8,6 +8,7 @@ use Rattle.ll_item.specs.Settings.{Configuration}
 use Rattle.ll_item.specs.declared.item.Item.TheVariants.{Init}
 use Rattle.ll_publish.specs.Refusals.{no_line, ok_line}
 use Rattle.ll_publish.specs.declared.refusal.Refusal.TheVariants as refused
+use Rattle.ll_rendition.specs.declared.fault.PublishFault.TheVariants as rule
 use Rattle.ll_script.specs.Answers.{clock_line, fault_line, reply_lines, sent_line, shut_line}
 use Rattle.ll_script.specs.Lines.{acts}
 use Rattle.ll_script.specs.declared.act.Act.TheVariants.{Offer, Refuse, Ask, Answer, Close, Clock, RefuseClock, Bytes, Drop}
@@ -73,7 +74,7 @@ pub record WorkedLines : Type 0 where
 
 pub record WorkedAnswers : Type 0 where
   pub accepted : ok_line 12 ≡ codes "ok 12\n"
-  pub refused : no_line refused.TooLong ≡ codes "no 4 TooLong\n"
+  pub refused : no_line (refused.Rule rule.TooLong) ≡ codes "no 4 TooLong\n"
   pub late : clock_line clock.ClockRange ≡ codes "no 1 ClockRange\n"
   pub busy : reply_lines 7 reply.Busy ≡ codes "reply 7 503 Busy\n"
   pub media : reply_lines 7 (reply.Media (piece (1 ∷ 255 ∷ []))) ≡ codes "reply 7 200 2\n01ff\n"

@@ -18,6 +18,7 @@ use ll_attr::{after, cut, parse_number};
 use ll_directive::{TargetFault, named_channel, read_target};
 use ll_item::{Channels, Item, Payload, Settings, SettingsFault, told_bytes};
 use ll_publish::{Line, Refusal};
+use ll_verdict::PublishFault;
 use std::alloc::Global;
 use std::str;
 use thiserror::Error;
@@ -258,7 +259,7 @@ fn refuse_unkept(
 {
     match Item::read(alloc, settings, line, blank).err() {
         Some(fault) => Ok(Acts::One(Act::Refuse(Refusal::from(fault)))),
-        None => Ok(Acts::One(Act::Refuse(Refusal::Memory))),
+        None => Ok(Acts::One(Act::Refuse(Refusal::Rule(PublishFault::Memory)))),
     }
 }
 

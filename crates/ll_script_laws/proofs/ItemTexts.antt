@@ -13,10 +13,10 @@ use Rattle.ll_attr.specs.declared.attributes.AttrValue.TheVariants.{Quoted, Bare
 use Rattle.ll_attr.proofs.Joined.{joined_words}
 use Rattle.ll_attr.proofs.Spelled.{read_again, written_again}
 use Rattle.ll_attr.proofs.Tails.{left_read}
-use Rattle.ll_item.specs.Items.{alone_in, bare_of, break_at, end_at, flags_in, init_at, item_in, item_of, named, part_at, part_by, part_in, range_at, range_in, range_of, range_with, unrange_at, unrange_in}
+use Rattle.ll_item.specs.Items.{alone_in, bare_of, break_at, break_in, end_at, finish_at, flags_in, init_at, item_in, item_of, named, part_at, part_by, part_in, range_at, range_in, range_of, range_with, time_in, timed_break, unrange_at, unrange_in}
 use Rattle.ll_item.specs.Settings.{Configuration}
 use Rattle.ll_item.specs.declared.item.Item.{Item}
-use Rattle.ll_item.specs.declared.item.Item.TheVariants.{Part, Init, Break, End, Range, Unrange}
+use Rattle.ll_item.specs.declared.item.Item.TheVariants.{Part, Init, Finish, Break, End, Range, Unrange}
 use Rattle.ll_item.specs.declared.item.ItemFault.{ItemFault}
 use Rattle.ll_item.specs.declared.item.ItemFault.TheVariants.{BadAttribute, BadLine}
 use Rattle.ll_laws.specs.Published.{IsSpelled}
@@ -25,9 +25,10 @@ use Rattle.ll_laws.specs.Published.{IsSpelled}
 abbrev pub IsRead : Item → Type 0
 IsRead (Range rendition id attributes) = (is_utf8 id ≡ true) × (attributes ≢ [] → IsSpelled attributes)
 IsRead (Unrange rendition id) = is_utf8 id ≡ true
-IsRead (Part rendition duration independent finish media) = Unit
+IsRead (Part part) = Unit
 IsRead (Init rendition media) = Unit
-IsRead (Break rendition) = Unit
+IsRead (Finish rendition) = Unit
+IsRead (Break rendition time) = Unit
 IsRead (End rendition) = Unit
 
 -- what stands before an ASCII byte and what stands after it
@@ -88,7 +89,7 @@ range_read r text (Ok (a ∷ more)) i u e h =
 
 part_read : (n : Result ℕ ItemFault) (d : ℕ) (f : Bool × Bool) (media : List ℕ) (i : Item) → part_at n d f media ≡ Ok i → IsRead i
 part_read (Err fault) d f media i h = cc
-part_read (Ok r) d f media i h = same IsRead (Part r d f.0 f.1 media) i h tt
+part_read (Ok r) d f media i h = same IsRead (Part (record { rendition = r; duration = d; independent = f.0; finish = f.1; media = media })) i h tt
 
 part_by-read : (c : Configuration) (name : List ℕ) (d : Option ℕ) (f : Option (Bool × Bool)) (media : List ℕ) (i : Item) → part_by c name d f media ≡ Ok i → IsRead i
 part_by-read c name None f media i h = cc
@@ -103,9 +104,22 @@ init-read : (n : Result ℕ ItemFault) (media : List ℕ) (i : Item) → init_at
 init-read (Err fault) media i h = cc
 init-read (Ok r) media i h = same IsRead (Init r media) i h tt
 
-break-read : (n : Result ℕ ItemFault) (i : Item) → break_at n ≡ Ok i → IsRead i
-break-read (Err fault) i h = cc
-break-read (Ok r) i h = same IsRead (Break r) i h tt
+finish-read : (n : Result ℕ ItemFault) (i : Item) → finish_at n ≡ Ok i → IsRead i
+finish-read (Err fault) i h = cc
+finish-read (Ok r) i h = same IsRead (Finish r) i h tt
+
+break-read : (n : Result ℕ ItemFault) (time : Option ℕ) (i : Item) → break_at n time ≡ Ok i → IsRead i
+break-read (Err fault) time i h = cc
+break-read (Ok r) time i h = same IsRead (Break r time) i h tt
+
+timed-read : (c : Configuration) (name : List ℕ) (time : Option ℕ) (i : Item) → timed_break c name time ≡ Ok i → IsRead i
+timed-read c name None i h = cc
+timed-read c name (Some ms) i h = break-read (named c name) (Some ms) i h
+
+break_in-read : (c : Configuration) (rest : List (List ℕ)) (i : Item) → break_in c rest ≡ Ok i → IsRead i
+break_in-read c (name ∷ []) i h = break-read (named c name) None i h
+break_in-read c (name ∷ time ∷ []) i h = timed-read c name (time_in time) i h
+break_in-read c other i h = cc
 
 end-read : (n : Result ℕ ItemFault) (i : Item) → end_at n ≡ Ok i → IsRead i
 end-read (Err fault) i h = cc
@@ -127,19 +141,21 @@ unrange_in-read : (c : Configuration) (kind : List ℕ) (rest : List (List ℕ))
 unrange_in-read c kind (name ∷ first ∷ more) i u h = unrange_at-read (named c name) (joined (first ∷ more)) i (after_two kind name first more u) h
 unrange_in-read c kind other i u h = cc
 
-by_kind : {X : Type 0} (b1 b2 b3 b4 : Bool) (r1 r2 r3 r4 : Result Item ItemFault) (i : Item) → (r1 ≡ Ok i → X) → (r2 ≡ Ok i → X) → (r3 ≡ Ok i → X) → (r4 ≡ Ok i → X)
-    → (if b1 then r1 else if b2 then r2 else if b3 then r3 else if b4 then r4 else Err BadLine) ≡ Ok i → X
-by_kind true b2 b3 b4 r1 r2 r3 r4 i f1 f2 f3 f4 h = f1 h
-by_kind false true b3 b4 r1 r2 r3 r4 i f1 f2 f3 f4 h = f2 h
-by_kind false false true b4 r1 r2 r3 r4 i f1 f2 f3 f4 h = f3 h
-by_kind false false false true r1 r2 r3 r4 i f1 f2 f3 f4 h = f4 h
-by_kind false false false false r1 r2 r3 r4 i f1 f2 f3 f4 h = cc
+by_kind : {X : Type 0} (b1 b2 b3 b4 b5 : Bool) (r1 r2 r3 r4 r5 : Result Item ItemFault) (i : Item)
+    → (r1 ≡ Ok i → X) → (r2 ≡ Ok i → X) → (r3 ≡ Ok i → X) → (r4 ≡ Ok i → X) → (r5 ≡ Ok i → X)
+    → (if b1 then r1 else if b2 then r2 else if b3 then r3 else if b4 then r4 else if b5 then r5 else Err BadLine) ≡ Ok i → X
+by_kind true b2 b3 b4 b5 r1 r2 r3 r4 r5 i f1 f2 f3 f4 f5 h = f1 h
+by_kind false true b3 b4 b5 r1 r2 r3 r4 r5 i f1 f2 f3 f4 f5 h = f2 h
+by_kind false false true b4 b5 r1 r2 r3 r4 r5 i f1 f2 f3 f4 f5 h = f3 h
+by_kind false false false true b5 r1 r2 r3 r4 r5 i f1 f2 f3 f4 f5 h = f4 h
+by_kind false false false false true r1 r2 r3 r4 r5 i f1 f2 f3 f4 f5 h = f5 h
+by_kind false false false false false r1 r2 r3 r4 r5 i f1 f2 f3 f4 f5 h = cc
 
 bare-read : (c : Configuration) (kind : List ℕ) (rest : List (List ℕ)) (i : Item) → IsUtf8 (joined (kind ∷ rest)) → bare_of c kind rest ≡ Ok i → IsRead i
 bare-read c kind rest i u h =
-    by_kind (bytes_eq kind (codes "break")) (bytes_eq kind (codes "range")) (bytes_eq kind (codes "unrange")) (bytes_eq kind (codes "end"))
-    (break_at (alone_in c rest)) (range_in c rest) (unrange_in c rest) (end_at (alone_in c rest)) i
-    (break-read (alone_in c rest) i) (range_in-read c kind rest i u) (unrange_in-read c kind rest i u) (end-read (alone_in c rest) i) h
+    by_kind (bytes_eq kind (codes "break")) (bytes_eq kind (codes "finish")) (bytes_eq kind (codes "range")) (bytes_eq kind (codes "unrange")) (bytes_eq kind (codes "end"))
+    (break_in c rest) (finish_at (alone_in c rest)) (range_in c rest) (unrange_in c rest) (end_at (alone_in c rest)) i
+    (break_in-read c rest i) (finish-read (alone_in c rest) i) (range_in-read c kind rest i u) (unrange_in-read c kind rest i u) (end-read (alone_in c rest) i) h
 
 by_bytes : {X : Type 0} (b1 b2 b3 : Bool) (r1 r2 r3 : Result Item ItemFault) (i : Item) → (r1 ≡ Ok i → X) → (r2 ≡ Ok i → X) → (r3 ≡ Ok i → X)
     → (if b1 then r1 else if b2 then r2 else if b3 then r3 else Err BadLine) ≡ Ok i → X

@@ -41,8 +41,9 @@ some_attributes c before r id (a ∷ list) h = λ e. cc
 has_texts : (c : Configuration) (before : List Item) (i : Item) → IsRead i → range.refusal c before i ≡ None → HasTexts i
 has_texts c before (item.Range r id list) read h = (read.0, read.1 (some_attributes c before r id list h))
 has_texts c before (item.Unrange r id) read h = read
-has_texts c before (item.Part r duration independent finish media) read h = tt
-has_texts c before (item.Break r) read h = tt
+has_texts c before (item.Part p) read h = tt
+has_texts c before (item.Finish r) read h = tt
+has_texts c before (item.Break r time) read h = tt
 has_texts c before (item.Init r media) read h = tt
 has_texts c before (item.End r) read h = tt
 

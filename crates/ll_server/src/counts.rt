@@ -1,27 +1,29 @@
 use ll_attr::Text;
 use ll_format::UtcTime;
 use ll_publish::Refusal;
-use ll_verdict::{AskFault, Reply};
+use ll_verdict::{AskFault, PublishFault, Reply};
 use ll_wire::Answer;
 use std::alloc::{AllocError, Global};
 use std::fmt;
 use std::sync::atomic::{AtomicU64, Ordering};
 
 /// Why an item may be refused once its channel is known, in the order in which the line of numbers tells them.
-const REFUSALS: [Refusal; 13] = [
-    Refusal::NoRendition,
-    Refusal::Ended,
-    Refusal::BadDuration,
-    Refusal::TooLong,
-    Refusal::OpenSegment,
-    Refusal::CountEnd,
-    Refusal::TimeEnd,
-    Refusal::IdTaken,
-    Refusal::BadAttribute,
-    Refusal::IdUnknown,
-    Refusal::RecordFull,
-    Refusal::Memory,
+const REFUSALS: [Refusal; 15] = [
+    Refusal::Rule(PublishFault::NoRendition),
+    Refusal::Rule(PublishFault::Ended),
+    Refusal::Rule(PublishFault::BadDuration),
+    Refusal::Rule(PublishFault::TooLong),
+    Refusal::Rule(PublishFault::OpenSegment),
+    Refusal::Rule(PublishFault::CountEnd),
+    Refusal::Rule(PublishFault::TimeEnd),
+    Refusal::Rule(PublishFault::IdTaken),
+    Refusal::Rule(PublishFault::BadAttribute),
+    Refusal::Rule(PublishFault::IdUnknown),
+    Refusal::Rule(PublishFault::RecordFull),
+    Refusal::Rule(PublishFault::Memory),
     Refusal::BadLine,
+    Refusal::Rule(PublishFault::NoSegment),
+    Refusal::Rule(PublishFault::TimeBack),
 ];
 
 /// A number that several threads count.

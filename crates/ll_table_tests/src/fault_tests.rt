@@ -2,8 +2,8 @@
 use ll_attr::AttrFault;
 use ll_directive::TargetFault;
 use ll_item::{ItemFault, SettingsFault};
-use ll_range::RangeFault;
-use ll_window::PushFault;
+use ll_range::{RangeError, RangeFault};
+use ll_window::{PushError, PushFault};
 use std::alloc::AllocError;
 use std::fmt::Display;
 
@@ -21,11 +21,11 @@ const OF_ITEMS: [ItemFault; 4] = [
     ItemFault::Memory,
 ];
 
-const OF_RANGES: [RangeFault; 4] = [
-    RangeFault::IdTaken,
-    RangeFault::BadAttribute,
-    RangeFault::IdUnknown,
-    RangeFault::Memory,
+const OF_RANGES: [RangeError; 4] = [
+    RangeError::Refused(RangeFault::IdTaken),
+    RangeError::Refused(RangeFault::BadAttribute),
+    RangeError::Refused(RangeFault::IdUnknown),
+    RangeError::Memory,
 ];
 
 const OF_SETTINGS: [SettingsFault; 9] = [
@@ -40,14 +40,16 @@ const OF_SETTINGS: [SettingsFault; 9] = [
     SettingsFault::Memory,
 ];
 
-const OF_PARTS: [PushFault; 7] = [
-    PushFault::Ended,
-    PushFault::BadDuration,
-    PushFault::TooLong,
-    PushFault::OpenSegment,
-    PushFault::CountEnd,
-    PushFault::TimeEnd,
-    PushFault::Memory,
+const OF_PARTS: [PushError; 9] = [
+    PushError::Refused(PushFault::Ended),
+    PushError::Refused(PushFault::BadDuration),
+    PushError::Refused(PushFault::TooLong),
+    PushError::Refused(PushFault::OpenSegment),
+    PushError::Refused(PushFault::NoSegment),
+    PushError::Refused(PushFault::CountEnd),
+    PushError::Refused(PushFault::TimeEnd),
+    PushError::Refused(PushFault::TimeBack),
+    PushError::Memory,
 ];
 
 const OF_TARGETS: [TargetFault; 8] = [
@@ -93,6 +95,6 @@ lists => BadName,BadValue,Twice,Memory,
 items => BadLine,NoRendition,BadAttribute,Memory,
 ranges => IdTaken,BadAttribute,IdUnknown,Memory,
 settings => BadTarget,BadPartTarget,SkipTooSmall,WindowTooSmall,BadName,NoRendition,BadStart,BadLine,Memory,
-parts => Ended,BadDuration,TooLong,OpenSegment,CountEnd,TimeEnd,Memory,
+parts => Ended,BadDuration,TooLong,OpenSegment,NoSegment,CountEnd,TimeEnd,TimeBack,Memory,
 targets => 400 BadTarget BadTarget,404 NotFound NotFound,400 BadMsn BadMsn,400 BadPart BadPart,400 BadSkip BadSkip,400 Double Double,\
 400 PartAlone PartAlone,503 Memory Memory,";

@@ -5,6 +5,7 @@ use ll_item::ItemFault;
 use ll_publish::{Feed, Line, Refusal, reply_text};
 use ll_verdict::PublishFault;
 use std::alloc::{AllocError, Global};
+use std::test::Fail;
 
 pub(crate) fn add_answer(
     alloc: Global,
@@ -187,6 +188,37 @@ too long a line => no 15 LineTooLong␊
 a bad line => no 13 BadLine␊
 too long a part => no 4 TooLong␊
 too many bytes => no 16 MediaTooLong␊";
+
+/// Each refusal's code and name, as a publisher reads them.
+const CODES: [(Refusal, &str); 18] = [
+    (Refusal::Rule(PublishFault::NoRendition), "no 1 NoRendition\n"),
+    (Refusal::Rule(PublishFault::Ended), "no 2 Ended\n"),
+    (Refusal::Rule(PublishFault::BadDuration), "no 3 BadDuration\n"),
+    (Refusal::Rule(PublishFault::TooLong), "no 4 TooLong\n"),
+    (Refusal::Rule(PublishFault::OpenSegment), "no 5 OpenSegment\n"),
+    (Refusal::Rule(PublishFault::CountEnd), "no 6 CountEnd\n"),
+    (Refusal::Rule(PublishFault::TimeEnd), "no 7 TimeEnd\n"),
+    (Refusal::Rule(PublishFault::IdTaken), "no 8 IdTaken\n"),
+    (Refusal::Rule(PublishFault::BadAttribute), "no 9 BadAttribute\n"),
+    (Refusal::Rule(PublishFault::IdUnknown), "no 10 IdUnknown\n"),
+    (Refusal::Rule(PublishFault::RecordFull), "no 11 RecordFull\n"),
+    (Refusal::Rule(PublishFault::Memory), "no 12 Memory\n"),
+    (Refusal::BadLine, "no 13 BadLine\n"),
+    (Refusal::UnknownChannel, "no 14 UnknownChannel\n"),
+    (Refusal::LineTooLong, "no 15 LineTooLong\n"),
+    (Refusal::MediaTooLong, "no 16 MediaTooLong\n"),
+    (Refusal::Rule(PublishFault::NoSegment), "no 17 NoSegment\n"),
+    (Refusal::Rule(PublishFault::TimeBack), "no 18 TimeBack\n"),
+];
+
+#[test]
+fn refusals_have_codes_and_names(rt: HostRuntime) -> Result<(), Fail> {
+    for (refusal, line) in CODES {
+        let told = reply_text(rt.alloc(), &Err(refusal))?;
+        assert_eq!(rt; told.as_str(), line);
+    }
+    Ok(())
+}
 
 fn reply(name: &str) -> Result<u64, Refusal> {
     match name {

@@ -201,21 +201,18 @@ fn add_copy(told: &mut String, item: &Item) -> Result<(), AllocError> {
 fn add_item(told: &mut String, item: &Item) -> Result<(), AllocError> {
     let rendition = item.rendition();
     match item {
-        Item::Part {
-            duration,
-            independent,
-            finish,
-            media,
-            ..
-        } => {
+        Item::Part(part) => {
+            let (duration, independent, finish) = (part.duration, part.independent, part.finish);
             write!(told, "part {rendition} {duration} {independent} {finish}, ")?;
-            add_bytes(told, media)
+            add_bytes(told, &part.media)
         }
         Item::Init { media, .. } => {
             write!(told, "init {rendition}, ")?;
             add_bytes(told, media)
         }
-        Item::Break { .. } => write!(told, "break {rendition}"),
+        Item::Finish { .. } => write!(told, "finish {rendition}"),
+        Item::Break { time: None, .. } => write!(told, "break {rendition}"),
+        Item::Break { time: Some(ms), .. } => write!(told, "break {rendition} at {ms}"),
         Item::End { .. } => write!(told, "end {rendition}"),
         Item::Range { id, attributes, .. } => add_range(told, rendition, id, attributes),
         Item::Unrange { id, .. } => write!(told, "unrange {rendition} [{id}]"),
@@ -258,6 +255,12 @@ part hi 18446744073709551615 f => part 1 18446744073709551615 false true, []
 part hi 007 if => part 1 7 true true, []
 break lo => break 0
 break hi => break 1
+break hi 0 => break 1 at 0
+break lo 1772895845250 => break 0 at 1772895845250
+break hi 253402300799999 => break 1 at 253402300799999
+break hi 5 <> => break 1 at 5
+finish lo => finish 0
+finish hi => finish 1
 end lo => end 0
 end hi => end 1
 range hi ID="a",START-DATE="x" => range 1 [a] [START-DATE="x"]
@@ -301,6 +304,28 @@ break  hi => BadLine
 break Hi => BadLine
 break hi x => BadLine
 break hi 1 - => BadLine
+break hi 01 => BadLine
+break hi 00 => BadLine
+break hi -1 => BadLine
+break hi +1 => BadLine
+break hi 1.5 => BadLine
+break hi 1  => BadLine
+break hi  1 => BadLine
+break hi 253402300800000 => BadLine
+break hi 999999999999999 => BadLine
+break hi 1000000000000000 => BadLine
+break zz x => BadLine
+break zz 1 => NoRendition
+break Hi 1 => BadLine
+break hi 1 <a> => BadLine
+finish zz => NoRendition
+finish => BadLine
+finish  => BadLine
+finish hi  => BadLine
+finish hi 1 => BadLine
+finish Hi => BadLine
+finish hi <a> => BadLine
+Finish hi => BadLine
 end zz => NoRendition
 end => BadLine
 end hi  => BadLine

@@ -1,7 +1,7 @@
 //! A removal is recent for six seconds of parts.
 use crate::rows::{Bench, column, number};
 use ll_attr::{AttrList, Text};
-use ll_range::{RangeFault, Ranges};
+use ll_range::{RangeError, RangeFault, Ranges};
 use std::alloc::{AllocError, Global};
 
 /// The attributes of a date range that may be added.
@@ -38,7 +38,10 @@ fn add_change(
 ) -> Result<(), AllocError> {
     let (word, id) = (column(input, 0), column(input, 1));
     let answer = change(alloc, ranges, word, number(input, 2), id);
-    write!(told, "{answer:?} ")
+    match answer {
+        Ok(()) => told.push_str("Ok(()) "),
+        Err(error) => write!(told, "Err({error}) "),
+    }
 }
 
 /// Does what a word says, where all parts last so long.
@@ -48,12 +51,12 @@ fn change(
     word: &str,
     end: u64,
     id: &str,
-) -> Result<(), RangeFault> {
+) -> Result<(), RangeError> {
     match word {
         "add" => add(alloc, ranges, end, id),
         "remove" => ranges.remove(end, id),
         "test add" => test_add(alloc, ranges, end, id, GOOD),
-        "test remove" => ranges.test_remove(id),
+        "test remove" => refused(ranges.test_remove(id)),
         _ => {
             ranges.expire(end);
             Ok(())
@@ -61,10 +64,18 @@ fn change(
     }
 }
 
-fn add(alloc: Global, ranges: &mut Ranges, end: u64, id: &str) -> Result<(), RangeFault> {
+/// What a test answers, as what a change answers.
+fn refused(answer: Result<(), RangeFault>) -> Result<(), RangeError> {
+    match answer {
+        Ok(()) => Ok(()),
+        Err(fault) => Err(RangeError::Refused(fault)),
+    }
+}
+
+fn add(alloc: Global, ranges: &mut Ranges, end: u64, id: &str) -> Result<(), RangeError> {
     match (Text::from_str(alloc, id), AttrList::parse(alloc, GOOD)) {
         (Ok(id), Ok(attributes)) => ranges.add(end, id, attributes),
-        _ => Err(RangeFault::Memory),
+        _ => Err(RangeError::Memory),
     }
 }
 
@@ -75,10 +86,10 @@ fn test_add(
     end: u64,
     id: &str,
     attributes: &str,
-) -> Result<(), RangeFault> {
+) -> Result<(), RangeError> {
     match AttrList::parse(alloc, attributes) {
-        Ok(attributes) => ranges.test_add(end, id, &attributes),
-        Err(_) => Err(RangeFault::Memory),
+        Ok(attributes) => refused(ranges.test_add(end, id, &attributes)),
+        Err(_) => Err(RangeError::Memory),
     }
 }
 

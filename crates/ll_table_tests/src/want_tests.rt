@@ -1,7 +1,7 @@
 //! Items are letters: p is a part of 10 ms, f one that finishes its segment, e the end. The largest media sequence number is 1152921504606846976.
 use crate::rows::{Bench, column, number};
-use ll_item::{Item, Media};
-use ll_window::{PushFault, Window};
+use ll_item::{Item, Media, PartItem};
+use ll_window::{PushError, Window};
 use std::alloc::{AllocError, Global};
 
 pub(crate) fn add_answer(
@@ -14,22 +14,23 @@ pub(crate) fn add_answer(
     bench.window = Window::new(alloc, &bench.settings)?;
     match push(&mut bench.window, column(input, 0)) {
         Ok(()) => add_told(told, &bench.window, question, input),
-        Err(fault) => write!(told, "{fault:?}"),
+        Err(error) => write!(told, "{error}"),
     }
 }
 
 /// Adds the items of these letters.
-fn push(window: &mut Window, letters: &str) -> Result<(), PushFault> {
+fn push(window: &mut Window, letters: &str) -> Result<(), PushError> {
     for letter in letters.chars() {
         window.push(match letter {
             'e' => Item::End { rendition: 0 },
-            _ => Item::Part {
+            'F' => Item::Finish { rendition: 0 },
+            _ => Item::Part(PartItem {
                 rendition: 0,
                 duration: 10_000,
                 independent: true,
                 finish: letter == 'f',
                 media: Media::none(),
-            },
+            }),
         })?;
     }
     Ok(())

@@ -2,8 +2,8 @@
 //! segment, and `7x1000000f` for seven of them. The largest media sequence number is 1152921504606846976, and the last
 //! millisecond of the year 9999 is 253402300799999.
 use crate::rows::{Bench, column};
-use ll_item::{Item, Media};
-use ll_window::{PushFault, Window};
+use ll_item::{Item, Media, PartItem};
+use ll_window::{PushError, Window};
 use std::alloc::{AllocError, Global};
 
 pub(crate) fn add_answer(
@@ -20,7 +20,7 @@ pub(crate) fn add_answer(
     bench.window = Window::new(alloc, &bench.settings)?;
     match push(&mut bench.window, column(input, 0)) {
         Ok(()) => add_told(told, &mut bench.window, question, column(input, 1)),
-        Err(fault) => write!(told, "{fault:?}"),
+        Err(error) => write!(told, "{error}"),
     }
 }
 
@@ -40,23 +40,29 @@ fn add_told(
     }
 }
 
-/// The item of a word.
+/// The item of a word: a part's duration, with `f` for finishing; `F` for a finish, `b` for a break, perhaps with its time, `e` for the end.
 fn item(word: &str) -> Item {
+    if let Some(time) = word.strip_prefix('b') {
+        return Item::Break {
+            rendition: 0,
+            time: time.parse::<u64>().ok(),
+        };
+    }
     match word {
-        "b" => Item::Break { rendition: 0 },
+        "F" => Item::Finish { rendition: 0 },
         "e" => Item::End { rendition: 0 },
-        _ => Item::Part {
+        _ => Item::Part(PartItem {
             rendition: 0,
             duration: word.trim_end_matches('f').parse::<u64>().unwrap_or(0),
             independent: false,
             finish: word.ends_with('f'),
             media: Media::none(),
-        },
+        }),
     }
 }
 
 /// Adds the items of these words.
-fn push(window: &mut Window, words: &str) -> Result<(), PushFault> {
+fn push(window: &mut Window, words: &str) -> Result<(), PushError> {
     for word in words.split_whitespace() {
         let (times, word) = word.split_once('x').unwrap_or(("1", word));
         push_times(window, times.parse::<u64>().unwrap_or(0), word)?;
@@ -64,7 +70,7 @@ fn push(window: &mut Window, words: &str) -> Result<(), PushFault> {
     Ok(())
 }
 
-fn push_times(window: &mut Window, times: u64, word: &str) -> Result<(), PushFault> {
+fn push_times(window: &mut Window, times: u64, word: &str) -> Result<(), PushError> {
     for _ in 0..times {
         window.push(item(word))?;
     }
@@ -97,7 +103,36 @@ begin channel cam target=1 part=1000000 skip=6 window=9 renditions=hi first=0 st
 begin channel cam target=1 part=1000000 skip=6 window=9 renditions=hi first=1152921504606846976 start=253402300799000 => begun
 999999f | 0f => (Err(BadDuration), Err(BadDuration))
 999999f | 1000001f => (Err(TooLong), Err(TooLong))
-999999f | 1f => (Err(CountEnd), Err(CountEnd))";
+999999f | 1f => (Err(CountEnd), Err(CountEnd))
+begin channel cam target=1 part=1000000 skip=6 window=9 renditions=hi first=0 start=0 => begun
+ | F => (Err(NoSegment), Err(NoSegment))
+1000000f | F => (Err(NoSegment), Err(NoSegment))
+1000000 | F => (Ok(()), Ok(()))
+1000000 F | F => (Err(NoSegment), Err(NoSegment))
+1000000 F | b => (Ok(()), Ok(()))
+1000000 F | 1000000f => (Ok(()), Ok(()))
+1000000 e | F => (Err(Ended), Err(Ended))
+ | b0 => (Ok(()), Ok(()))
+500000 | b501 => (Err(OpenSegment), Err(OpenSegment))
+500000f | b499 => (Err(TimeBack), Err(TimeBack))
+500000f | b500 => (Ok(()), Ok(()))
+500001 F | b500 => (Err(TimeBack), Err(TimeBack))
+500001 F | b501 => (Ok(()), Ok(()))
+500000f b900 | b899 => (Err(TimeBack), Err(TimeBack))
+500000f b900 b | b899 => (Err(TimeBack), Err(TimeBack))
+500000f b900 b | b900 => (Ok(()), Ok(()))
+500000f b900 1000000f | b1899 => (Err(TimeBack), Err(TimeBack))
+500000f b900 1000000f | b1900 => (Ok(()), Ok(()))
+500000f e | b900 => (Err(Ended), Err(Ended))
+500000 | b253402300800000 => (Err(OpenSegment), Err(OpenSegment))
+500000f | b253402300800000 => (Err(TimeEnd), Err(TimeEnd))
+500000f | b253402300799999 => (Ok(()), Ok(()))
+b253402300799999 | 999f => (Ok(()), Ok(()))
+b253402300799999 | 1000f => (Err(TimeEnd), Err(TimeEnd))
+b253402300799999 999f | 1f => (Err(TimeEnd), Err(TimeEnd))
+begin channel cam target=1 part=1000000 skip=6 window=9 renditions=hi first=1152921504606846976 start=0 => begun
+1000000 F | 1000000f => (Err(CountEnd), Err(CountEnd))
+1000000 F | F => (Err(NoSegment), Err(NoSegment))";
 
 /// An item that comes after those of the rows above: what a test of it and its publication answer, and what the window tells then.
 /// A refused item changes nothing.
@@ -119,8 +154,11 @@ e => (Err(Ended), Err(Ended)) (3, 0, 10, 2000002, 0, Some(PartPosition { number:
 /// Adds what a test of an item and its publication answer.
 fn add_step(told: &mut String, window: &mut Window, word: &str) -> Result<(), AllocError> {
     let next = item(word);
-    let answers = (window.test(&next), window.push(next));
-    write!(told, "{answers:?}")
+    let tested = window.test(&next);
+    match window.push(next) {
+        Ok(()) => write!(told, "({tested:?}, Ok(()))"),
+        Err(error) => write!(told, "({tested:?}, Err({error}))"),
+    }
 }
 
 /// Adds what a window tells beside its segments: how many they are, how many open parts there are, the next number, the end of
@@ -174,6 +212,8 @@ begin channel cam target=1 part=1000000 skip=6 window=9 renditions=hi first=0 st
 pub(crate) const SEGMENTS: &str = "window: segments
 begin channel cam target=1 part=1000000 skip=6 window=9 renditions=hi first=7 start=1 => begun
 b 1000000f b 500000 250000f 1000000f b 750000 => 0: (7, true, 1, 1000, 1000000, 1)(8, true, 2, 1001000, 750000, 2)(9, false, 2, 1751000, 1000000, 1)(10, true, 3, 2751000, 750000, 0)
+b5000 1000000f b 500000 F b6600 b7000 b 750000 => 0: (7, true, 1, 5000000, 1000000, 1)(8, true, 2, 6000000, 500000, 1)(9, true, 3, 7000000, 750000, 0)
+1000000f b2000 e => 0: (7, false, 0, 1000, 1000000, 1)
 600000 400000f 1000000f 1000000f 999999f => 0: (7, false, 0, 1000, 1000000, 2)(8, false, 0, 1001000, 1000000, 1)(9, false, 0, 2001000, 1000000, 1)(10, false, 0, 3001000, 999999, 1)
 600000 400000f 1000000f 1000000f 1000000 => 0: (7, false, 0, 1000, 1000000, 0)(8, false, 0, 1001000, 1000000, 1)(9, false, 0, 2001000, 1000000, 1)(10, false, 0, 3001000, 1000000, 0)
 b 1000000f b 750000f 1000000f b 1000000f b 1000000f 1000000f 1000000f 1000000f 1000000f 1000000f 1000000f => 2: (9, false, 2, 1751000, 1000000, 0)(10, true, 3, 2751000, 1000000, 0)(11, true, 4, 3751000, 1000000, 0)(12, false, 4, 4751000, 1000000, 0)(13, false, 4, 5751000, 1000000, 0)(14, false, 4, 6751000, 1000000, 0)(15, false, 4, 7751000, 1000000, 1)(16, false, 4, 8751000, 1000000, 1)(17, false, 4, 9751000, 1000000, 1)";
@@ -207,7 +247,7 @@ fn add_copied(told: &mut String, window: &mut Window, later: &str) -> Result<(),
     told.push_str(" - ")?;
     match push(window, later) {
         Ok(()) => add_both(told, &copy, window),
-        Err(fault) => write!(told, "{fault:?}"),
+        Err(error) => write!(told, "{error}"),
     }
 }
 

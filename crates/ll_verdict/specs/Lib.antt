@@ -4,6 +4,7 @@ pub mod Full
 pub mod Laws
 pub mod Names
 pub mod Outcome
+pub mod Standing
 pub mod State
 pub mod Verdict
 pub mod Waiting

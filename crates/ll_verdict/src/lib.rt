@@ -8,6 +8,7 @@ mod fault;
 mod laws;
 mod piece;
 mod reply;
+mod standing;
 mod wanted;
 
 pub use awaited::{is_far, is_hinted, is_there};
@@ -19,4 +20,5 @@ pub use laws::{
 pub use ll_rendition::PublishFault;
 pub use piece::Piece;
 pub use reply::{Outcome, Reply, Settled};
+pub use standing::Standing;
 pub use wanted::Wanted;

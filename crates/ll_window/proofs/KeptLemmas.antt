@@ -119,7 +119,7 @@ timed-listed near tail time (r ∷ rs) h =
     (omega (arith, e, f, l, h.0), timed-listed near tail time rs h.1)
 
 -- the next part begins where the open segment ends with it
-opens-clock : (ps : List Part) (o : Option ℕ) (time : ℕ) → opens_by ps o time + duration ps ≡ clock_by ps o time
+pub opens-clock : (ps : List Part) (o : Option ℕ) (time : ℕ) → opens_by ps o time + duration ps ≡ clock_by ps o time
 opens-clock [] o time = omega arith
 opens-clock (p ∷ ps) o time = refl
 

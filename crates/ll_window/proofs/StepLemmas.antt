@@ -156,7 +156,7 @@ abbrev last_of : Configuration → List Part → Option PartPosition
 last_of c ps = last_place (numbered_parts c.first 0 ps)
 
 -- what is kept of what items tell
-abbrev kept_of : Configuration → Told → Compact
+abbrev pub kept_of : Configuration → Told → Compact
 kept_of c t = kept c t.ended (split t.parts) t.end_time t.pending t.restart (last_of c t.parts)
 
 -- a date range changes nothing of it

@@ -2,7 +2,7 @@ use Rattle.std.proofs.Common.{◌≡◌, ◌≤◌, ◌^◌, List, None, true, a
 use Rattle.std.specs.Str.{is_utf8}
 use Rattle.ll_item.specs.Settings.{limit_broken}
 use Rattle.ll_entry.specs.Leads.{chunk_text}
-use Rattle.ll_entry.specs.ItemLines.{settings_line}
+use Rattle.ll_entry.specs.SettingsLine.{settings_line}
 use Rattle.ll_record.proofs.ChunkText.{faithful}
 use Rattle.ll_verdict.specs.Events.{Event}
 use Rattle.ll_record.proofs.Next.{recorded-anew}

@@ -1,7 +1,6 @@
 -- What the rooms answer to an item is counted and spelled; one for which no memory was found is refused so.
 use Rattle.std.proofs.Common.{None, Ok, Some, refl, true}
-use Rattle.ll_publish.specs.Refusals.{no_line}
-use Rattle.ll_publish.specs.declared.refusal.Refusal.TheVariants as refused
+use Rattle.ll_publish.specs.Refusals.{no_line, out_of_memory}
 use Rattle.ll_script.specs.declared.act.Act.TheVariants.{Offer}
 use Rattle.ll_rooms.specs.World.{offer}
 use Rattle.ll_replay.specs.Script.{plain}
@@ -21,4 +20,4 @@ pub returns-in_ok-answer-in-Err-clause-done : goal.returns-in_ok-answer-in-Err-c
 returns-in_ok-answer-in-Err-clause-done c w k =
     let same = unchanged-keeps (the_view c.self.inside) _ c.offer.new.self w c.self.view_is c.in-Err.ensures.unchanged k in
     done-is _ c.quiet.result c.in_ok-answer-in-Err.answer None (Offer c.args.place c.args.item) w (record plain { refused = true }) c.quiet.ensures.answer c.quiet.ensures.due refl
-    (line-says _ w c.in_ok-answer-in-Err.answer (no_line refused.Memory) same c.in_ok-answer-in-Err.ensures)
+    (line-says _ w c.in_ok-answer-in-Err.answer (no_line out_of_memory) same c.in_ok-answer-in-Err.ensures)

@@ -1,0 +1,38 @@
+ghost use Rattle.std.specs.Prelude.{◌≡◌};
+ghost use Rattle.ll_verdict.specs.Standing.{standing_of};
+
+use ll_rendition::Rendition;
+
+/// Where a rendition stands, after some items of its channel.
+#[derive(Clone, Copy, Debug, PartialEq, Eq)]
+pub struct Standing {
+    /// How many items the channel has accepted.
+    pub count: u64,
+    /// The Media Sequence Number of the next part.
+    pub number: u64,
+    /// The index of the next part in its segment.
+    pub index: u64,
+    /// How long all parts of the rendition last, in microseconds.
+    pub end_time: u64,
+    /// When the next part begins: milliseconds since 1970-01-01T00:00:00Z, rounded up. It is the least time that a break may set.
+    pub time: u64,
+    /// Whether the rendition has ended.
+    pub ended: bool,
+}
+
+impl Standing {
+    /// Returns where a rendition stands of which this is `kept`, when its channel has accepted `count` items.
+    pub fn of(count: u64, kept: &Rendition) -> Standing
+        ensures { result ≡ standing_of count kept.now }
+    {
+        let window = &kept.window;
+        Standing {
+            count,
+            number: window.next_number(),
+            index: window.open_parts().len() as u64,
+            end_time: window.end_time(),
+            time: window.clock().div_ceil(1_000),
+            ended: window.ended(),
+        }
+    }
+}
