@@ -19,13 +19,14 @@ use Rattle.ll_book.specs.declared.release.Release.TheVariants as release
 use Rattle.ll_book.proofs.Holding.{release-law}
 use Rattle.ll_book.specs.Releases.{HasHolders, HasThose, released_with, segment_if, takes_any}
 use Rattle.ll_room.specs.Coming.{IsComing, changed, pages_in, supply_in}
-use Rattle.ll_room.specs.Freed.{AreApart, freed, freed_slots, new_pages, new_supply, part_in, releases, releases_at, with_item}
+use Rattle.ll_room.specs.Freed.{AreApart, freed, freed_slots, new_pages, new_supply, part_in, releases, releases_at, with_item, with_stores}
+use Rattle.ll_store.specs.Media.{StoreValue}
 use Rattle.ll_verdict.specs.Full.{event_end}
 use Rattle.ll_room.specs.RoomValue.{RoomValue}
 use Rattle.ll_room.specs.Kept.{IsKept}
 use Rattle.ll_written.specs.Stored.{AreFew}
 use Rattle.ll_written.specs.Written.{AreWritten, WrittenOf}
-use Rattle.ll_written.proofs.WrittenLemmas.{one-written}
+use Rattle.ll_written.proofs.WrittenLemmas.{none-written, one-written}
 use Rattle.ll_room.specs.declared.publish.Coming.{Coming}
 
 -- the releases take none of these
@@ -201,6 +202,33 @@ kept-item h w now kept ss few k current stored many same =
       few = omega (arith, k.few, long);
       counted = omega (arith, few, k.few, k.asked, long);
     }
+
+-- the bytes for players are no part of it
+kept-stores : (h : RoomValue) (w : WrittenOf) (ss : List StoreValue) → IsKept h w → IsKept (with_stores h ss) w
+kept-stores h w ss k = record {
+  current = k.current;
+  stored = k.stored;
+  target = k.target;
+  window = k.window;
+  each = k.each;
+  accepted = k.accepted;
+  asked = k.asked;
+  early = k.early;
+  below = k.below;
+  few = k.few;
+  counted = k.counted;
+}
+
+-- the room after one more item that releases nothing, of which no page is written
+pub silent-kept : (h : RoomValue) (w now : WrittenOf) (m : Moment) (ss : List StoreValue) → h.events < event_end → IsKept h w → now.pages ≡ []
+    → AreFew now.pieces m.renditions → length m.renditions ≡ length h.renditions
+    → m ≡ record { settings = h.settings; renditions = m.renditions; count = h.count + 1 }
+    → IsKept (record h { settings = m.settings; renditions = m.renditions; stores = ss; count = m.count; events = h.events + 1 }) now
+silent-kept h w now m ss few k none stored many e =
+    let after : Moment = record { settings = h.settings; renditions = m.renditions; count = h.count + 1 } in
+    subst (λ (n : Moment). IsKept (record h { settings = n.settings; renditions = n.renditions; stores = ss; count = n.count; events = h.events + 1 }) now) (sym e)
+    (kept-stores (record h { renditions = m.renditions; count = h.count + 1; events = h.events + 1 }) now ss
+    (kept-item h w now m.renditions h.slots few k (none-written after now.pages none) stored many refl))
 
 -- the room after one more item that releases nothing, or of which these are the open requests
 abbrev pub item_on : List Rendition → List Slot → RoomValue → RoomValue

@@ -5,10 +5,12 @@ use Rattle.ll_page.specs.View.{GoOn}
 use Rattle.ll_store.specs.Stores.{all_kept, map_at, stores_with}
 use Rattle.ll_room.specs.Freed.{with_stores}
 use Rattle.ll_room.proofs.AcceptLemmas.{first_none}
-use Rattle.ll_room.proofs.StoreLemmas.{stored}
+use Rattle.ll_room.proofs.KeptLemmas.{few-events}
+use Rattle.ll_room.proofs.StoreLemmas.{free-few, stored}
 use Rattle.ll_room.specs.RoomValue.{RoomValue}
 use Rattle.ll_room.specs.contracts.room.Room.{the_view}
-use Rattle.ll_room.proofs.PublishLemmas.{shown-item, silent-item}
+use Rattle.ll_room.proofs.PublishLemmas.{shown-item, silent-item, silent-kept}
+use Rattle.ll_written.specs.Stored.{AreFew}
 use Rattle.ll_written.proofs.StoredLemmas.{few-length}
 use Rattle.ll_room.proofs.room.Room.accept_silently.Goals as goal
 
@@ -36,3 +38,10 @@ returns-clause-accepted c =
     ap (λ (x : RoomValue). with_stores x (all_kept c.arrive.new.stores.items))
     (shown-item c.accept.new.self h.slots h c.in_ok-accept.ensures.accepted
     ∙ silent-item h c.args.self.now c.accept.new.self.renditions c.args.item c.self.view_is c.requires.first c.requires.second)
+
+pub invariant_of-self-2 : goal.invariant_of-self-2
+invariant_of-self-2 c =
+    let h = the_view c.self.inside in
+    silent-kept h c.self.inside.written c.drop_pages-2.new.self c.accept.new.self (all_kept c.arrive.new.stores.items)
+    (few-events h c.args.self.now c.self.view_is (free-few c.args.self.now c.args.item c.requires.allowed)) c.self.invariant c.drop_pages-2.ensures.pages
+    (subst (AreFew _) c.renditions-4.ensures c.drop_pages-2.ensures.pieces) c.accept.ensures.many c.in_ok-accept.ensures.accepted
