@@ -5,7 +5,7 @@ use Rattle.std.specs.declared.string.String.{String}
 use Rattle.ll_range.specs.Announced.{Announced}
 use Rattle.ll_item.specs.Told.{Listed, Removal}
 use Rattle.ll_range.specs.Kept.{listed_at, removal_at}
-use Rattle.ll_range.specs.declared.ranges.RangeEntry.{RangeEntry}
+use Rattle.ll_range.specs.declared.listed.RangeEntry.{RangeEntry}
 
 same_entry : {A : Type 0} (p q : String A × RangeEntry) → string_bytes q.0 ≡ string_bytes p.0 → q.1 ≡ p.1 → listed_at q ≡ listed_at p
 same_entry p q e f =

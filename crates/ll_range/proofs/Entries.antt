@@ -11,7 +11,7 @@ use Rattle.indexmap.proofs.CallerLemmas.{insert_entry-new}
 use Rattle.ll_item.specs.Told.{Listed, Removal, others, other_removals}
 use Rattle.ll_range.specs.Announced.{Announced, is_recent_one, was_removed}
 use Rattle.ll_range.specs.Kept.{listed_at, removal_at}
-use Rattle.ll_range.specs.declared.ranges.RangeEntry.{RangeEntry}
+use Rattle.ll_range.specs.declared.listed.RangeEntry.{RangeEntry}
 
 map_by : {X Y : Type 0} (f : X → Y) (b : Bool) (x : X) (xs : List X) → map f (cond b (x ∷ xs) xs) ≡ cond b (f x ∷ map f xs) (map f xs)
 map_by f true x xs = refl
@@ -103,12 +103,13 @@ no_one None e = refl
 no_one (Some v) e = absurd (cc)
 
 -- a date range of a new id
-pub listed_put : {A S : Type 0} (m : IndexMap (String A) RangeEntry S) (new : List (String A × RangeEntry)) (k : String A) (v : RangeEntry) (id : List ℕ) → string_bytes k ≡ id
-    → list_any (λ (range : Listed). bytes_eq id range.id) (map listed_at m.entries) ≡ false → new ≡ insert_entry string_eq m.entries k v
-    → map listed_at new ≡ map listed_at m.entries ++ (record { id = id; attributes = v.attributes; added = v.added }) ∷ []
-listed_put m new k v id same none is =
-    put_in listed_at m new k v id same (no_one (lookup (has_id id) m.entries) (listed_found id m.entries ∙ none)) is
-    ∙ ap (λ i. map listed_at m.entries ++ (let x : Listed = record { id = i; attributes = v.attributes; added = v.added } in x) ∷ []) same
+pub listed_put : {A S : Type 0} (m : IndexMap (String A) RangeEntry S) (new : List (String A × RangeEntry)) (k : String A) (v : RangeEntry) (id : List ℕ) (xs : List Listed)
+    → map listed_at m.entries ≡ xs → string_bytes k ≡ id → list_any (λ (range : Listed). bytes_eq id range.id) xs ≡ false → new ≡ insert_entry string_eq m.entries k v
+    → map listed_at new ≡ xs ++ (record { id = id; attributes = v.attributes; added = v.added }) ∷ []
+listed_put m new k v id xs told same none is =
+    put_in listed_at m new k v id same
+    (no_one (lookup (has_id id) m.entries) (listed_found id m.entries ∙ ap (list_any (λ (range : Listed). bytes_eq id range.id)) told ∙ none)) is
+    ∙ ap₂ (λ ys i. ys ++ (let x : Listed = record { id = i; attributes = v.attributes; added = v.added } in x) ∷ []) told same
 
 -- without a date range
 pub listed_left : {A : Type 0} (id : List ℕ) (es new : List (String A × RangeEntry)) → new ≡ shift_remove_entry (has_id id) es → lookup (has_id id) new ≡ None

@@ -5,7 +5,7 @@ use Rattle.ll_attr.specs.Attributes.{spelling}
 use Rattle.ll_attr.specs.declared.attributes.Attribute.{Attribute}
 use Rattle.ll_item.specs.Told.{Listed, Removal, others, other_removals}
 use Rattle.ll_range.specs.Announced.{Announced, recent_at}
-use Rattle.ll_range.specs.declared.ranges.RangeEntry.{RangeEntry}
+use Rattle.ll_range.specs.declared.listed.RangeEntry.{RangeEntry}
 
 -- a date range that is kept under its id
 abbrev pub listed_at : {A : Type 0} → String A × RangeEntry → Listed

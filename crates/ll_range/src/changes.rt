@@ -1,6 +1,5 @@
 //! What adds date ranges and takes them away.
-ghost use Rattle.std.specs.Prelude.{◌≡◌, ◌≢◌, ◌+◌, ◌++◌, ◌∷◌, [], List, ℕ, IfErr, MatchResult, OnOk, OnErr, IsErrOf, None, Some, false, filter, map, nat_le, bytes_eq};
-ghost use Rattle.std.specs.List.{list_any};
+ghost use Rattle.std.specs.Prelude.{◌≡◌, ◌≢◌, ◌+◌, ◌++◌, ◌∷◌, [], List, ℕ, IfErr, MatchResult, OnOk, OnErr, IsErrOf, None, Some, false, filter, map, nat_le};
 ghost use Rattle.std.specs.Option.{option_map};
 ghost use Rattle.ll_item.specs.Items.{is_about_ranges};
 ghost use Rattle.ll_item.specs.Settings.{Configuration};
@@ -8,12 +7,13 @@ ghost use Rattle.ll_item.specs.declared.item.Item.{Item};
 ghost use Rattle.ll_item.specs.declared.item.Item.TheVariants as item;
 ghost use Rattle.ll_range.specs.Announced as spec;
 ghost use Rattle.ll_range.specs.Announced.{announced, refusal, add_refusal, remove_refusal, is_listed, was_removed};
-ghost use Rattle.ll_range.specs.Kept.{listed_at, removal_at, with_range, without_range, at_time};
+ghost use Rattle.ll_range.specs.Kept.{removal_at, with_range, without_range, at_time};
 ghost use Rattle.ll_range.specs.declared.ranges.RangeError.TheVariants as error;
-ghost use Rattle.ll_item.specs.Told.{end_time, Listed, others, other_removals};
+ghost use Rattle.ll_item.specs.Told.{end_time, other_removals};
 
 use crate::attributes::{are_allowed, is_id};
-use crate::ranges::{RangeEntry, RangeError, RangeFault, Ranges};
+use crate::listed::RangeEntry;
+use crate::ranges::{RangeError, RangeFault, Ranges};
 use indexmap::IndexMap;
 use ll_attr::{AttrList, Text};
 use std::alloc::AllocError;
@@ -47,7 +47,7 @@ impl Ranges {
     fn is_listed(&self, id: &str) -> bool
         ensures { result ≡ is_listed id.now self.now }
     {
-        self.listed.contains_key(id)
+        self.listed.contains(id)
     }
 
     /// Whether a date range of this id was removed recently.
@@ -146,7 +146,7 @@ impl Ranges {
             attributes: attributes.write()?,
             added: end,
         };
-        put(&mut self.listed, id, added)
+        self.listed.put(id, added)
     }
 
     /// Takes the date range of this id away.
@@ -154,36 +154,11 @@ impl Ranges {
         ensures ok { OnOk result (self.new ≡ without_range end id.now self.old) }
         ensures err { OnErr result (self.new ≡ self.old) }
     {
+        let left = self.listed.without(id)?;
         note(&mut self.recent, id, end)?;
-        take_out(&mut self.listed, id);
+        self.listed = left;
         Ok(())
     }
-}
-
-/// Puts a date range after the others.
-fn put(
-    listed: &mut IndexMap<String, RangeEntry>,
-    id: &str,
-    stored: RangeEntry,
-) -> Result<(), AllocError>
-    requires { list_any (λ (range : Listed). bytes_eq id.now range.id) (map listed_at listed.old.entries) ≡ false }
-    ensures ok { OnOk result (map listed_at listed.new.entries ≡ map listed_at listed.old.entries
-        ++ (record { id = id.now; attributes = stored.attributes; added = stored.added }) ∷ []) }
-    ensures err { OnErr result (listed.new.entries ≡ listed.old.entries) }
-{
-    let alloc = *listed.allocator();
-    let key = String::from_str(alloc, id)?;
-    match listed.insert(key, stored) {
-        Ok(_) => Ok(()),
-        Err(_) => Err(AllocError),
-    }
-}
-
-/// Takes the date range of this id out. The others keep their order.
-fn take_out(listed: &mut IndexMap<String, RangeEntry>, id: &str)
-    ensures { map listed_at listed.new.entries ≡ others id.now (map listed_at listed.old.entries) }
-{
-    listed.shift_remove(id);
 }
 
 /// Notes a removal after the others, in the place of an earlier one of its id.

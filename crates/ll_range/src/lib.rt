@@ -5,6 +5,7 @@
 mod attributes;
 mod changes;
 mod laws;
+mod listed;
 mod ranges;
 
 pub use laws::skipped_law;

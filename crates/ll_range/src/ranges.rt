@@ -2,6 +2,7 @@ ghost use Rattle.std.specs.Prelude.{◌≡◌, ◌≤◌, [], Some, IfOk, MatchO
 ghost use Rattle.ll_range.specs.Announced.{announced, recent_at, skipped_at};
 
 use crate::changes::is_recent;
+use crate::listed::ListedRanges;
 use indexmap::IndexMap;
 use ll_attr::Text;
 use ll_item::Settings;
@@ -46,30 +47,12 @@ pub struct DateRange<'a> {
     pub added: u64,
 }
 
-/// What is kept of a date range beside its id.
-#[derive(Debug, Drop)]
-pub(crate) struct RangeEntry {
-    pub(crate) attributes: Text,
-    pub(crate) added: u64,
-}
-
-impl Clone for RangeEntry {
-    ghost is_clone = { λ s t. t ≡ s };
-
-    fn clone(&self) -> Result<RangeEntry, AllocError> {
-        Ok(RangeEntry {
-            attributes: self.attributes.copy()?,
-            added: self.added,
-        })
-    }
-}
-
 /// The date ranges of one rendition: those that are listed, in order of adding, and those that were taken away lately, in
 /// order of removal. A removal is recent while the parts after it last no longer than the skip limit (section 4.4.5.2).
 #[derive(Debug, Drop)]
 pub struct Ranges {
     pub(crate) limit: u64,
-    pub(crate) listed: IndexMap<String, RangeEntry>,
+    pub(crate) listed: ListedRanges,
     /// How long all parts before each removal last, in microseconds.
     pub(crate) recent: IndexMap<String, u64>,
 }
@@ -77,11 +60,11 @@ pub struct Ranges {
 impl Model for Ranges {
     ghost use Rattle.std.specs.Prelude.{map};
     ghost use Rattle.ll_range.specs.Announced.{Announced};
-    ghost use Rattle.ll_range.specs.Kept.{listed_at, removal_at};
+    ghost use Rattle.ll_range.specs.Kept.{removal_at};
 
     ghost Value = { Announced };
 
-    ghost view = { λ r. record { limit = r.limit; listed = map listed_at r.listed.entries; recent = map removal_at r.recent.entries } };
+    ghost view = { λ r. record { limit = r.limit; listed = r.listed; recent = map removal_at r.recent.entries } };
 }
 
 impl Ranges {
@@ -91,7 +74,7 @@ impl Ranges {
     {
         Ranges {
             limit: settings.skip() * 1_000_000,
-            listed: IndexMap::new(alloc),
+            listed: ListedRanges::new(alloc),
             recent: IndexMap::new(alloc),
         }
     }
@@ -108,12 +91,7 @@ impl Ranges {
         ensures { MatchOption result (length self.now.listed ≤ place)
             (λ r. slice_get self.now.listed place ≡ Some (record { id = r.id.now; attributes = r.attributes.now; added = r.added })) }
     {
-        let (id, stored) = self.listed.get_index(place)?;
-        Some(DateRange {
-            id: id.as_str(),
-            attributes: stored.attributes.as_str(),
-            added: stored.added,
-        })
+        self.listed.get(place)
     }
 
     /// How many of the date ranges that are listed a delta update may skip, where all parts of the rendition last so long until
@@ -158,13 +136,13 @@ impl Ranges {
         Some((id.as_str(), *removed))
     }
 
-    /// Date ranges equal to these, or an error where no memory was found.
+    /// Returns date ranges equal to these, or that memory ran out. The copy shares those that are listed with these.
     pub fn copy(&self) -> Result<Ranges, AllocError>
         ensures { IfOk result (λ r. r ≡ self.now) }
     {
         Ok(Ranges {
             limit: self.limit,
-            listed: self.listed.clone()?,
+            listed: self.listed.again()?,
             recent: self.recent.clone()?,
         })
     }
