@@ -1,3 +1,5 @@
 mod AnswerLemmas
+mod HistoryLemmas
 mod NextLemmas
+mod ReadLemmas
 mod StepLemmas
