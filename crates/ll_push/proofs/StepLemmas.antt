@@ -1,5 +1,5 @@
 -- Messages, one after another.
-use Rattle.std.proofs.Common.{◌≡◌, inl, inr, OnErr, IfOk, IsErrAnd, Result, Ok, Err, Bool, true, false, ℕ, ◌+◌, ◌-◌, List, [], ◌∷◌, ◌++◌, Option, Some, None, refl, ap, sym, subst, ◌∙◌, append_assoc, append-nil, drop, length, length-append, take, take-append-drop, nat_le, arith}
+use Rattle.std.proofs.Common.{◌≡◌, inl, inr, OnErr, IfOk, IsErrAnd, IsErrOf, Result, Ok, Err, Bool, true, false, ℕ, ◌+◌, ◌-◌, List, [], ◌∷◌, ◌++◌, Option, Some, None, refl, ap, sym, subst, ◌∙◌, append_assoc, append-nil, drop, length, length-append, take, take-append-drop, nat_le, arith}
 use Rattle.std.proofs.KnownBytes.{Appends-nil, Appends-trans}
 use Rattle.std.proofs.lemmas.Bool.Decides.{nat_tests}
 use Rattle.std.proofs.lemmas.Grind.{flat_map-append}
@@ -12,12 +12,14 @@ use Rattle.ll_device.specs.Inward.{looked_at}
 use Rattle.ll_device.specs.Written.{AppendsPrefix}
 use Rattle.ll_device.proofs.InwardLemmas.{looked_at-none, looked_at-on}
 use Rattle.ll_push.specs.Answers.{accepts, ended, lines_text, refuses}
-use Rattle.ll_push.specs.Exchanges.{AreExchanged, IsExchanged, IsGone, LinkValue}
+use Rattle.ll_push.specs.Exchanges.{AreExchanged, IsExchanged, IsGone, IsUnanswered, LinkValue}
 use Rattle.ll_push.specs.Messages.{MessageValue, Names, ends}
 use Rattle.ll_mp4.specs.declared.fault.Fault.{Fault}
 use Rattle.ll_push.specs.Next.{IsFaultNext, IsNext, IsSent, IsTaken, is_refusal}
-use Rattle.ll_push.specs.Publishing.{GoesOn, HasGone, HasRefused, IsFirstFault, PublisherValue, after_message, fault_after, fault_by, fault_to_come, messages, messages_by, messages_to_come, text_to_come}
+use Rattle.ll_push.specs.Publishing.{GoesOn, HasFailed, HasGone, HasRefused, IsFirstFault, PublisherValue, after_message, fault_after, fault_by, fault_to_come, messages, messages_by, messages_to_come, text_to_come}
+use Rattle.ll_push.specs.Faults.{IsOfLink, IsOfSource}
 use Rattle.ll_push.specs.declared.fault.PushFault.{PushFault}
+use Rattle.ll_push.specs.declared.fault.PushFault.TheVariants.{Input, Read, Connect, Lost, BadAnswer, Memory, Endless}
 use Rattle.ll_push.specs.declared.answer.Answer.{Answer}
 use Rattle.ll_push.specs.declared.answer.Answer.TheVariants.{Accepted}
 use Rattle.ll_push.specs.declared.publisher.Sent.{Sent}
@@ -78,6 +80,19 @@ same-fault (Err y) f g h e = let k = sym h in cc
 pub on-err : {T E : Type 0} (r : Result T E) (P : Type 0) → P → OnErr r P
 on-err (Ok x) P p = tt
 on-err (Err x) P p = p
+
+pub own-fault : {X : Type 0} (r : Result X PushFault) (f g : PushFault) (P : PushFault → Type 0) → IsErrAnd r (λ y. y ≡ f) → IsErrOf r g → P f → P g
+own-fault r f g P h e p = subst P (same-fault r f g h e) p
+
+-- no fault is one of a connection and of the encoder's bytes
+pub apart : {A : Type 0} (fault : PushFault) → IsOfSource fault → IsOfLink fault → A
+apart (Input fault) s l = absurd l
+apart Read s l = absurd l
+apart Connect s l = absurd l
+apart Lost s l = absurd s
+apart BadAnswer s l = absurd s
+apart Memory s l = absurd l
+apart Endless s l = absurd l
 
 -- ---- messages that were sent
 
@@ -187,6 +202,18 @@ module _ (p : PublisherValue) (input : List ℕ) (first : LinkValue) (s : Publis
         prefix-on first.written mid.written last.written (concat so_far.sent) (message.bytes ++ concat next_ones) (text_to_come p input)
         (ap concat in_all ∙ concat-append so_far.sent (message.bytes ∷ next_ones)) so_far.exchanged.sent
         (q.0, q.1 ++ concat next_ones, ap (λ l. l ++ concat next_ones) q.2 ∙ append_assoc q.0 q.1 (concat next_ones), q.3)
+
+    -- it has no answer
+    pub message-failed : (fault : PushFault) → IsUnanswered message.bytes mid last fault → HasFailed p input first last fault
+    message-failed fault why = record {
+      sent = so_far.sent;
+      message = message.bytes;
+      later = next_ones;
+      all = in_all;
+      mid = mid;
+      exchanged = so_far.exchanged;
+      why = why;
+    }
 
     -- nothing of it was
     pub message-kept : (same : MessageValue) → same ≡ message → IsGone mid last → HasGone p input first (record after { unsent = Some same }) then last accepted

@@ -1,5 +1,5 @@
 -- What was sent on a connection, and what was read of it.
-use Rattle.std.specs.Prelude.{◌≡◌, ◌⊎◌, ◌<◌, ℕ, true, All, List, [], Option, Result, Ok, Err, length}
+use Rattle.std.specs.Prelude.{◌≡◌, ◌⊎◌, ◌<◌, ℕ, true, All, List, [], Option, Result, Ok, Err, length, ⊤}
 use Rattle.std.specs.List.{concat}
 use Rattle.std.specs.Io.KnownBytes.{Appends, Keeps}
 use Rattle.ll_device.specs.Inward.{Inward, looked_at}
@@ -66,3 +66,10 @@ IsAnswered before after (Err Lost) = IsCut before after
 IsAnswered before after (Err BadAnswer) = IsBad before.inward after.inward
 IsAnswered before after (Err Memory) = (line : List ℕ) × HasCome (ended line) before.inward after.inward × (refuses line ≡ true)
 IsAnswered before after (Err other) = ⊥
+
+-- why a message has no answer: the connection was lost amid it or before its answer ended, or what came after it is no answer
+abbrev pub IsUnanswered : List ℕ → LinkValue → LinkValue → PushFault → Type 0
+IsUnanswered message before after Lost = IsCut before after
+IsUnanswered message before after BadAnswer = Appends before.written after.written message × IsBad before.inward after.inward
+IsUnanswered message before after Memory = ⊤
+IsUnanswered message before after other = ⊥

@@ -1,9 +1,10 @@
 -- How publishing went on, connection by connection.
 use Rattle.std.specs.Prelude.{◌≡◌, ◌⊎◌, ◌<◌, ◌+◌, ℕ, Bool, true, false, List, Option, Some, None}
 use Rattle.ll_push.specs.Exchanges.{LinkValue}
-use Rattle.ll_push.specs.Publishing.{PublisherValue, IsStep}
+use Rattle.ll_push.specs.Publishing.{HasFailed, PublisherValue, IsStep}
 use Rattle.ll_push.specs.declared.connections.Ending.{Ending}
 use Rattle.ll_push.specs.declared.connections.Ending.TheVariants as ending
+use Rattle.ll_push.specs.declared.fault.PushFault.{PushFault}
 use Rattle.ll_push.specs.declared.publisher.Step.{Step}
 use Rattle.ll_push.specs.declared.publisher.Step.TheVariants as step
 
@@ -47,6 +48,20 @@ pub record HasEnded {S P : Type 0} (gives : S → Option P → S → Type 0) (va
   pub then : PublisherValue
   pub link_then : P
   pub is_step : IsStep publisher rest (value link) then left (value link_then) last
+
+-- After such connections the source gave one on which a message has no answer, for this reason.
+pub record HasBroken {S P : Type 0} (gives : S → Option P → S → Type 0) (value : P → LinkValue) (start : PublisherValue) (input : List ℕ) (origin : S)
+    (after : S) (fault : PushFault) : Type 0 where
+  pub publisher : PublisherValue
+  pub rest : List ℕ
+  pub before : S
+  pub idle : ℕ
+  pub went : HasGoneOn gives value start input origin publisher rest before idle
+  pub few : idle < most_idle
+  pub link : P
+  pub given : gives before (Some link) after
+  pub link_then : P
+  pub failed : HasFailed publisher rest (value link) (value link_then) fault
 
 -- After such connections the source gave none, or too many in a row had nothing accepted.
 pub record HasGivenUp {S P : Type 0} (gives : S → Option P → S → Type 0) (value : P → LinkValue) (start : PublisherValue) (input : List ℕ) (origin : S)

@@ -4,8 +4,9 @@ use Rattle.std.specs.List.{concat}
 use Rattle.ll_mp4.specs.declared.fault.Fault.{Fault}
 use Rattle.ll_mp4.specs.declared.fault.Fault.TheVariants as input
 use Rattle.ll_push.specs.Answers.{refuses}
-use Rattle.ll_push.specs.Exchanges.{AreExchanged, IsExchanged, IsGone, LinkValue}
+use Rattle.ll_push.specs.Exchanges.{AreExchanged, IsExchanged, IsGone, IsUnanswered, LinkValue}
 use Rattle.ll_push.specs.Messages.{MessageValue, Names, end_text, piece_texts}
+use Rattle.ll_push.specs.declared.fault.PushFault.{PushFault}
 use Rattle.ll_push.specs.declared.publisher.Step.{Step}
 use Rattle.ll_push.specs.declared.publisher.Step.TheVariants.{Whole, Refused, Gone}
 use Rattle.ll_push.specs.declared.watch.Said.{Said}
@@ -86,6 +87,16 @@ pub record HasRefused (before : PublisherValue) (input : List ℕ) (first last :
   pub exchanged : AreExchanged sent first mid
   pub last_one : IsExchanged message line mid last
   pub refuses : refuses line ≡ true
+
+-- Some messages were sent and accepted, and then one has no answer, for this reason.
+pub record HasFailed (before : PublisherValue) (input : List ℕ) (first last : LinkValue) (fault : PushFault) : Type 0 where
+  pub sent : List (List ℕ)
+  pub message : List ℕ
+  pub later : List (List ℕ)
+  pub all : messages_to_come before input ≡ sent ++ message ∷ later
+  pub mid : LinkValue
+  pub exchanged : AreExchanged sent first mid
+  pub why : IsUnanswered message mid last fault
 
 -- What one connection comes to. All messages were sent on it and accepted, and no fault ends them; or those before one that is refused; or those before one of
 -- which nothing was taken.

@@ -1,11 +1,14 @@
 //! An encoder's bytes, published on as many connections as it takes.
 ghost use Rattle.std.specs.Prelude.{◌≡◌, ◌<◌, ℕ, List, Some, IfOk, IsErrOf, OnOk};
 ghost use Rattle.ll_push.specs.Answers.{EndsByAnswer};
+ghost use Rattle.ll_mp4.specs.declared.fault.Fault.{Fault};
 ghost use Rattle.ll_push.specs.Exchanges.{link_value};
+ghost use Rattle.ll_push.specs.Faults.{IsOfLink};
 ghost use Rattle.ll_push.specs.History as spec;
-ghost use Rattle.ll_push.specs.History.{HasEnded, HasGivenUp, most_idle, step_of};
+ghost use Rattle.ll_push.specs.History.{HasBroken, HasEnded, HasGivenUp, most_idle, step_of};
 ghost use Rattle.ll_push.specs.Meaning.{named};
-ghost use Rattle.ll_push.specs.Publishing.{at_start};
+ghost use Rattle.ll_push.specs.declared.fault.PushFault.{PushFault};
+ghost use Rattle.ll_push.specs.Publishing.{IsFirstFault, PublisherValue, at_start};
 
 use crate::fault::PushFault;
 use crate::place::Place;
@@ -43,6 +46,10 @@ pub fn push<R: Reader, S: Source, W: Watch>(
         → IfOk result (λ ending. HasEnded S.next_gives (link_value S.Peer.written S.Peer.inward S.Peer.failures) (at_start (named place.entry) pace) input origin.old (R.left source.new) origin.new (step_of ending)) }
     ensures gave_up { (input : List ℕ) → R.left source.old ≡ Some input → IsErrOf result PushFault.Connect
         → HasGivenUp S.next_gives (link_value S.Peer.written S.Peer.inward S.Peer.failures) (at_start (named place.entry) pace) input origin.old (R.left source.new) origin.new }
+    ensures unanswered { (input : List ℕ) (fault : PushFault) → R.left source.old ≡ Some input → IsErrOf result fault → IsOfLink fault
+        → HasBroken S.next_gives (link_value S.Peer.written S.Peer.inward S.Peer.failures) (at_start (named place.entry) pace) input origin.old origin.new fault }
+    ensures refused { (input : List ℕ) (fault : Fault) → R.left source.old ≡ Some input → IsErrOf result (PushFault.Input fault)
+        → (then : PublisherValue) × IsFirstFault (at_start (named place.entry) pace) input then fault }
     ensures read_failed { IsErrOf result PushFault.Read → R.failures source.old < R.failures source.new }
     ensures steady { OnOk result (R.failures source.new ≡ R.failures source.old) }
 {

@@ -3,12 +3,14 @@ ghost use Rattle.std.specs.Prelude.{◌≡◌, ◌≢◌, ◌<◌, ℕ, List, So
 ghost use Rattle.std.specs.Io.KnownBytes.{Appends};
 ghost use Rattle.ll_device.specs.Written.{AppendsPrefix};
 ghost use Rattle.ll_mp4.specs.declared.fault.Fault.{Fault};
+ghost use Rattle.ll_push.specs.declared.fault.PushFault.{PushFault};
 ghost use Rattle.ll_push.specs.Answers.{StepsByAnswer};
-ghost use Rattle.ll_push.specs.Exchanges.{IsGone, link_value};
+ghost use Rattle.ll_push.specs.Exchanges.{IsGone, IsUnanswered, link_value};
+ghost use Rattle.ll_push.specs.Faults.{IsOfLink, IsOfSource};
 ghost use Rattle.ll_push.specs.Messages as spec;
 ghost use Rattle.ll_push.specs.Meaning.{named};
 ghost use Rattle.ll_push.specs.Next.{FrontGives, IsEndFault, IsFaultNext, IsFed, IsFrontFault, IsNext, IsOwn, IsSent, IsTaken, is_refusal};
-ghost use Rattle.ll_push.specs.Publishing.{IsFirstFault, IsStep, at_start, text_to_come};
+ghost use Rattle.ll_push.specs.Publishing.{HasFailed, IsFirstFault, IsStep, at_start, text_to_come};
 
 use crate::answer::{Answer, read_answer};
 use crate::fault::PushFault;
@@ -92,6 +94,8 @@ impl<'a> Publisher<'a> {
         ensures refused { (input : List ℕ) (fault : Fault) → R.left source.old ≡ Some input → IsErrOf result (PushFault.Input fault) → IsFirstFault self.old input self.new fault }
         ensures read_failed { IsErrOf result PushFault.Read → R.failures source.old < R.failures source.new }
         ensures steady { OnOk result (R.failures source.new ≡ R.failures source.old) }
+        ensures unanswered { (input : List ℕ) (fault : PushFault) → R.left source.old ≡ Some input → IsErrOf result fault → IsOfLink fault
+            → HasFailed self.old input (link_value P.written P.inward P.failures link.old) (link_value P.written P.inward P.failures link.new) fault }
         ensures told { IfOk result StepsByAnswer }
         ensures connected { IfErr result (λ fault. fault ≢ PushFault.Connect) }
     {
@@ -121,7 +125,7 @@ impl<'a> Publisher<'a> {
         ensures refused { (input : List ℕ) (fault : Fault) → R.left source.old ≡ Some input → IsErrOf result (PushFault.Input fault) → IsFirstFault self.old input self.new fault }
         ensures read_failed { IsErrOf result PushFault.Read → R.failures source.old < R.failures source.new }
         ensures steady { OnOk result (R.failures source.new ≡ R.failures source.old) }
-        ensures connected { IfErr result (λ fault. fault ≢ PushFault.Connect) }
+        ensures own { IfErr result IsOfSource }
     {
         match self.unsent.take() {
             Some(message) => Ok(message),
@@ -141,7 +145,7 @@ fn next_message<R: Reader>(
     ensures refused { (input : List ℕ) (fault : Fault) → R.left source.old ≡ Some input → IsErrOf result (PushFault.Input fault) → IsFaultNext splitter.old input splitter.new fault }
     ensures read_failed { IsErrOf result PushFault.Read → R.failures source.old < R.failures source.new }
     ensures steady { OnOk result (R.failures source.new ≡ R.failures source.old) }
-    ensures connected { IfErr result (λ fault. fault ≢ PushFault.Connect) }
+    ensures own { IfErr result IsOfSource }
 {
     for _ in 0..u64::MAX {
         if let Some(message) = front_message(alloc, place, splitter)? {
@@ -207,6 +211,7 @@ fn exchange<P: Link>(
     ensures sent { IfOk result (IsSent (link_value P.written P.inward P.failures link.old) (link_value P.written P.inward P.failures link.new) message) }
     ensures cut { OnErr result (AppendsPrefix (P.written link.old) (P.written link.new) message.bytes) }
     ensures refused { IfOk result (λ sent. refused.new ≡ is_refusal sent) }
+    ensures unanswered { IfErr result (IsUnanswered message.bytes (link_value P.written P.inward P.failures link.old) (link_value P.written P.inward P.failures link.new)) }
     ensures own { IfErr result IsOwn }
 {
     if !send(link, message.bytes())? {

@@ -1,9 +1,11 @@
 -- Each connection goes on where the last one ended.
-use Rattle.std.proofs.Common.{◌∙◌, refl, rules}
+use Rattle.std.proofs.Common.{◌∙◌, Err, ap, refl, rules}
 use Rattle.ll_push.specs.Exchanges.{link_value}
 use Rattle.ll_push.specs.Meaning.{named}
 use Rattle.ll_push.specs.Publishing.{at_start}
-use Rattle.ll_push.proofs.HistoryLemmas.{ended-by, few-by, gave-none, gave-up, then-gone, went-first}
+use Rattle.ll_push.proofs.HistoryLemmas.{broken-by, ended-by, few-by, first-of, gave-none, gave-up, then-gone, went-first}
+use Rattle.ll_push.proofs.StepLemmas.{same-fault}
+use Rattle.ll_push.specs.declared.fault.PushFault.TheVariants.{Input}
 use Rattle.ll_push.proofs.connections.push.Goals as goal
 
 pub loop-init : goal.loop-init
@@ -15,6 +17,20 @@ loop-init g c = record {
 
 pub returns-in_default-clause-gave_up : goal.returns-in_default-clause-gave_up
 returns-in_default-clause-gave_up g c input l e = gave-none _ _ _ _ _ _ _ _ _ (c.loop.invariant.went input l) c.loop.invariant.few _ c.in_default.ensures
+
+pub returns-in_err-publish_on-clause-unanswered : goal.returns-in_err-publish_on-clause-unanswered
+returns-in_err-publish_on-clause-unanswered g c input fault l e of =
+    broken-by _ _ _ _ _ _ _ _ _ (c.loop.invariant.went input l) c.loop.invariant.few _ _ _ c.in-Some.ensures fault
+    (λ rest left. c.in_err-publish_on.ensures.unanswered rest fault left
+    (ap (λ f. Err f) (same-fault c.from_residual.result c.in_err-publish_on.field-0.0 fault c.from_residual.ensures.1 e)) of)
+
+pub returns-in_err-publish_on-clause-refused : goal.returns-in_err-publish_on-clause-refused
+returns-in_err-publish_on-clause-refused g c input fault l e = (
+  c.publish_on.new.self,
+  first-of _ _ _ _ _ _ _ _ _ (c.loop.invariant.went input l) c.publish_on.new.self fault
+      (λ rest left. c.in_err-publish_on.ensures.refused rest fault left
+      (ap (λ f. Err f) (same-fault c.from_residual.result c.in_err-publish_on.field-0.0 (Input fault) c.from_residual.ensures.1 e))),
+)
 
 pub returns-in-Whole-clause-went : goal.returns-in-Whole-clause-went
 returns-in-Whole-clause-went g c input l =

@@ -1,11 +1,12 @@
 -- Each message adds to those that were sent.
 use Rattle.std.proofs.Common.{◌∙◌, Err, Some, ap, refl, subst, sym}
 use Rattle.ll_push.specs.Exchanges.{link_value}
+use Rattle.ll_push.specs.Faults.{IsOfSource}
 use Rattle.ll_push.specs.Messages.{ends}
-use Rattle.ll_push.specs.Publishing.{HasGone, PublisherValue}
+use Rattle.ll_push.specs.Publishing.{HasFailed, HasGone, PublisherValue}
 use Rattle.ll_push.specs.declared.fault.PushFault.TheVariants.{Input}
 use Rattle.ll_push.specs.declared.publisher.Sent.TheVariants.{Answered}
-use Rattle.ll_push.proofs.StepLemmas.{calm-of, first-fault, goes-first, message-cut, message-kept, message-last, message-more, message-refused, on-err, said-of, same-fault, some-sent, unsent-of}
+use Rattle.ll_push.proofs.StepLemmas.{apart, calm-of, first-fault, goes-first, message-cut, message-failed, message-kept, message-last, message-more, message-refused, on-err, own-fault, said-of, same-fault, some-sent, unsent-of}
 use Rattle.ll_push.proofs.publisher.Publisher.publish_on.Goals as goal
 
 pub loop-init : goal.loop-init
@@ -29,6 +30,17 @@ returns-in_err-exchange-clause-cut g c input l =
     on-err c.from_residual-in_err-exchange.result _
     (message-cut _ _ _ _ _ _ _ (c.loop.invariant.goes input l) c.message.new.self (g.R.Reader.left c.message.new.source) c.in_ok-message.message
     c.in_ok-message.ensures.next (link_value g.P.Writer.written g.P.Writer.inward g.P.Writer.failures c.exchange.new.link) c.in_err-exchange.ensures.cut)
+
+pub returns-in_err-message-clause-unanswered : goal.returns-in_err-message-clause-unanswered
+returns-in_err-message-clause-unanswered g c input fault l e of =
+    apart fault (own-fault c.from_residual.result c.in_err-message.field-0.0 fault IsOfSource c.from_residual.ensures.1 e c.in_err-message.ensures.own) of
+
+pub returns-in_err-exchange-clause-unanswered : goal.returns-in_err-exchange-clause-unanswered
+returns-in_err-exchange-clause-unanswered g c input fault l e of =
+    own-fault c.from_residual-in_err-exchange.result c.in_err-exchange.field-0.0 fault (λ f. HasFailed c.args.self.now input
+    (link_value g.P.Writer.written g.P.Writer.inward g.P.Writer.failures c.args.link.now) (link_value g.P.Writer.written g.P.Writer.inward g.P.Writer.failures c.exchange.new.link) f)
+    c.from_residual-in_err-exchange.ensures.1 e (message-failed _ _ _ _ _ _ _ (c.loop.invariant.goes input l) c.message.new.self (g.R.Reader.left c.message.new.source) c.in_ok-message.message
+    c.in_ok-message.ensures.next (link_value g.P.Writer.written g.P.Writer.inward g.P.Writer.failures c.exchange.new.link) c.in_err-exchange.field-0.0 c.in_err-exchange.ensures.unanswered)
 
 pub returns-in-Answered-Refused-clause-step : goal.returns-in-Answered-Refused-clause-step
 returns-in-Answered-Refused-clause-step g c input l =
