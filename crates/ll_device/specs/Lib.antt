@@ -1,3 +1,4 @@
 pub mod Counts
 pub mod Inward
+pub mod Tries
 pub mod Written

@@ -10,6 +10,7 @@ mod door;
 mod peer;
 mod rest;
 mod socket;
+mod stream;
 
 pub use counted::{CountedReader, CountedWriter};
 pub use counted_link::CountedLink;

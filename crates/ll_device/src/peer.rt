@@ -1,4 +1,4 @@
-ghost use Rattle.std.specs.Prelude.{◌≡◌, ◌<◌, ◌≤◌, ◌++◌, [], IfOk, IfSome, None, OnErr, OnOk, false, length, take, true};
+ghost use Rattle.std.specs.Prelude.{◌≡◌, ◌<◌, ◌≤◌, ◌++◌, [], IfOk, IfSome, None, OnErr, OnOk, Option, false, length, take, true, ⊤};
 ghost use Rattle.std.specs.Io.KnownBytes.{Appends, Keeps};
 ghost use Rattle.ll_device.specs.Inward.{looked_at};
 
@@ -89,6 +89,10 @@ pub trait Source {
     /// A connection.
     type Peer: Link + Send;
 
+    /// Which connection may come next, and what the source is then, where it tells that.
+    ghost next_gives: { Self → Option Self.Peer → Self → Type 0 } = { λ _ _ _. ⊤ };
+
     /// The next connection; nothing, where no more come.
-    fn next(&mut self) -> Option<Self::Peer>;
+    fn next(&mut self) -> Option<Self::Peer>
+        ensures { next_gives self.old result self.new };
 }

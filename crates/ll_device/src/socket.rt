@@ -1,12 +1,14 @@
 //! The connections of a machine.
-ghost use Rattle.std.specs.Prelude.{◌≡◌, ◌≤◌, ◌++◌, [], IfOk, IfSome, Ok, false, is_err, length, true};
+ghost use Rattle.std.specs.Prelude.{◌≡◌, is_err};
 
 use crate::device::{Failed, Writer};
 use crate::peer::{Link, TryLink};
-use libc::net::{POLLIN, POLLOUT, POLLRDHUP};
+use crate::stream;
+use crate::stream::Stream;
+use libc::net::POLLRDHUP;
 use libc::types::pollfd;
 use std::io;
-use std::io::{ErrorKind, IoSlice, Read, Write};
+use std::io::IoSlice;
 use std::net::TcpStream;
 use std::os::fd::{AsRawFd, RawFd};
 
@@ -16,7 +18,8 @@ const LIMIT: i32 = 30_000;
 /// Waits without end.
 const ENDLESS: i32 = -1;
 
-/// A connection. Once a read or a write has failed, it gives no more bytes and takes all without sending them.
+/// A connection. Once a read or a write has failed, it gives no more bytes and takes all without sending them. std tells no bytes of a `TcpStream`, so it tells none;
+/// the functions of `stream.rt`, by which it reads and writes, say what they do to the bytes of any stream.
 #[derive(Drop)]
 pub struct Socket {
     stream: TcpStream,
@@ -46,75 +49,29 @@ impl Socket {
         }
     }
 
-    /// Whether the system tells one of these events of it within so many milliseconds.
+    /// Returns what a use of its stream did, and keeps whether that failed.
+    fn used<T>(&mut self, call: Result<T, Failed>) -> Result<T, Failed>
+        ensures value { result ≡ call }
+        ensures failed { self.new.failed ≡ is_err call }
+    {
+        self.failed = call.is_err();
+        call
+    }
+}
+
+impl Stream for TcpStream {
+    fn write_both(&mut self, first: &[u8], second: &[u8]) -> io::Result<usize> {
+        let both = [IoSlice::new(first), IoSlice::new(second)];
+        self.write_vectored(&both)
+    }
+
     fn is_told(&self, events: i16, limit: i32) -> bool {
         let mut asked = [pollfd {
-            fd: self.stream.as_raw_fd(),
+            fd: self.as_raw_fd(),
             events,
             revents: 0,
         }];
         libc::net::poll(&mut asked, limit) > 0
-    }
-
-    /// A read; nothing, where it would have to wait.
-    fn receive(&mut self, buf: &mut [u8]) -> Result<Option<usize>, Failed>
-        requires { self.old.failed ≡ false }
-        ensures count { IfOk result (λ done. IfSome done (λ n. n ≤ length buf.new)) }
-        ensures failed { self.new.failed ≡ is_err result }
-    {
-        let mut stream = &self.stream;
-        let call = stream.read(buf);
-        self.done(call)
-    }
-
-    /// A write; nothing, where it would have to wait.
-    fn send(&mut self, text: &[u8]) -> Result<Option<usize>, Failed>
-        requires { self.old.failed ≡ false }
-        ensures count { IfOk result (λ done. IfSome done (λ n. n ≤ length text.now)) }
-        ensures some { IfOk result (λ done. IfSome done (λ n. n ≡ 0 → text.now ≡ [])) }
-        ensures failed { self.new.failed ≡ is_err result }
-    {
-        let mut stream = &self.stream;
-        match stream.write(text) {
-            Ok(0) if !text.is_empty() => self.fail(),
-            call => self.done(call),
-        }
-    }
-
-    /// A write of two texts, by one call of the system; nothing, where it would have to wait.
-    fn send_two(&mut self, first: &[u8], second: &[u8]) -> Result<Option<usize>, Failed>
-        requires { self.old.failed ≡ false }
-        ensures count { IfOk result (λ done. IfSome done (λ n. n ≤ length (first.now ++ second.now))) }
-        ensures some { IfOk result (λ done. IfSome done (λ n. n ≡ 0 → first.now ++ second.now ≡ [])) }
-        ensures failed { self.new.failed ≡ is_err result }
-    {
-        let both = [IoSlice::new(first), IoSlice::new(second)];
-        match self.stream.write_vectored(&both) {
-            Ok(0) if !(first.is_empty() && second.is_empty()) => self.fail(),
-            call => self.done(call),
-        }
-    }
-
-    /// What a call of the system comes to; nothing, where it would have to wait.
-    fn done(&mut self, call: io::Result<usize>) -> Result<Option<usize>, Failed>
-        requires { self.old.failed ≡ false }
-        ensures count { IfOk result (λ done. IfSome done (λ n. call ≡ Ok n)) }
-        ensures failed { self.new.failed ≡ is_err result }
-    {
-        match call {
-            Ok(count) => Ok(Some(count)),
-            Err(error) if error.kind() == ErrorKind::WouldBlock => Ok(None),
-            Err(_) => self.fail(),
-        }
-    }
-
-    /// It has failed.
-    fn fail<T>(&mut self) -> Result<T, Failed>
-        ensures failed { self.new.failed ≡ true }
-        ensures err { is_err result ≡ true }
-    {
-        self.failed = true;
-        Err(Failed)
     }
 }
 
@@ -129,30 +86,16 @@ impl Writer for Socket {
         if self.failed {
             return Ok(text.len());
         }
-        for _ in 0..u64::MAX {
-            if let Some(count) = self.send(text)? {
-                return Ok(count);
-            }
-            if !self.is_told(POLLOUT, LIMIT) {
-                break;
-            }
-        }
-        self.fail()
+        let call = stream::write(&mut self.stream, text, LIMIT);
+        self.used(call)
     }
 
     fn write_two(&mut self, first: &[u8], second: &[u8]) -> Result<usize, Failed> {
         if self.failed {
             return Ok(first.len() + second.len());
         }
-        for _ in 0..u64::MAX {
-            if let Some(count) = self.send_two(first, second)? {
-                return Ok(count);
-            }
-            if !self.is_told(POLLOUT, LIMIT) {
-                break;
-            }
-        }
-        self.fail()
+        let call = stream::write_two(&mut self.stream, first, second, LIMIT);
+        self.used(call)
     }
 }
 
@@ -161,20 +104,13 @@ impl Link for Socket {
         if self.failed {
             return Ok(0);
         }
-        for _ in 0..u64::MAX {
-            if !self.is_told(POLLIN, self.patience) {
-                break;
-            }
-            if let Some(count) = self.receive(buf)? {
-                return Ok(count);
-            }
-        }
-        self.fail()
+        let call = stream::read(&mut self.stream, buf, self.patience);
+        self.used(call)
     }
 
     /// Whether the peer has ended what it sends, also where bytes that it sent before weren't read, or the connection is broken.
     fn gone(&mut self) -> bool {
-        self.failed || self.is_told(POLLRDHUP, 0)
+        self.failed || self.stream.is_told(POLLRDHUP, 0)
     }
 }
 
@@ -187,20 +123,23 @@ impl TryLink for Socket {
         if self.failed {
             return Ok(Some(0));
         }
-        self.receive(buf)
+        let call = stream::receive(&mut self.stream, buf);
+        self.used(call)
     }
 
     fn try_write(&mut self, text: &[u8]) -> Result<Option<usize>, Failed> {
         if self.failed {
             return Ok(Some(text.len()));
         }
-        self.send(text)
+        let call = stream::send(&mut self.stream, text);
+        self.used(call)
     }
 
     fn try_write_two(&mut self, first: &[u8], second: &[u8]) -> Result<Option<usize>, Failed> {
         if self.failed {
             return Ok(Some(first.len() + second.len()));
         }
-        self.send_two(first, second)
+        let call = stream::send_two(&mut self.stream, first, second);
+        self.used(call)
     }
 }

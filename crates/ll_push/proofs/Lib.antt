@@ -1,3 +1,6 @@
 mod AnswerLemmas
+mod HistoryLemmas
+mod LineLemmas
 mod NextLemmas
+mod ReadLemmas
 mod StepLemmas

@@ -1,9 +1,9 @@
 -- The next message of an encoder's bytes.
-use Rattle.std.proofs.Common.{◌≡◌, ℕ, true, Bool, List, [], ◌∷◌, ◌++◌, Option, Some, None, Result, Ok, Err, IsOk, refl, ap, sym, subst, ◌∙◌, inl, append_assoc, take}
+use Rattle.std.proofs.Common.{◌≡◌, ℕ, true, Bool, List, [], ◌∷◌, Option, Some, None, Result, Ok, Err, IsOk, refl, ap, sym, subst, ◌∙◌, inl, append_assoc, take}
 use Rattle.std.specs.Io.KnownBytes.{Consumes}
 use Rattle.ll_mp4.specs.Units.{Unit, Open, Refused, Closed, unit_of}
 use Rattle.ll_mp4.specs.declared.fault.Fault.{Fault}
-use Rattle.ll_push.specs.Messages.{MessageValue, Names, end_text, piece_message, piece_text, pieces_text}
+use Rattle.ll_push.specs.Messages.{MessageValue, Names, piece_message, piece_text}
 use Rattle.ll_push.specs.Next.{FrontGives, IsFaultNext, IsFed, IsFirst, IsFrontFault, IsNext, message_in}
 use Rattle.ll_push.specs.declared.fault.PushFault.{PushFault}
 use Rattle.ll_push.specs.declared.fault.PushFault.TheVariants.{Input}
@@ -78,11 +78,7 @@ fault-piece names (Init bytes) later = refl
 fault-piece names (Media part) later = refl
 
 first-piece : (names : Names) (piece : Piece) (later : Told) → IsFirst names (after_given (piece ∷ []) later) later (piece_message names piece)
-first-piece names piece later = (
-  append_assoc (piece_text names piece) (pieces_text names later.pieces) (end_text names)
-      ∙ ap (λ l. piece_text names piece ++ l) (sym (after-piece names piece later)),
-  sym (fault-piece names piece later),
-)
+first-piece names piece later = (ap (λ l. piece_text names piece ∷ l) (sym (after-piece names piece later)), sym (fault-piece names piece later))
 
 piece-by : (names : Names) (r : Result (Option Piece) Fault) (after : SplitterValue) (rest : List ℕ) (message : MessageValue) → IsOk r
     → Some message ≡ message_in names r → IsFirst names (given_then rest (r, after)) (told_in (with_bytes after rest)) message

@@ -1,5 +1,5 @@
 -- What a line of an origin says, without its end.
-use Rattle.std.specs.Prelude.{◌≡◌, ⊤, ℕ, ◌&&◌, ◌==◌, Bool, true, false, List, Option, Some, None, codes, is_some, length, nat_le, if◌then◌else◌}
+use Rattle.std.specs.Prelude.{◌≡◌, ◌⊎◌, ⊤, ℕ, ◌&&◌, ◌==◌, Bool, true, false, List, [], ◌∷◌, ◌++◌, IsUtf8, Option, Some, None, codes, flat_map, is_some, length, nat_le, if◌then◌else◌}
 use Rattle.std.specs.List.{list_all, list_any, before_first, after_first}
 use Rattle.std.specs.Char.{is_ascii_alphabetic}
 use Rattle.ll_attr.specs.Numbers.{number_in}
@@ -8,6 +8,8 @@ use Rattle.ll_push.specs.declared.answer.Answer.{Answer}
 use Rattle.ll_push.specs.declared.answer.Answer.TheVariants.{Accepted, Refused}
 use Rattle.ll_push.specs.declared.connections.Ending.{Ending}
 use Rattle.ll_push.specs.declared.connections.Ending.TheVariants as ending
+use Rattle.ll_push.specs.declared.fault.PushFault.{PushFault}
+use Rattle.ll_push.specs.declared.fault.PushFault.TheVariants.{BadAnswer, Memory}
 use Rattle.ll_push.specs.declared.publisher.Step.{Step}
 use Rattle.ll_push.specs.declared.publisher.Step.TheVariants as step
 
@@ -46,10 +48,28 @@ gives None = false
 abbrev pub refuses : List ℕ → Bool
 refuses line = gives (after (codes "no ") line)
 
--- an answer that refuses is such a line
-abbrev pub IsAnswer : Answer → Type 0
-IsAnswer Accepted = ⊤
-IsAnswer (Refused line) = refuses line ≡ true
+-- it says neither, or is no text
+abbrev pub IsNone : List ℕ → Type 0
+IsNone line = ¬ (IsUtf8 line) ⊎ ((accepts line ≡ false) × (refuses line ≡ false))
+
+-- an answer is what its line says; one that refuses is the line itself
+abbrev pub IsSaid : List ℕ → Answer → Type 0
+IsSaid line Accepted = accepts line ≡ true
+IsSaid line (Refused text) = (text ≡ line) × (refuses line ≡ true)
+
+-- why a line gives no answer: it says nothing, or no memory was found for one that refuses
+abbrev pub IsUnsaid : List ℕ → PushFault → Type 0
+IsUnsaid line BadAnswer = IsNone line
+IsUnsaid line Memory = refuses line ≡ true
+IsUnsaid line other = ⊥
+
+-- a line with its end
+abbrev pub ended : List ℕ → List ℕ
+ended line = line ++ 10 ∷ []
+
+-- lines one after another, each with its end
+abbrev pub lines_text : List (List ℕ) → List ℕ
+lines_text lines = flat_map ended lines
 
 abbrev pub EndsByAnswer : Ending → Type 0
 EndsByAnswer ending.Whole = ⊤

@@ -1,10 +1,25 @@
 -- Why an encoder's bytes aren't published.
+use Rattle.std.specs.Prelude.{⊤}
 use Rattle.ll_mp4.specs.declared.fault.Fault.{Fault}
 use Rattle.ll_mp4.specs.declared.fault.Fault.TheVariants as input
 use Rattle.ll_push.specs.declared.fault.PushFault.{PushFault}
-use Rattle.ll_push.specs.declared.fault.PushFault.TheVariants.{Input, Memory}
+use Rattle.ll_push.specs.declared.fault.PushFault.TheVariants.{Input, Read, Lost, BadAnswer, Memory, Endless}
 
 -- the fault of an encoder's bytes; out of memory is told as such
 abbrev pub of_input : Fault → PushFault
 of_input input.Memory = Memory
 of_input other = Input other
+
+-- a fault of a connection
+abbrev pub IsOfLink : PushFault → Type 0
+IsOfLink Lost = ⊤
+IsOfLink BadAnswer = ⊤
+IsOfLink other = ⊥
+
+-- a fault of the encoder's bytes, of their reading, or of memory
+abbrev pub IsOfSource : PushFault → Type 0
+IsOfSource (Input fault) = ⊤
+IsOfSource Read = ⊤
+IsOfSource Memory = ⊤
+IsOfSource Endless = ⊤
+IsOfSource other = ⊥

@@ -1,5 +1,7 @@
 pub mod Answers
+pub mod Exchanges
 pub mod Faults
+pub mod History
 pub mod Laws
 pub mod Meaning
 pub mod Messages

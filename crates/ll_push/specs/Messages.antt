@@ -1,5 +1,5 @@
 -- What an origin is sent: a line for each piece, which its bytes and LF follow, and a line for the end.
-use Rattle.std.specs.Prelude.{ℕ, Bool, true, false, List, [], ◌∷◌, ◌++◌, codes, decimal, length}
+use Rattle.std.specs.Prelude.{ℕ, Bool, true, false, List, [], ◌∷◌, ◌++◌, codes, decimal, length, map}
 use Rattle.ll_push.specs.declared.watch.Said.{Said}
 use Rattle.ll_push.specs.declared.watch.Said.TheVariants as said
 use Rattle.ll_mp4.specs.Pieces.{Piece, Init, Media}
@@ -44,9 +44,9 @@ abbrev pub piece_text : Names → Piece → List ℕ
 piece_text names (Init bytes) = followed (init_line names (size bytes)) bytes
 piece_text names (Media part) = followed (part_line names part.duration (flags part.independent part.finishes) (size part.bytes)) part.bytes
 
-abbrev pub pieces_text : Names → List Piece → List ℕ
-pieces_text names [] = []
-pieces_text names (piece ∷ pieces) = piece_text names piece ++ pieces_text names pieces
+-- one after another
+abbrev pub piece_texts : Names → List Piece → List (List ℕ)
+piece_texts names pieces = map (piece_text names) pieces
 
 abbrev pub end_text : Names → List ℕ
 end_text names = end_line names

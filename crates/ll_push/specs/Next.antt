@@ -1,10 +1,11 @@
 -- For private contracts: the next message, and what became of one.
-use Rattle.std.specs.Prelude.{◌≡◌, ◌⊎◌, ℕ, List, ◌++◌, Bool, true, false, Option, Some, None, Result, Ok, Err, IsOk, ⊤}
-use Rattle.std.specs.Io.KnownBytes.{Appends, Consumes, IsAtEnd, Keeps}
+use Rattle.std.specs.Prelude.{◌≡◌, ◌⊎◌, ℕ, List, ◌∷◌, Bool, true, false, Option, Some, None, Result, Ok, Err, IsOk, ⊤}
+use Rattle.std.specs.Io.KnownBytes.{Consumes, IsAtEnd, Keeps}
 use Rattle.ll_mp4.specs.declared.fault.Fault.{Fault}
-use Rattle.ll_push.specs.Answers.{IsAnswer}
+use Rattle.ll_push.specs.Answers.{IsSaid}
+use Rattle.ll_push.specs.Exchanges.{IsExchanged, IsGone, LinkValue}
 use Rattle.ll_push.specs.Messages.{MessageValue, Names, piece_message}
-use Rattle.ll_push.specs.Publishing.{PublisherValue, after_message, ending_fault, fault_after, fault_to_come, messages, text_to_come}
+use Rattle.ll_push.specs.Publishing.{PublisherValue, after_message, ending_fault, fault_after, fault_to_come, messages, messages_to_come}
 use Rattle.ll_push.specs.declared.answer.Answer.TheVariants.{Accepted, Refused}
 use Rattle.ll_push.specs.declared.fault.PushFault.{PushFault}
 use Rattle.ll_push.specs.declared.fault.PushFault.TheVariants.{Input, Memory, Lost, BadAnswer}
@@ -16,7 +17,7 @@ use Rattle.ll_mp4.specs.Streams.{SplitterValue, Told, front, told_in, with_bytes
 -- it is the first of the messages of what is told, and the others are those of what is told later
 abbrev pub IsFirst : Names → Told → Told → MessageValue → Type 0
 IsFirst names told later message =
-    (messages names told ≡ message.bytes ++ after_message names message.said later) × (told.fault ≡ fault_after message.said later)
+    (messages names told ≡ message.bytes ∷ after_message names message.said later) × (told.fault ≡ fault_after message.said later)
 
 -- the next message where the encoder goes on with this input, of which the rest is left
 abbrev pub IsNext : Names → SplitterValue → List ℕ → SplitterValue → Option (List ℕ) → MessageValue → Type 0
@@ -50,20 +51,15 @@ abbrev pub IsFed : SplitterValue → Option (List ℕ) → SplitterValue → Opt
 IsFed before left after left_then true = (bytes : List ℕ) × Consumes left left_then bytes × (after ≡ with_bytes before bytes)
 IsFed before left after left_then false = Keeps left left_then × IsAtEnd left_then × (after ≡ before)
 
--- it was sent, or nothing was taken of it
-abbrev pub IsSent : Option (List ℕ) → Option (List ℕ) → MessageValue → Sent → Type 0
-IsSent base written message (Answered answer) = Appends base written message.bytes
-IsSent base written message (Not same) = (same ≡ message) × Keeps base written
+-- it was sent and answered, or nothing was taken of it
+abbrev pub IsSent : LinkValue → LinkValue → MessageValue → Sent → Type 0
+IsSent before after message (Answered answer) = (line : List ℕ) × IsExchanged message.bytes line before after × IsSaid line answer
+IsSent before after message (Not same) = (same ≡ message) × IsGone before after
 
 abbrev pub is_refusal : Sent → Bool
 is_refusal (Answered Accepted) = false
 is_refusal (Answered (Refused line)) = true
 is_refusal (Not message) = false
-
--- an answer that refuses is a line that does
-abbrev pub IsTold : Sent → Type 0
-IsTold (Answered answer) = IsAnswer answer
-IsTold (Not message) = ⊤
 
 -- a fault of a connection on which a message was sent, or of memory
 abbrev pub IsOwn : PushFault → Type 0
@@ -76,7 +72,7 @@ IsOwn other = ⊥
 abbrev pub IsTaken : PublisherValue → List ℕ → PublisherValue → Option (List ℕ) → MessageValue → Type 0
 IsTaken before input after left message =
     (rest : List ℕ) × (left ≡ Some rest) × (after.names ≡ before.names) × (after.unsent ≡ None)
-    × (text_to_come before input ≡ message.bytes ++ after_message before.names message.said (told_in (with_bytes after.splitter rest)))
+    × (messages_to_come before input ≡ message.bytes ∷ after_message before.names message.said (told_in (with_bytes after.splitter rest)))
     × (fault_to_come before input ≡ fault_after message.said (told_in (with_bytes after.splitter rest)))
 
 -- it is that of where the bytes end, or memory's

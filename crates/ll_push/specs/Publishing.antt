@@ -1,10 +1,12 @@
 -- What is still to be sent of an encoder's bytes.
-use Rattle.std.specs.Prelude.{◌≡◌, ◌⊎◌, ℕ, Bool, true, false, List, [], ◌++◌, Option, Some, None, is_some}
-use Rattle.std.specs.Io.KnownBytes.{Appends}
-use Rattle.ll_device.specs.Written.{AppendsPrefix}
+use Rattle.std.specs.Prelude.{◌≡◌, ◌⊎◌, ℕ, Bool, true, false, List, [], ◌∷◌, ◌++◌, Option, Some, None, is_some, length, nat_le}
+use Rattle.std.specs.List.{concat}
 use Rattle.ll_mp4.specs.declared.fault.Fault.{Fault}
 use Rattle.ll_mp4.specs.declared.fault.Fault.TheVariants as input
-use Rattle.ll_push.specs.Messages.{MessageValue, Names, end_text, pieces_text}
+use Rattle.ll_push.specs.Answers.{refuses}
+use Rattle.ll_push.specs.Exchanges.{AreExchanged, IsExchanged, IsGone, IsUnanswered, LinkValue}
+use Rattle.ll_push.specs.Messages.{MessageValue, Names, end_text, piece_texts}
+use Rattle.ll_push.specs.declared.fault.PushFault.{PushFault}
 use Rattle.ll_push.specs.declared.publisher.Step.{Step}
 use Rattle.ll_push.specs.declared.publisher.Step.TheVariants.{Whole, Refused, Gone}
 use Rattle.ll_push.specs.declared.watch.Said.{Said}
@@ -13,11 +15,11 @@ use Rattle.ll_mp4.specs.Streams.{SplitterValue, Told, end_fault, fresh, told, to
 use Rattle.ll_mp4.specs.declared.pace.Pace.{Pace}
 
 -- the messages of what is told: those of its pieces, and then the end's
-abbrev pub messages : Names → Told → List ℕ
-messages names told = pieces_text names told.pieces ++ end_text names
+abbrev pub messages : Names → Told → List (List ℕ)
+messages names told = piece_texts names told.pieces ++ (end_text names ∷ [])
 
 -- the messages after one that announces this
-abbrev pub after_message : Names → Said → Told → List ℕ
+abbrev pub after_message : Names → Said → Told → List (List ℕ)
 after_message names said.End later = []
 after_message names said.Init later = messages names later
 after_message names (said.Part duration finishes) later = messages names later
@@ -39,34 +41,69 @@ pub record PublisherValue : Type 0 where
 abbrev pub at_start : Names → Pace → PublisherValue
 at_start names pace = record { names = names; splitter = fresh pace; unsent = None }
 
-abbrev pub text_by : Names → Option MessageValue → Told → List ℕ
-text_by names None later = messages names later
-text_by names (Some message) later = message.bytes ++ after_message names message.said later
+abbrev pub messages_by : Names → Option MessageValue → Told → List (List ℕ)
+messages_by names None later = messages names later
+messages_by names (Some message) later = message.bytes ∷ after_message names message.said later
 
 abbrev pub fault_by : Option MessageValue → Told → Option Fault
 fault_by None later = later.fault
 fault_by (Some message) later = fault_after message.said later
 
--- all that is still to be sent, where these bytes of the encoder are still to come
+-- the messages that are still to be sent, where these bytes of the encoder are still to come
+abbrev pub messages_to_come : PublisherValue → List ℕ → List (List ℕ)
+messages_to_come p input = messages_by p.names p.unsent (told_in (with_bytes p.splitter input))
+
+-- as one text
 abbrev pub text_to_come : PublisherValue → List ℕ → List ℕ
-text_to_come p input = text_by p.names p.unsent (told_in (with_bytes p.splitter input))
+text_to_come p input = concat (messages_to_come p input)
 
 -- the fault that ends it, where one does
 abbrev pub fault_to_come : PublisherValue → List ℕ → Option Fault
 fault_to_come p input = fault_by p.unsent (told_in (with_bytes p.splitter input))
 
--- a text was sent, and what is still to be sent is what stood after it
-abbrev pub GoesOn : PublisherValue → List ℕ → Option (List ℕ) → PublisherValue → Option (List ℕ) → Option (List ℕ) → Type 0
-GoesOn before input base after left written =
-    (text : List ℕ) × (rest : List ℕ) × (left ≡ Some rest) × (text_to_come before input ≡ text ++ text_to_come after rest)
-    × (fault_to_come before input ≡ fault_to_come after rest) × Appends base written text
+-- what is still to be sent are the messages after these
+pub record GoesOn (before : PublisherValue) (input : List ℕ) (sent : List (List ℕ)) (after : PublisherValue) (left : Option (List ℕ)) : Type 0 where
+  pub rest : List ℕ
+  pub is_left : left ≡ Some rest
+  pub messages : messages_to_come before input ≡ sent ++ messages_to_come after rest
+  pub fault : fault_to_come before input ≡ fault_to_come after rest
 
--- What one connection comes to. All messages were sent on it, no fault ends them, and each was accepted; or those up to one that is refused; or those up to one
--- of which nothing was taken, and the others are still to be sent.
-abbrev pub IsStep : PublisherValue → List ℕ → Option (List ℕ) → PublisherValue → Option (List ℕ) → Option (List ℕ) → Step → Type 0
-IsStep before input base after left written Whole = Appends base written (text_to_come before input) × (fault_to_come before input ≡ None)
-IsStep before input base after left written (Refused answer) = AppendsPrefix base written (text_to_come before input)
-IsStep before input base after left written (Gone accepted) = GoesOn before input base after left written
+-- Some messages were sent and accepted, and then one of which nothing was taken: it and those after it are still to be sent.
+pub record HasGone (before : PublisherValue) (input : List ℕ) (first : LinkValue) (after : PublisherValue) (left : Option (List ℕ)) (last : LinkValue) (accepted : Bool) : Type 0 where
+  pub sent : List (List ℕ)
+  pub goes : GoesOn before input sent after left
+  pub mid : LinkValue
+  pub exchanged : AreExchanged sent first mid
+  pub gone : IsGone mid last
+  pub some : accepted ≡ nat_le 1 (length sent)
+
+-- Some messages were sent and accepted, and then one that was answered by this line, which refuses it.
+pub record HasRefused (before : PublisherValue) (input : List ℕ) (first last : LinkValue) (line : List ℕ) : Type 0 where
+  pub sent : List (List ℕ)
+  pub message : List ℕ
+  pub later : List (List ℕ)
+  pub all : messages_to_come before input ≡ sent ++ message ∷ later
+  pub mid : LinkValue
+  pub exchanged : AreExchanged sent first mid
+  pub last_one : IsExchanged message line mid last
+  pub refuses : refuses line ≡ true
+
+-- Some messages were sent and accepted, and then one has no answer, for this reason.
+pub record HasFailed (before : PublisherValue) (input : List ℕ) (first last : LinkValue) (fault : PushFault) : Type 0 where
+  pub sent : List (List ℕ)
+  pub message : List ℕ
+  pub later : List (List ℕ)
+  pub all : messages_to_come before input ≡ sent ++ message ∷ later
+  pub mid : LinkValue
+  pub exchanged : AreExchanged sent first mid
+  pub why : IsUnanswered message mid last fault
+
+-- What one connection comes to. All messages were sent on it and accepted, and no fault ends them; or those before one that is refused; or those before one of
+-- which nothing was taken.
+abbrev pub IsStep : PublisherValue → List ℕ → LinkValue → PublisherValue → Option (List ℕ) → LinkValue → Step → Type 0
+IsStep before input first after left last Whole = AreExchanged (messages_to_come before input) first last × (fault_to_come before input ≡ None)
+IsStep before input first after left last (Refused line) = HasRefused before input first last line
+IsStep before input first after left last (Gone accepted) = HasGone before input first after left last accepted
 
 -- the fault of where the bytes end, these being left: amid a box or a part, or before an initialization section
 abbrev pub ending_by : Option Fault → Bool → Option Fault

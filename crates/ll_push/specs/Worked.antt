@@ -15,4 +15,4 @@ pieces =
 abbrev pub WorkedMessages : Type 0
 WorkedMessages =
     messages names (record { pieces = pieces; fault = None })
-    ≡ codes "cam init hi 2\n" ++ (7 ∷ 10 ∷ 10 ∷ codes "cam part hi 500000 i 1\n") ++ (8 ∷ 10 ∷ codes "cam part hi 33333 f 0\n\ncam end hi\n")
+    ≡ (codes "cam init hi 2\n" ++ (7 ∷ 10 ∷ 10 ∷ [])) ∷ (codes "cam part hi 500000 i 1\n" ++ (8 ∷ 10 ∷ [])) ∷ codes "cam part hi 33333 f 0\n\n" ∷ codes "cam end hi\n" ∷ []

@@ -1,8 +1,10 @@
 //! The lines that an origin answers.
-ghost use Rattle.std.specs.Prelude.{◌≡◌, IfErr, IfOk, MatchOption, None, Ok, Some, true};
+ghost use Rattle.std.specs.Prelude.{◌≡◌, ◌<◌, ◌≤◌, IfErr, IfOk, MatchOption, MatchResult, None, OnOk, Some, length, take};
 ghost use Rattle.std.specs.Char.{is_ascii_alphabetic};
 ghost use Rattle.std.specs.List.{list_all};
+ghost use Rattle.ll_device.specs.Inward.{looked_at};
 ghost use Rattle.ll_push.specs.Answers as spec;
+ghost use Rattle.ll_push.specs.Exchanges.{HasStopped, IsAnswered, link_value};
 ghost use Rattle.ll_push.specs.Next.{IsOwn};
 
 use crate::fault::PushFault;
@@ -23,19 +25,17 @@ pub(crate) enum Answer {
     Refused(Text),
 }
 
-/// Reads the line that answers a message. Where the connection ends before its end, it is lost.
+/// Reads the line that answers a message. Where the connection ends before its end, it is lost. Bytes that come after its end in the same read count as its own, so
+/// that it is no answer.
 pub(crate) fn read_answer<P: Link>(alloc: Global, link: &mut P) -> Result<Answer, PushFault>
-    ensures told { IfOk result spec.IsAnswer }
+    ensures read { IsAnswered (link_value P.written P.inward P.failures link.old) (link_value P.written P.inward P.failures link.new) result }
     ensures unwritten { P.written link.new ≡ P.written link.old }
     ensures own { IfErr result IsOwn }
 {
     let mut line = [0; LIMIT];
     let mut len = 0;
     while len < LIMIT {
-        match link.read(&mut line[len..]) {
-            Ok(count) if count > 0 => len += count,
-            _ => return Err(PushFault::Lost),
-        }
+        len += read_some(link, &mut line[len..])?;
         if line[len - 1] == b'\n' {
             return answer_of(alloc, &line[..len - 1]);
         }
@@ -43,10 +43,25 @@ pub(crate) fn read_answer<P: Link>(alloc: Global, link: &mut P) -> Result<Answer
     Err(PushFault::BadAnswer)
 }
 
+/// Reads some more of an answer into `buf`, and returns how many bytes came. The connection is lost if it has ended, or the read fails.
+fn read_some<P: Link>(link: &mut P, buf: &mut [u8]) -> Result<usize, PushFault>
+    requires { 0 < length buf.old }
+    ensures count { IfOk result (λ n. (0 < n) × (n ≤ length buf.new)) }
+    ensures came { IfOk result (λ n. P.inward link.new ≡ looked_at 1 0 (take n buf.new) (P.inward link.old)) }
+    ensures steady { OnOk result (P.failures link.new ≡ P.failures link.old) }
+    ensures lost { IfErr result (λ fault. (fault ≡ PushFault.Lost) × HasStopped (P.inward link.old) (P.inward link.new) (P.failures link.old) (P.failures link.new)) }
+    ensures unwritten { P.written link.new ≡ P.written link.old }
+{
+    match link.read(buf) {
+        Ok(0) => Err(PushFault::Lost),
+        Ok(count) => Ok(count),
+        Err(_) => Err(PushFault::Lost),
+    }
+}
+
 /// What a line without its end answers.
 fn answer_of(alloc: Global, line: &[u8]) -> Result<Answer, PushFault>
-    ensures told { IfOk result spec.IsAnswer }
-    ensures accepted { result ≡ Ok Answer.Accepted → spec.accepts line.now ≡ true }
+    ensures said { MatchResult result (spec.IsSaid line.now) (spec.IsUnsaid line.now) }
     ensures own { IfErr result IsOwn }
 {
     let Ok(text) = str::from_utf8(line) else {

@@ -1,6 +1,14 @@
 //! An encoder's bytes, published on as many connections as it takes.
-ghost use Rattle.std.specs.Prelude.{◌≡◌, ◌<◌, IfOk, IsErrOf, OnOk};
+ghost use Rattle.std.specs.Prelude.{◌≡◌, ◌<◌, ℕ, List, Some, IfOk, IsErrOf, OnOk};
 ghost use Rattle.ll_push.specs.Answers.{EndsByAnswer};
+ghost use Rattle.ll_mp4.specs.declared.fault.Fault.{Fault};
+ghost use Rattle.ll_push.specs.Exchanges.{link_value};
+ghost use Rattle.ll_push.specs.Faults.{IsOfLink};
+ghost use Rattle.ll_push.specs.History as spec;
+ghost use Rattle.ll_push.specs.History.{HasBroken, HasEnded, HasGivenUp, most_idle, step_of};
+ghost use Rattle.ll_push.specs.Meaning.{named};
+ghost use Rattle.ll_push.specs.declared.fault.PushFault.{PushFault};
+ghost use Rattle.ll_push.specs.Publishing.{IsFirstFault, PublisherValue, at_start};
 
 use crate::fault::PushFault;
 use crate::place::Place;
@@ -24,7 +32,7 @@ pub enum Ending {
 }
 
 /// Publishes what an encoder writes, on the connections that an origin gives: on the next one where the last is gone and all that was
-/// sent on it was accepted.
+/// sent on it was accepted. It gives up where the origin gives none, or 20 in a row had nothing accepted.
 pub fn push<R: Reader, S: Source, W: Watch>(
     alloc: Global,
     place: Place<'_>,
@@ -34,6 +42,14 @@ pub fn push<R: Reader, S: Source, W: Watch>(
     watch: &mut W,
 ) -> Result<Ending, PushFault>
     ensures told { IfOk result EndsByAnswer }
+    ensures went { (input : List ℕ) → R.left source.old ≡ Some input
+        → IfOk result (λ ending. HasEnded S.next_gives (link_value S.Peer.written S.Peer.inward S.Peer.failures) (at_start (named place.entry) pace) input origin.old (R.left source.new) origin.new (step_of ending)) }
+    ensures gave_up { (input : List ℕ) → R.left source.old ≡ Some input → IsErrOf result PushFault.Connect
+        → HasGivenUp S.next_gives (link_value S.Peer.written S.Peer.inward S.Peer.failures) (at_start (named place.entry) pace) input origin.old (R.left source.new) origin.new }
+    ensures unanswered { (input : List ℕ) (fault : PushFault) → R.left source.old ≡ Some input → IsErrOf result fault → IsOfLink fault
+        → HasBroken S.next_gives (link_value S.Peer.written S.Peer.inward S.Peer.failures) (at_start (named place.entry) pace) input origin.old origin.new fault }
+    ensures refused { (input : List ℕ) (fault : Fault) → R.left source.old ≡ Some input → IsErrOf result (PushFault.Input fault)
+        → (then : PublisherValue) × IsFirstFault (at_start (named place.entry) pace) input then fault }
     ensures read_failed { IsErrOf result PushFault.Read → R.failures source.old < R.failures source.new }
     ensures steady { OnOk result (R.failures source.new ≡ R.failures source.old) }
 {
@@ -46,8 +62,7 @@ pub fn push<R: Reader, S: Source, W: Watch>(
         match publisher.publish_on(source, &mut link, watch)? {
             Step::Whole => return Ok(Ending::Whole),
             Step::Refused(line) => return Ok(Ending::Refused(line)),
-            Step::Gone { accepted: true } => idle = 0,
-            Step::Gone { accepted: false } => idle += 1,
+            Step::Gone { accepted } => idle = idle_after(accepted, idle),
         }
         if idle == TRIES {
             return Err(PushFault::Connect);
@@ -55,4 +70,12 @@ pub fn push<R: Reader, S: Source, W: Watch>(
         watch.lost();
     }
     Err(PushFault::Endless)
+}
+
+/// Returns how many connections in a row had nothing accepted, after one more of which `accepted` says whether it had something; `idle` had nothing before it.
+fn idle_after(accepted: bool, idle: u64) -> u64
+    requires { idle < most_idle }
+    ensures { result ≡ spec.idle_after accepted idle }
+{
+    if accepted { 0 } else { idle + 1 }
 }

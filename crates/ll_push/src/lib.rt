@@ -12,7 +12,7 @@ mod watch;
 
 pub use connections::{Ending, push};
 pub use fault::PushFault;
-pub use laws::{publisher_law, worked_messages};
+pub use laws::{answer_law, publisher_law, worked_messages};
 pub use place::Place;
 pub use publisher::{Publisher, Step};
 pub use watch::{Said, Watch};

@@ -1,13 +1,16 @@
 //! An encoder's bytes, published on one connection as far as it goes.
 ghost use Rattle.std.specs.Prelude.{◌≡◌, ◌≢◌, ◌<◌, ℕ, List, Some, None, IfErr, IfOk, IsErrOf, MatchResult, OnErr, OnOk, false, true};
-ghost use Rattle.std.specs.Io.KnownBytes.{Appends, Keeps};
+ghost use Rattle.std.specs.Io.KnownBytes.{Appends};
 ghost use Rattle.ll_device.specs.Written.{AppendsPrefix};
 ghost use Rattle.ll_mp4.specs.declared.fault.Fault.{Fault};
+ghost use Rattle.ll_push.specs.declared.fault.PushFault.{PushFault};
 ghost use Rattle.ll_push.specs.Answers.{StepsByAnswer};
+ghost use Rattle.ll_push.specs.Exchanges.{IsGone, IsUnanswered, link_value};
+ghost use Rattle.ll_push.specs.Faults.{IsOfLink, IsOfSource};
 ghost use Rattle.ll_push.specs.Messages as spec;
 ghost use Rattle.ll_push.specs.Meaning.{named};
-ghost use Rattle.ll_push.specs.Next.{FrontGives, IsEndFault, IsFaultNext, IsFed, IsFrontFault, IsNext, IsOwn, IsSent, IsTaken, IsTold, is_refusal};
-ghost use Rattle.ll_push.specs.Publishing.{IsFirstFault, IsStep, at_start, text_to_come};
+ghost use Rattle.ll_push.specs.Next.{FrontGives, IsEndFault, IsFaultNext, IsFed, IsFrontFault, IsNext, IsOwn, IsSent, IsTaken, is_refusal};
+ghost use Rattle.ll_push.specs.Publishing.{HasFailed, IsFirstFault, IsStep, at_start, text_to_come};
 
 use crate::answer::{Answer, read_answer};
 use crate::fault::PushFault;
@@ -86,11 +89,13 @@ impl<'a> Publisher<'a> {
         watch: &mut W,
     ) -> Result<Step, PushFault>
         ensures step { (input : List ℕ) → R.left source.old ≡ Some input
-            → IfOk result (IsStep self.old input (P.written link.old) self.new (R.left source.new) (P.written link.new)) }
+            → IfOk result (IsStep self.old input (link_value P.written P.inward P.failures link.old) self.new (R.left source.new) (link_value P.written P.inward P.failures link.new)) }
         ensures cut { (input : List ℕ) → R.left source.old ≡ Some input → OnErr result (AppendsPrefix (P.written link.old) (P.written link.new) (text_to_come self.old input)) }
         ensures refused { (input : List ℕ) (fault : Fault) → R.left source.old ≡ Some input → IsErrOf result (PushFault.Input fault) → IsFirstFault self.old input self.new fault }
         ensures read_failed { IsErrOf result PushFault.Read → R.failures source.old < R.failures source.new }
         ensures steady { OnOk result (R.failures source.new ≡ R.failures source.old) }
+        ensures unanswered { (input : List ℕ) (fault : PushFault) → R.left source.old ≡ Some input → IsErrOf result fault → IsOfLink fault
+            → HasFailed self.old input (link_value P.written P.inward P.failures link.old) (link_value P.written P.inward P.failures link.new) fault }
         ensures told { IfOk result StepsByAnswer }
         ensures connected { IfErr result (λ fault. fault ≢ PushFault.Connect) }
     {
@@ -120,7 +125,7 @@ impl<'a> Publisher<'a> {
         ensures refused { (input : List ℕ) (fault : Fault) → R.left source.old ≡ Some input → IsErrOf result (PushFault.Input fault) → IsFirstFault self.old input self.new fault }
         ensures read_failed { IsErrOf result PushFault.Read → R.failures source.old < R.failures source.new }
         ensures steady { OnOk result (R.failures source.new ≡ R.failures source.old) }
-        ensures connected { IfErr result (λ fault. fault ≢ PushFault.Connect) }
+        ensures own { IfErr result IsOfSource }
     {
         match self.unsent.take() {
             Some(message) => Ok(message),
@@ -140,7 +145,7 @@ fn next_message<R: Reader>(
     ensures refused { (input : List ℕ) (fault : Fault) → R.left source.old ≡ Some input → IsErrOf result (PushFault.Input fault) → IsFaultNext splitter.old input splitter.new fault }
     ensures read_failed { IsErrOf result PushFault.Read → R.failures source.old < R.failures source.new }
     ensures steady { OnOk result (R.failures source.new ≡ R.failures source.old) }
-    ensures connected { IfErr result (λ fault. fault ≢ PushFault.Connect) }
+    ensures own { IfErr result IsOfSource }
 {
     for _ in 0..u64::MAX {
         if let Some(message) = front_message(alloc, place, splitter)? {
@@ -203,10 +208,10 @@ fn exchange<P: Link>(
     refused: &mut bool,
 ) -> Result<Sent, PushFault>
     requires { refused.old ≡ false }
-    ensures sent { IfOk result (IsSent (P.written link.old) (P.written link.new) message) }
+    ensures sent { IfOk result (IsSent (link_value P.written P.inward P.failures link.old) (link_value P.written P.inward P.failures link.new) message) }
     ensures cut { OnErr result (AppendsPrefix (P.written link.old) (P.written link.new) message.bytes) }
     ensures refused { IfOk result (λ sent. refused.new ≡ is_refusal sent) }
-    ensures told { IfOk result IsTold }
+    ensures unanswered { IfErr result (IsUnanswered message.bytes (link_value P.written P.inward P.failures link.old) (link_value P.written P.inward P.failures link.new)) }
     ensures own { IfErr result IsOwn }
 {
     if !send(link, message.bytes())? {
@@ -221,7 +226,9 @@ fn exchange<P: Link>(
 /// are taken, the connection is lost.
 fn send<P: Link>(link: &mut P, bytes: &[u8]) -> Result<bool, PushFault>
     ensures sent { IfOk result (λ sent. sent ≡ true → Appends (P.written link.old) (P.written link.new) bytes.now) }
-    ensures unsent { IfOk result (λ sent. sent ≡ false → Keeps (P.written link.old) (P.written link.new)) }
+    ensures unsent { IfOk result (λ sent. sent ≡ false → IsGone (link_value P.written P.inward P.failures link.old) (link_value P.written P.inward P.failures link.new)) }
+    ensures unread { IfOk result (λ sent. sent ≡ true → P.inward link.new ≡ P.inward link.old) }
+    ensures steady { IfOk result (λ sent. sent ≡ true → P.failures link.new ≡ P.failures link.old) }
     ensures cut { OnErr result (AppendsPrefix (P.written link.old) (P.written link.new) bytes.now) }
     ensures lost { IfErr result (λ fault. (fault ≡ PushFault.Lost) × (P.failures link.old < P.failures link.new)) }
 {

@@ -1,0 +1,129 @@
+//! Reads and writes of a stream whose calls say that they would have to wait. What they do to its bytes is told in std's words, so of every stream as far as std tells
+//! its bytes.
+ghost use Rattle.std.specs.Prelude.{◌≡◌, ◌≤◌, ◌++◌, [], IfOk, IfSome, MatchResult, Ok, length};
+ghost use Rattle.std.specs.Io.{WritesAtMost};
+ghost use Rattle.std.specs.Io.KnownBytes.{Keeps, ReadConsumes, WriteAppends};
+ghost use Rattle.ll_device.specs.Tries.{TryAppends, TryConsumes};
+
+use crate::device::Failed;
+use libc::net::{POLLIN, POLLOUT};
+use std::io;
+use std::io::{ErrorKind, Read, Write};
+
+/// A stream whose calls don't wait.
+pub(crate) trait Stream: Read + Write {
+    /// Writes `first` and then `second` by one call of the system, and returns how many bytes it took of both, from the first byte on.
+    fn write_both(&mut self, first: &[u8], second: &[u8]) -> io::Result<usize>
+        ensures bound { WritesAtMost result (first.now ++ second.now) }
+        ensures bytes { WriteAppends (Self.contents self.old) (Self.contents self.new) result (first.now ++ second.now) };
+
+    /// Returns whether the system tells one of `events` of it within `limit` milliseconds; -1 waits without end.
+    fn is_told(&self, events: i16, limit: i32) -> bool;
+}
+
+/// Reads once into `buf`, and returns how many bytes came, or nothing if it would have to wait.
+pub(crate) fn receive<R: Read>(stream: &mut R, buf: &mut [u8]) -> Result<Option<usize>, Failed>
+    ensures count { IfOk result (λ done. IfSome done (λ n. n ≤ length buf.new)) }
+    ensures bytes { MatchResult result (λ done. TryConsumes (R.remaining stream.old) (R.remaining stream.new) done buf.new) (λ _. Keeps (R.remaining stream.old) (R.remaining stream.new)) }
+{
+    done(stream.read(buf))
+}
+
+/// Writes `text` once, and returns how many bytes of it the stream took, or nothing if it would have to wait. A write that takes nothing of a text that isn't empty fails.
+pub(crate) fn send<W: Write>(stream: &mut W, text: &[u8]) -> Result<Option<usize>, Failed>
+    ensures count { IfOk result (λ done. IfSome done (λ n. n ≤ length text.now)) }
+    ensures some { IfOk result (λ done. IfSome done (λ n. n ≡ 0 → text.now ≡ [])) }
+    ensures bytes { MatchResult result (λ done. TryAppends (W.contents stream.old) (W.contents stream.new) done text.now) (λ _. Keeps (W.contents stream.old) (W.contents stream.new)) }
+{
+    match stream.write(text) {
+        Ok(0) if !text.is_empty() => Err(Failed),
+        call => done(call),
+    }
+}
+
+/// Writes `first` and then `second` once, by one call of the system, and returns how many bytes of both the stream took, or nothing if it would have to wait. A write
+/// that takes nothing, though not both are empty, fails.
+pub(crate) fn send_two<S: Stream>(
+    stream: &mut S,
+    first: &[u8],
+    second: &[u8],
+) -> Result<Option<usize>, Failed>
+    ensures count { IfOk result (λ done. IfSome done (λ n. n ≤ length (first.now ++ second.now))) }
+    ensures some { IfOk result (λ done. IfSome done (λ n. n ≡ 0 → first.now ++ second.now ≡ [])) }
+    ensures bytes { MatchResult result (λ done. TryAppends (S.contents stream.old) (S.contents stream.new) done (first.now ++ second.now)) (λ _. Keeps (S.contents stream.old) (S.contents stream.new)) }
+{
+    match stream.write_both(first, second) {
+        Ok(0) if !(first.is_empty() && second.is_empty()) => Err(Failed),
+        call => done(call),
+    }
+}
+
+/// Returns what a call of the system did: its count, or nothing if it would have to wait.
+fn done(call: io::Result<usize>) -> Result<Option<usize>, Failed>
+    ensures count { IfOk result (λ done. IfSome done (λ n. call ≡ Ok n)) }
+    ensures ok { IfOk call (λ n. result ≡ Ok (Some n)) }
+{
+    match call {
+        Ok(count) => Ok(Some(count)),
+        Err(error) if error.kind() == ErrorKind::WouldBlock => Ok(None),
+        Err(_) => Err(Failed),
+    }
+}
+
+/// Reads into `buf` as soon as something comes, and returns how many bytes did, 0 at the end. It fails if nothing comes within `limit` milliseconds; -1 waits without
+/// end.
+pub(crate) fn read<S: Stream>(stream: &mut S, buf: &mut [u8], limit: i32) -> Result<usize, Failed>
+    ensures count { IfOk result (λ n. n ≤ length buf.new) }
+    ensures bytes { ReadConsumes (S.remaining stream.old) (S.remaining stream.new) result buf.new }
+{
+    for _ in 0..u64::MAX {
+        if !stream.is_told(POLLIN, limit) {
+            break;
+        }
+        if let Some(count) = receive(stream, buf)? {
+            return Ok(count);
+        }
+    }
+    Err(Failed)
+}
+
+/// Writes `text` as soon as the stream takes some of it, and returns how many bytes it took, 0 only of an empty text. It fails if it takes none within `limit`
+/// milliseconds.
+pub(crate) fn write<S: Stream>(stream: &mut S, text: &[u8], limit: i32) -> Result<usize, Failed>
+    ensures count { IfOk result (λ n. n ≤ length text.now) }
+    ensures some { IfOk result (λ n. n ≡ 0 → text.now ≡ []) }
+    ensures bytes { WriteAppends (S.contents stream.old) (S.contents stream.new) result text.now }
+{
+    for _ in 0..u64::MAX {
+        if let Some(count) = send(stream, text)? {
+            return Ok(count);
+        }
+        if !stream.is_told(POLLOUT, limit) {
+            break;
+        }
+    }
+    Err(Failed)
+}
+
+/// Writes `first` and then `second` as soon as the stream takes some of them, and returns how many bytes of both it took, 0 only where both are empty. It fails if it
+/// takes none within `limit` milliseconds.
+pub(crate) fn write_two<S: Stream>(
+    stream: &mut S,
+    first: &[u8],
+    second: &[u8],
+    limit: i32,
+) -> Result<usize, Failed>
+    ensures count { IfOk result (λ n. n ≤ length (first.now ++ second.now)) }
+    ensures some { IfOk result (λ n. n ≡ 0 → first.now ++ second.now ≡ []) }
+    ensures bytes { WriteAppends (S.contents stream.old) (S.contents stream.new) result (first.now ++ second.now) }
+{
+    for _ in 0..u64::MAX {
+        if let Some(count) = send_two(stream, first, second)? {
+            return Ok(count);
+        }
+        if !stream.is_told(POLLOUT, limit) {
+            break;
+        }
+    }
+    Err(Failed)
+}
