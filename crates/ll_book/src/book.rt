@@ -401,11 +401,11 @@ impl Book {
         self.slots.settle(entry.ticket, settled);
     }
 
-    /// Forgets the open request of this ticket, where there is one.
+    /// Forgets the open request of this `ticket`, if there is one. It is found by its ticket, so no other is looked at.
     pub fn drop_ticket(&mut self, ticket: u64) -> Released
         ensures slots { self.new ≡ without ticket self.old }
         ensures count { result.released ≡ length (filter (has_ticket ticket) self.old) }
-        ensures looked { result.looked ≤ length self.old }
+        ensures looked { result.looked ≡ 0 }
     {
         let _ = &self.slots;
         match self.find(ticket) {

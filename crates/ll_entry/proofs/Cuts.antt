@@ -6,6 +6,8 @@ use Rattle.std.proofs.lemmas.List.Elements.{All-from_recursion}
 use Rattle.std.proofs.lemmas.List.Splits.{slice_split_none, slice_split_at}
 use Rattle.std.specs.List.{list_all, join_with_byte, All, AllByRecursion}
 use Rattle.ll_attr.specs.Words.{pieces_at, words, joined}
+use Rattle.ll_attr.proofs.Joined.{some_word}
+use Rattle.ll_entry.specs.Entries.{has_more}
 use Rattle.ll_format.specs.Words.{is_line_byte, is_one_line}
 use Rattle.ll_format.proofs.FormatLaws.{inside_both, lacks}
 
@@ -79,3 +81,10 @@ keyed key value k v = record {
   spaceless = list_all-append (λ b. not (b == 32)) key value ∙ and_from (lacks 32 key) (lacks 32 value) k.spaceless v.spaceless;
   one_line = inside_both key value k.one_line v.one_line;
 }
+
+more_by : (word : List ℕ) (ws : List (List ℕ)) → (first : List ℕ) × (more : List (List ℕ)) × (ws ≡ first ∷ more) → has_more (word ∷ ws) ≡ true
+more_by word ws p = ap (λ ws. has_more (word ∷ ws)) p.2
+
+-- where a text is cut, there is a word after the first
+pub more_words : (word text : List ℕ) → has_more (word ∷ words text) ≡ true
+more_words word text = more_by word (words text) (some_word text)

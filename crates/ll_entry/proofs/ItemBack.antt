@@ -98,14 +98,14 @@ led : (n : ℕ) → n < 2 ^ 64 → IsLed n (decimal n)
 led = decimal_by_steps IsLed
     (λ n small. record { plain = refl; first = 48 + n; more = []; is = refl; some = λ low. grind (arith, nat_tests, low) })
     (λ n ds low h.
-      let nonzero = h.some (omega (arith, low)) in
-      record {
-        plain = ap (λ xs. leads_with_zero (xs ++ (48 + n % 10) ∷ [])) h.is ∙ led-more h.first (48 + n % 10) h.more nonzero;
-        first = h.first;
-        more = h.more ++ (48 + n % 10) ∷ [];
-        is = ap (λ xs. xs ++ (48 + n % 10) ∷ []) h.is;
-        some = λ low. nonzero;
-      })
+    let nonzero = h.some (omega (arith, low)) in
+    record {
+      plain = ap (λ xs. leads_with_zero (xs ++ (48 + n % 10) ∷ [])) h.is ∙ led-more h.first (48 + n % 10) h.more nonzero;
+      first = h.first;
+      more = h.more ++ (48 + n % 10) ∷ [];
+      is = ap (λ xs. xs ++ (48 + n % 10) ∷ []) h.is;
+      some = λ low. nonzero;
+    })
 
 -- a time up to the year 9999 has 15 digits at most
 shorter : (text : List ℕ) (n : ℕ) → length text ≤ 15 → number_in 20 text ≡ Some n → number_in 15 text ≡ Some n

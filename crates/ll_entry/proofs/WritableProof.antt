@@ -1,5 +1,5 @@
 -- Kind by kind: what the rules ask of an accepted item is what its line needs.
-use Rattle.std.proofs.Common.{◌≡◌, ℕ, ◌<◌, ◌≤◌, ◌^◌, List, Bool, true, false, Option, None, arith}
+use Rattle.std.proofs.Common.{◌≡◌, ℕ, ◌<◌, ◌≤◌, ◌^◌, List, [], ◌∷◌, Bool, true, false, Option, None, Some, arith}
 use Rattle.std.proofs.lemmas.Bool.Decides.{nat_tests}
 use Rattle.ll_item.proofs.WithinLimits.{within}
 use Rattle.ll_item.specs.Settings.{Configuration, IsWithin}

@@ -1,5 +1,5 @@
 -- The entries of a record, in each format: each tells one event of a channel, and what the reply came to where there was one.
-use Rattle.std.specs.Prelude.{ℕ, ◌==◌, List, ◌&&◌, ◌||◌, Bool, false, length, not, Option, Some, None, Result, Ok, Err, codes, if◌then◌else◌, is_some}
+use Rattle.std.specs.Prelude.{ℕ, List, [], ◌∷◌, ◌&&◌, ◌||◌, Bool, true, false, Option, Some, None, Result, Ok, Err, codes, if◌then◌else◌, is_some}
 use Rattle.ll_attr.specs.Words.{after, words}
 use Rattle.ll_directive.specs.Targets.{WantValue, media_want}
 use Rattle.ll_directive.specs.declared.want.Awaited.{Awaited}
@@ -94,10 +94,16 @@ is_init_line text = is_some (after (codes "init ") text)
 abbrev pub is_finish_line : List ℕ → Bool
 is_finish_line text = is_some (after (codes "finish ") text)
 
+-- whether there is a word after the first
+abbrev pub has_more : List (List ℕ) → Bool
+has_more [] = false
+has_more (word ∷ []) = false
+has_more (word ∷ next ∷ more) = true
+
 -- whether a break has more words than the name of its rendition
 abbrev pub has_time : Option (List ℕ) → Bool
 has_time None = false
-has_time (Some text) = not (length (words text) == 1)
+has_time (Some text) = has_more (words text)
 
 abbrev pub is_timed_break : List ℕ → Bool
 is_timed_break text = has_time (after (codes "break ") text)

@@ -1,5 +1,5 @@
 -- What is written is read again.
-use Rattle.std.specs.Prelude.{◌≡◌, ◌<◌, ◌≤◌, ◌^◌, Option, None, Some, Ok, length, true}
+use Rattle.std.specs.Prelude.{◌≡◌, ℕ, ◌<◌, ◌≤◌, ◌^◌, Option, None, Some, Ok, length, true}
 use Rattle.ll_attr.specs.Attributes.{attributes_in, spelling}
 use Rattle.ll_format.specs.Words.{is_one_line}
 use Rattle.ll_item.specs.ItemLines.{item_line, with_id}

@@ -2,6 +2,7 @@
 ghost use Rattle.std.specs.Prelude.{◌≡◌, ◌≢◌, ◌<◌, ◌≤◌, IfErr, IfOk, IsErrOf, IsOk, MatchOption, Ok, Err, IfSome, None, Some, [], is_some, true};
 ghost use Rattle.std.specs.Option.{option_map};
 ghost use Rattle.ll_item.specs.Names.{is_name};
+ghost use Rattle.ll_attr.specs.Words.{words};
 ghost use Rattle.ll_entry.specs.Entries as spec;
 ghost use Rattle.ll_entry.specs.Entries.{entry_in, publish_by, published};
 ghost use Rattle.ll_item.specs.Items.{item_in};
@@ -96,7 +97,18 @@ fn is_timed_break(text: &str) -> bool
     ensures { result ≡ spec.is_timed_break text.now }
 {
     match after(text, "break ") {
-        Some(rest) => cut(rest, ' ').is_some(),
+        Some(rest) => has_more(rest),
+        None => false,
+    }
+}
+
+/// Returns whether `text` has a word after the first.
+#[tactic(auto, using(crate::proofs::Cuts::more_words))]
+fn has_more(text: &str) -> bool
+    ensures { result ≡ spec.has_more (words text.now) }
+{
+    match cut(text, ' ') {
+        Some(_) => true,
         None => false,
     }
 }

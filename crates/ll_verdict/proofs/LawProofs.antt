@@ -3,7 +3,7 @@ use Rattle.std.proofs.Common.{◌≡◌, ◌+◌, suc, List, [], ◌∷◌, ◌+
 use Rattle.std.specs.Option.{option_or}
 use Rattle.ll_item.specs.Settings.{Configuration}
 use Rattle.ll_verdict.specs.Events.{Event, Step, until}
-use Rattle.ll_verdict.specs.Laws.{IsFirst, FirstStateLaw, OneVerdictLaw, OpenTicketsLaw}
+use Rattle.ll_verdict.specs.Laws.{IsFirst, FirstStateLaw, OneVerdictLaw}
 use Rattle.ll_verdict.specs.State.{state_of, is_waiting}
 use Rattle.ll_verdict.specs.declared.entry.Slot.{Slot}
 use Rattle.ll_verdict.specs.Verdict.{Request, decided}
@@ -48,16 +48,3 @@ first_by c es e r s (Some s0) f ih h =
 pub first_state : FirstStateLaw
 first_state c es r s = along (λ es. decided c es r ≡ Some s → IsFirst c es r s) (λ h. absurd (none_some s h))
     (λ es e ih h. first_by c es e r s (decided c es r) refl ih (sym (decided-snoc c es e r) ∙ h)) es
-
-one_more : (s : Slot) (ss : List Slot) (b : Bool) → length ss ≡ length (filter is_waiting ss) + length (filter (λ s. not (is_waiting s)) ss)
-    → suc (length ss) ≡ length (cond b (s ∷ filter is_waiting ss) (filter is_waiting ss))
-    + length (cond (not b) (s ∷ filter (λ s. not (is_waiting s)) ss) (filter (λ s. not (is_waiting s)) ss))
-one_more s ss true h = omega (arith, h)
-one_more s ss false h = omega (arith, h)
-
-both : (ss : List Slot) → length ss ≡ length (filter is_waiting ss) + length (filter (λ s. not (is_waiting s)) ss)
-both [] = refl
-both (s ∷ ss) = one_more s ss (is_waiting s) (both ss)
-
-pub open_tickets : OpenTicketsLaw
-open_tickets c es = both (state_of c es).slots

@@ -54,8 +54,3 @@ pub record IsNewerMedia (c : Configuration) (events : List Event) (r : Request) 
 abbrev pub NewerMediaLaw : Type 0
 NewerMediaLaw = (c : Configuration) (events : List Event) (place : ℕ) (r : Request) (piece : Piece)
     → slice_get (held c events) place ≡ Some r → reply c events r ≡ Some (Media piece) → IsNewerMedia c events r piece
-
--- the open requests are those that wait and those whose replies wait
-abbrev pub OpenTicketsLaw : Type 0
-OpenTicketsLaw = (c : Configuration) (events : List Event)
-    → length (state_of c events).slots ≡ length (filter is_waiting (state_of c events).slots) + length (filter (λ s. not (is_waiting s)) (state_of c events).slots)

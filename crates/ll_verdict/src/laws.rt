@@ -1,6 +1,6 @@
 //! What every list of events says of its requests. Each law is proved once, as the contract of an empty function; none of these does
 //! anything.
-ghost use Rattle.ll_verdict.specs.Laws.{FirstStateLaw, NewerMediaLaw, NewerTextLaw, OneVerdictLaw, OpenTicketsLaw};
+ghost use Rattle.ll_verdict.specs.Laws.{FirstStateLaw, NewerMediaLaw, NewerTextLaw, OneVerdictLaw};
 ghost use Rattle.ll_verdict.specs.State.{StateLaw};
 
 /// The plain step is the state of one more event, for every list of events and every event.
@@ -29,9 +29,4 @@ pub fn newer_text_law()
 /// awaited.
 pub fn newer_media_law()
     ensures { NewerMediaLaw }
-{}
-
-/// The open requests are those that wait and those whose replies wait.
-pub fn open_tickets_law()
-    ensures { OpenTicketsLaw }
 {}
