@@ -133,14 +133,19 @@ later_by c limit xs ys false e in_order le = by h.closes (ap (λ (t : Told). t.p
   where
     ps : List Part
     ps = parts xs
+
     h : HasMore ps (fold step (told xs) ys).parts
     h = more_parts (told xs) ys
+
     qs : List Part
     qs = h.more
+
     u : List Part
     u = (split ps).unfinished
+
     f : Bool
     f = ended (xs ++ ys)
+
     by : (closes : Bool) → parts (xs ++ ys) ≡ marked closes ps ++ qs → IsLater limit xs (xs ++ ys)
     by false all = record {
       more = finished_by f (split (u ++ qs));

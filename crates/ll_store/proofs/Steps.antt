@@ -7,7 +7,7 @@ use Rattle.ll_item.specs.declared.item.Item.{Item}
 use Rattle.ll_item.specs.declared.item.Item.TheVariants as item
 use Rattle.ll_item.specs.declared.item.PartItem.{PartItem}
 use Rattle.ll_item.specs.declared.part.Part.{Part}
-use Rattle.ll_window.proofs.SplitLemmas.{added_by, split-last, split-snoc, with_last}
+use Rattle.ll_window.proofs.SplitLemmas.{added_by, split-last, split-snoc}
 use Rattle.ll_window.specs.Segments.{Split, closed, ended, finished_by, split}
 use Rattle.ll_store.proofs.Grouped.{grouped-finished, grouped-more, grouped-snoc, open-grown}
 use Rattle.ll_store.proofs.Parts.{all-grouped, as-many, many-last, part_bytes-snoc}

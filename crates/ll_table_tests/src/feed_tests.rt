@@ -191,17 +191,32 @@ too many bytes => no 16 MediaTooLong␊";
 
 /// Each refusal's code and name, as a publisher reads them.
 const CODES: [(Refusal, &str); 18] = [
-    (Refusal::Rule(PublishFault::NoRendition), "no 1 NoRendition\n"),
+    (
+        Refusal::Rule(PublishFault::NoRendition),
+        "no 1 NoRendition\n",
+    ),
     (Refusal::Rule(PublishFault::Ended), "no 2 Ended\n"),
-    (Refusal::Rule(PublishFault::BadDuration), "no 3 BadDuration\n"),
+    (
+        Refusal::Rule(PublishFault::BadDuration),
+        "no 3 BadDuration\n",
+    ),
     (Refusal::Rule(PublishFault::TooLong), "no 4 TooLong\n"),
-    (Refusal::Rule(PublishFault::OpenSegment), "no 5 OpenSegment\n"),
+    (
+        Refusal::Rule(PublishFault::OpenSegment),
+        "no 5 OpenSegment\n",
+    ),
     (Refusal::Rule(PublishFault::CountEnd), "no 6 CountEnd\n"),
     (Refusal::Rule(PublishFault::TimeEnd), "no 7 TimeEnd\n"),
     (Refusal::Rule(PublishFault::IdTaken), "no 8 IdTaken\n"),
-    (Refusal::Rule(PublishFault::BadAttribute), "no 9 BadAttribute\n"),
+    (
+        Refusal::Rule(PublishFault::BadAttribute),
+        "no 9 BadAttribute\n",
+    ),
     (Refusal::Rule(PublishFault::IdUnknown), "no 10 IdUnknown\n"),
-    (Refusal::Rule(PublishFault::RecordFull), "no 11 RecordFull\n"),
+    (
+        Refusal::Rule(PublishFault::RecordFull),
+        "no 11 RecordFull\n",
+    ),
     (Refusal::Rule(PublishFault::Memory), "no 12 Memory\n"),
     (Refusal::BadLine, "no 13 BadLine\n"),
     (Refusal::UnknownChannel, "no 14 UnknownChannel\n"),

@@ -14,9 +14,7 @@ mod wanted;
 pub use awaited::{is_far, is_hinted, is_there};
 pub use entry::{Entry, Slot};
 pub use fault::{AskFault, ClockFault};
-pub use laws::{
-    first_state_law, newer_media_law, newer_text_law, one_verdict_law, state_law,
-};
+pub use laws::{first_state_law, newer_media_law, newer_text_law, one_verdict_law, state_law};
 pub use ll_rendition::PublishFault;
 pub use piece::Piece;
 pub use reply::{Outcome, Reply, Settled};

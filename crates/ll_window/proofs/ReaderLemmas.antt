@@ -1,21 +1,19 @@
 -- What stands at a place of the window, by the segments as they are kept.
-use Rattle.std.proofs.Common.{◌≡◌, ℕ, zero, suc, ◌+◌, ◌-◌, ◌*◌, ◌≤◌, List, [], ◌∷◌, Bool, true, false, Option, Some, None, Bor, length, nat_lt, refl, ap, ap₂, sym, ◌∙◌, arith}
+use Rattle.std.proofs.Common.{◌≡◌, ℕ, zero, suc, ◌+◌, ◌*◌, ◌≤◌, List, [], ◌∷◌, Option, Some, None, Bor, length, refl, ap, ap₂, sym, ◌∙◌, arith}
 use Rattle.std.specs.Prelude.{slice_get}
 use Rattle.std.specs.Option.{option_copied}
 use Rattle.std.specs.Slice.{IsItemAt}
 use Rattle.std.proofs.lemmas.Option.{slice_get_past, slice_get_read}
-use Rattle.ll_window.specs.declared.segment.Segment.{Segment}
 use Rattle.ll_item.specs.declared.part.Part.{Part}
-use Rattle.ll_item.specs.Settings.{Configuration, skip_limit}
+use Rattle.ll_item.specs.Settings.{Configuration}
 use Rattle.ll_window.specs.declared.finished.Finished.{Finished}
 use Rattle.ll_window.specs.declared.progress.Progress.{Progress}
 use Rattle.ll_window.specs.Compact.{Compact, skip_count}
-use Rattle.ll_window.specs.Kept.{AreTimed, IsKept}
-use Rattle.ll_window.specs.Rows.{Row, lasting}
+use Rattle.ll_window.specs.Kept.{AreTimed}
+use Rattle.ll_window.specs.Rows.{Row}
 use Rattle.ll_window.specs.Segments.{duration}
-use Rattle.ll_window.specs.Window.{near_limit, shown_by, listed, skipped_in, segment_at, parts_at}
+use Rattle.ll_window.specs.Window.{skipped_in}
 use Rattle.ll_window.proofs.KeptLemmas.{kept}
-use Rattle.ll_window.proofs.SkipLemmas.{skipped-listed}
 
 -- what a deque gives at a place
 pub item_at : (rs : List Row) (i : ℕ) (r : Option (Bor Row)) → IsItemAt rs i r → option_copied r ≡ slice_get rs i

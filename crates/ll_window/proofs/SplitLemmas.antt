@@ -1,9 +1,8 @@
 -- Parts in segments, one more part at the end: what a part does at the end is what it does at the start, segment by segment.
-use Rattle.std.proofs.Common.{◌≡◌, ℕ, ◌+◌, ◌≤◌, length, arith, Option, Some, None, cond, sym, append-nil, List, [], ◌∷◌, ◌++◌, Bool, true, false, refl, ap, ◌∙◌}
+use Rattle.std.proofs.Common.{◌≡◌, ℕ, ◌+◌, length, arith, cond, sym, append-nil, List, [], ◌∷◌, ◌++◌, Bool, true, false, refl, ap, ◌∙◌}
 use Rattle.ll_item.specs.declared.part.Part.{Part}
 use Rattle.std.proofs.lemmas.List.Sums.{sum_by-append}
 use Rattle.ll_item.specs.Told.{finished_last}
-use Rattle.ll_window.specs.declared.part_position.PartPosition.{PartPosition}
 use Rattle.ll_window.specs.Numbers.{NumberedPart, last_place, numbered_parts}
 use Rattle.ll_window.specs.Rows.{begun}
 use Rattle.ll_window.specs.Segments.{Split, closed, duration, split, put_by}

@@ -10,7 +10,7 @@ use Rattle.ll_window.specs.declared.fault.PushFault.{PushFault}
 use Rattle.ll_window.specs.declared.part_position.PartPosition.{PartPosition}
 use Rattle.ll_window.specs.Numbers.{numbered_parts, last_place}
 use Rattle.ll_window.specs.Compact.{Compact, compact, opens_by}
-use Rattle.ll_window.specs.Rows.{Row, begun, row, rows, time_after, one_if, is_broken, lasting, broken_in}
+use Rattle.ll_window.specs.Rows.{Row, begun, row, rows, time_after, one_if, is_broken, broken_in}
 use Rattle.ll_window.specs.Segments.{Split, split, finished_by, unfinished_by, ended, duration}
 use Rattle.ll_window.specs.Step.{with_finish, with_item, with_open, with_part_by, after_segment, with_end, next_place}
 use Rattle.ll_window.specs.Refusal.{refusal, refusal_before_end, refusal_by, refusal_going_on, refusal_after}
@@ -18,7 +18,7 @@ use Rattle.ll_item.specs.Told.{Told, finished_last, kept_part, start, step, told
 use Rattle.ll_window.specs.Window.{window_limit, near_limit, gone, window, listed}
 use Rattle.ll_window.proofs.NumberLemmas.{last-snoc}
 use Rattle.ll_window.proofs.SplitLemmas.{added_by, begun-last, closed-last, duration-last, place-last, split-last, split-snoc, with_last}
-use Rattle.ll_window.proofs.WindowLemmas.{lasting-append, broken-append, lasting-cons, broken-cons, listed-again, listed-window-snoc, gone-window-snoc}
+use Rattle.ll_window.proofs.WindowLemmas.{broken-append, lasting-cons, broken-cons, listed-again, listed-window-snoc, gone-window-snoc}
 
 same_row : (n k m l t u : ℕ) (g : List Part) → n ≡ k → m ≡ l → t ≡ u → row n m t g ≡ row k l u g
 same_row n k m l t u g e f h = ap (λ x. row x m t g) e ∙ ap (λ x. row k x t g) f ∙ ap (λ x. row k l x g) h

@@ -8,7 +8,6 @@ use Rattle.ll_item.specs.declared.part.Part.{Part}
 use Rattle.ll_window.specs.declared.fault.PushFault.{PushFault}
 use Rattle.ll_window.specs.declared.fault.PushFault.TheVariants.{Ended, BadDuration, TooLong, OpenSegment, CountEnd, TimeEnd, NoSegment, TimeBack}
 use Rattle.ll_window.specs.Compact.{Compact, clock, compact}
-use Rattle.ll_item.specs.Told.{end_time}
 use Rattle.ll_window.specs.Segments.{segments, open_segment, duration, ended}
 
 -- microseconds as the nearest whole seconds, half upwards

@@ -5,12 +5,10 @@ use Rattle.ll_item.specs.declared.item.Item.TheVariants as item
 use Rattle.ll_item.specs.declared.part.Part.{Part}
 use Rattle.ll_window.specs.declared.part_position.PartPosition.{PartPosition}
 use Rattle.ll_window.specs.Compact.{Compact, opens_by}
-use Rattle.ll_window.specs.Refusal.{part_refusal, break_refusal, refusal_by}
 use Rattle.ll_window.specs.Rows.{Row, row, one_if, is_broken, broken_in}
 use Rattle.ll_item.specs.Told.{finished_last, first_of, kept_part}
 use Rattle.ll_window.specs.Segments.{duration}
 use Rattle.ll_window.specs.Window.{window_limit, near_limit, gone, window, listed}
-use Rattle.ll_window.specs.declared.fault.PushFault.{PushFault}
 
 -- where the next part stands
 abbrev pub next_place : Compact → PartPosition

@@ -7,7 +7,7 @@ returns-in-Err-clause-refused c = refused (the_view c.self.inside) c.args.self.n
 
 pub returns-then-self-ge-RECORD_END-clause-refused : goal.returns-then-self-ge-RECORD_END-clause-refused
 returns-then-self-ge-RECORD_END-clause-refused c =
-    refused-full (the_view c.self.inside) c.args.self.now c.args.item.now c.self.view_is c.in_default.ensures c.if-self-ge-RECORD_END.true
+    refused-full (the_view c.self.inside) c.args.self.now c.args.item.now c.self.view_is c.in_default.ensures.rule c.if-self-ge-RECORD_END.true
 
 pub returns-clause-refused : goal.returns-clause-refused
-returns-clause-refused c = unrefused (the_view c.self.inside) c.args.self.now c.args.item.now c.self.view_is c.in_default.ensures c.if-self-ge-RECORD_END.false
+returns-clause-refused c = unrefused (the_view c.self.inside) c.args.self.now c.args.item.now c.self.view_is c.in_default.ensures.rule c.if-self-ge-RECORD_END.false
