@@ -16,7 +16,7 @@ use Rattle.ll_push.specs.Exchanges.{AreExchanged, IsExchanged, IsGone, IsUnanswe
 use Rattle.ll_push.specs.Messages.{MessageValue, Names, ends}
 use Rattle.ll_mp4.specs.declared.fault.Fault.{Fault}
 use Rattle.ll_push.specs.Next.{IsFaultNext, IsNext, IsSent, IsTaken, is_refusal}
-use Rattle.ll_push.specs.Publishing.{GoesOn, HasFailed, HasGone, HasRefused, IsFirstFault, PublisherValue, after_message, fault_after, fault_by, fault_to_come, messages, messages_by, messages_to_come, text_to_come}
+use Rattle.ll_push.specs.Publishing.{GoesOn, HasFailed, HasGone, HasRefused, HasSent, IsFirstFault, PublisherValue, after_message, fault_after, fault_by, fault_to_come, messages, messages_by, messages_to_come, text_to_come}
 use Rattle.ll_push.specs.Faults.{IsOfLink, IsOfSource}
 use Rattle.ll_push.specs.declared.fault.PushFault.{PushFault}
 use Rattle.ll_push.specs.declared.fault.PushFault.TheVariants.{Input, Read, Connect, Lost, BadAnswer, Memory, Endless}
@@ -143,18 +143,20 @@ exchanged-more messages message line first mid last h one ok = record {
 }
 
 -- some messages were sent and accepted, and what is still to be sent are those after them
-pub record SoFar (before : PublisherValue) (input : List ℕ) (first : LinkValue) (after : PublisherValue) (left : Option (List ℕ)) (last : LinkValue) (accepted : Bool) : Type 0 where
+pub record SoFar (before : PublisherValue) (input : List ℕ) (first : LinkValue) (after : PublisherValue) (left : Option (List ℕ)) (last : LinkValue) (accepted : Bool) (many : ℕ) : Type 0 where
   pub sent : List (List ℕ)
   pub goes : GoesOn before input sent after left
   pub exchanged : AreExchanged sent first last
   pub some : accepted ≡ nat_le 1 (length sent)
+  pub are : length sent ≡ many
 
-pub goes-first : (p : PublisherValue) (input : List ℕ) (link : LinkValue) (left : Option (List ℕ)) → left ≡ Some input → SoFar p input link p left link false
+pub goes-first : (p : PublisherValue) (input : List ℕ) (link : LinkValue) (left : Option (List ℕ)) → left ≡ Some input → SoFar p input link p left link false 0
 goes-first p input link left e = record {
   sent = [];
   goes = record { rest = input; is_left = e; messages = refl; fault = refl };
   exchanged = exchanged-none link;
   some = refl;
+  are = refl;
 }
 
 pub first-fault : (p : PublisherValue) (input : List ℕ) (sent : List (List ℕ)) (s : PublisherValue) (left : Option (List ℕ)) (after : PublisherValue) (fault : Fault)
@@ -166,17 +168,28 @@ first-fault p input sent s left after fault goes first = by_kind (first goes.res
     by_kind (inr e) = inr (goes.fault ∙ e.0, e.1)
 
 -- some were, and no more
-pub some-sent : (p : PublisherValue) (input : List ℕ) (first : LinkValue) (s : PublisherValue) (left : Option (List ℕ)) (mid : LinkValue) (accepted : Bool)
-    → SoFar p input first s left mid accepted → AppendsPrefix first.written mid.written (text_to_come p input)
-some-sent p input first s left mid accepted h = (
+pub some-sent : (p : PublisherValue) (input : List ℕ) (first : LinkValue) (s : PublisherValue) (left : Option (List ℕ)) (mid : LinkValue) (accepted : Bool) (n : ℕ)
+    → SoFar p input first s left mid accepted n → AppendsPrefix first.written mid.written (text_to_come p input)
+some-sent p input first s left mid accepted n h = (
   concat h.sent,
   concat (messages_to_come s h.goes.rest),
   ap concat h.goes.messages ∙ concat-append h.sent (messages_to_come s h.goes.rest),
   h.exchanged.sent,
 )
 
-module _ (p : PublisherValue) (input : List ℕ) (first : LinkValue) (s : PublisherValue) (left : Option (List ℕ)) (mid : LinkValue) (accepted : Bool)
-    (so_far : SoFar p input first s left mid accepted)
+-- too many were
+pub many-sent : (p : PublisherValue) (input : List ℕ) (first : LinkValue) (s : PublisherValue) (left : Option (List ℕ)) (mid : LinkValue) (accepted : Bool) (n m : ℕ)
+    → SoFar p input first s left mid accepted n → n ≡ m → HasSent m p input first mid
+many-sent p input first s left mid accepted n m h e = record {
+  sent = h.sent;
+  later = messages_to_come s h.goes.rest;
+  all = h.goes.messages;
+  exchanged = h.exchanged;
+  are = h.are ∙ e;
+}
+
+module _ (p : PublisherValue) (input : List ℕ) (first : LinkValue) (s : PublisherValue) (left : Option (List ℕ)) (mid : LinkValue) (accepted : Bool) (n : ℕ)
+    (so_far : SoFar p input first s left mid accepted n)
     (after : PublisherValue) (then : Option (List ℕ)) (message : MessageValue)
     (taken : (rest : List ℕ) → left ≡ Some rest → IsTaken s rest after then message) where
   abbrev one : IsTaken s so_far.goes.rest after then message
@@ -266,7 +279,7 @@ module _ (p : PublisherValue) (input : List ℕ) (first : LinkValue) (s : Publis
             last-by (said.Part duration finishes) h = absurd (cc)
 
         -- it wasn't
-        pub message-more : ends message.said ≡ false → SoFar p input first after then last true
+        pub message-more : ends message.said ≡ false → SoFar p input first after then last true (n + 1)
         message-more other =
             let e = more-by message.said other in record {
               sent = so_far.sent ++ message.bytes ∷ [];
@@ -282,6 +295,7 @@ module _ (p : PublisherValue) (input : List ℕ) (first : LinkValue) (s : Publis
               };
               exchanged = with_it;
               some = sym (some-by (length (so_far.sent ++ message.bytes ∷ [])) (length-append so_far.sent (message.bytes ∷ [])));
+              are = length-append so_far.sent (message.bytes ∷ []) ∙ ap (λ k. k + 1) so_far.are;
             }
           where
             more-by : (w : Said) → ends w ≡ false

@@ -55,7 +55,7 @@ HasStopped before after failures failures_then = (after ≡ looked_at 1 1 [] bef
 abbrev pub IsCut : LinkValue → LinkValue → Type 0
 IsCut before after = ((reads : ℕ) × (came : List ℕ) × (after.inward ≡ looked_at reads 1 came before.inward)) ⊎ (before.failures < after.failures)
 
--- no line that says anything came: one that says nothing, or 64 bytes without an end
+-- no answer came: a line that says nothing, or 64 bytes
 abbrev pub IsBad : Inward → Inward → Type 0
 IsBad before after = (came : List ℕ) × HasCome came before after × (((line : List ℕ) × (came ≡ ended line) × IsNone line) ⊎ (length came ≡ 64))
 

@@ -1,5 +1,5 @@
 -- Why an encoder's bytes aren't published.
-use Rattle.std.specs.Prelude.{⊤}
+use Rattle.std.specs.Prelude.{ℕ, ◌-◌, ◌^◌, ⊤}
 use Rattle.ll_mp4.specs.declared.fault.Fault.{Fault}
 use Rattle.ll_mp4.specs.declared.fault.Fault.TheVariants as input
 use Rattle.ll_push.specs.declared.fault.PushFault.{PushFault}
@@ -23,3 +23,7 @@ IsOfSource Read = ⊤
 IsOfSource Memory = ⊤
 IsOfSource Endless = ⊤
 IsOfSource other = ⊥
+
+-- how many reads, messages or connections without an end are told as Endless
+abbrev pub most : ℕ
+most = 2 ^ 64 - 1

@@ -1,7 +1,8 @@
 -- How publishing went on, connection by connection.
 use Rattle.std.specs.Prelude.{◌≡◌, ◌⊎◌, ◌<◌, ◌+◌, ℕ, Bool, true, false, List, Option, Some, None}
 use Rattle.ll_push.specs.Exchanges.{LinkValue}
-use Rattle.ll_push.specs.Publishing.{HasFailed, PublisherValue, IsStep}
+use Rattle.ll_push.specs.Faults.{most}
+use Rattle.ll_push.specs.Publishing.{HasFailed, HasSent, PublisherValue, IsStep}
 use Rattle.ll_push.specs.declared.connections.Ending.{Ending}
 use Rattle.ll_push.specs.declared.connections.Ending.TheVariants as ending
 use Rattle.ll_push.specs.declared.fault.PushFault.{PushFault}
@@ -33,6 +34,20 @@ pub data HasGoneOn {S P : Type 0} (gives : S → Option P → S → Type 0) (val
       → HasGoneOn gives value start input origin p rest before idle → idle < most_idle → gives before (Some link) after
       → IsStep p rest (value link) q (Some later) (value link_then) (step.Gone accepted)
       → HasGoneOn gives value start input origin q later after (idle_after accepted idle)
+
+-- how many connections there were
+abbrev pub connections : {S P : Type 0} {gives : S → Option P → S → Type 0} {value : P → LinkValue} {start : PublisherValue} {input : List ℕ} {origin : S}
+    {p : PublisherValue} {rest : List ℕ} {o : S} {idle : ℕ} → HasGoneOn gives value start input origin p rest o idle → ℕ
+connections AtStart = 0
+connections (Another p q rest later before after link link_then idle accepted earlier few given gone) = connections earlier + 1
+
+-- On one more connection, or over all of them, it went on for too long.
+pub data HasLasted {S P : Type 0} (gives : S → Option P → S → Type 0) (value : P → LinkValue) (start : PublisherValue) (input : List ℕ) (origin : S)
+    (after : S) : Type 0 where
+  OnOne : (p : PublisherValue) (rest : List ℕ) (before : S) (link link_then : P) (idle : ℕ) → HasGoneOn gives value start input origin p rest before idle
+      → gives before (Some link) after → HasSent most p rest (value link) (value link_then) → HasLasted gives value start input origin after
+  OnAll : (p : PublisherValue) (rest : List ℕ) (idle : ℕ) (went : HasGoneOn gives value start input origin p rest after idle) → connections went ≡ most
+      → HasLasted gives value start input origin after
 
 -- After such connections the source gave one that went so far, which is the last one.
 pub record HasEnded {S P : Type 0} (gives : S → Option P → S → Type 0) (value : P → LinkValue) (start : PublisherValue) (input : List ℕ) (origin : S)

@@ -98,6 +98,14 @@ pub record HasFailed (before : PublisherValue) (input : List ℕ) (first last : 
   pub exchanged : AreExchanged sent first mid
   pub why : IsUnanswered message mid last fault
 
+-- So many messages were sent and accepted.
+pub record HasSent (many : ℕ) (before : PublisherValue) (input : List ℕ) (first last : LinkValue) : Type 0 where
+  pub sent : List (List ℕ)
+  pub later : List (List ℕ)
+  pub all : messages_to_come before input ≡ sent ++ later
+  pub exchanged : AreExchanged sent first last
+  pub are : length sent ≡ many
+
 -- What one connection comes to. All messages were sent on it and accepted, and no fault ends them; or those before one that is refused; or those before one of
 -- which nothing was taken.
 abbrev pub IsStep : PublisherValue → List ℕ → LinkValue → PublisherValue → Option (List ℕ) → LinkValue → Step → Type 0

@@ -1,11 +1,11 @@
 //! An encoder's bytes, published on as many connections as it takes.
-ghost use Rattle.std.specs.Prelude.{◌≡◌, ◌<◌, ℕ, List, Some, IfOk, IsErrOf, OnOk};
+ghost use Rattle.std.specs.Prelude.{◌≡◌, ◌⊎◌, ◌+◌, ◌<◌, ◌≤◌, ℕ, List, Some, IfOk, IsErrOf, OnOk};
 ghost use Rattle.ll_push.specs.Answers.{EndsByAnswer};
 ghost use Rattle.ll_mp4.specs.declared.fault.Fault.{Fault};
 ghost use Rattle.ll_push.specs.Exchanges.{link_value};
-ghost use Rattle.ll_push.specs.Faults.{IsOfLink};
+ghost use Rattle.ll_push.specs.Faults.{IsOfLink, most};
 ghost use Rattle.ll_push.specs.History as spec;
-ghost use Rattle.ll_push.specs.History.{HasBroken, HasEnded, HasGivenUp, most_idle, step_of};
+ghost use Rattle.ll_push.specs.History.{HasBroken, HasEnded, HasGivenUp, HasLasted, most_idle, step_of};
 ghost use Rattle.ll_push.specs.Meaning.{named};
 ghost use Rattle.ll_push.specs.declared.fault.PushFault.{PushFault};
 ghost use Rattle.ll_push.specs.Publishing.{IsFirstFault, PublisherValue, at_start};
@@ -50,6 +50,9 @@ pub fn push<R: Reader, S: Source, W: Watch>(
         → HasBroken S.next_gives (link_value S.Peer.written S.Peer.inward S.Peer.failures) (at_start (named place.entry) pace) input origin.old origin.new fault }
     ensures refused { (input : List ℕ) (fault : Fault) → R.left source.old ≡ Some input → IsErrOf result (PushFault.Input fault)
         → (then : PublisherValue) × IsFirstFault (at_start (named place.entry) pace) input then fault }
+    ensures endless { (input : List ℕ) → R.left source.old ≡ Some input → IsErrOf result PushFault.Endless
+        → (R.reads source.old + most ≤ R.reads source.new)
+        ⊎ HasLasted S.next_gives (link_value S.Peer.written S.Peer.inward S.Peer.failures) (at_start (named place.entry) pace) input origin.old origin.new }
     ensures read_failed { IsErrOf result PushFault.Read → R.failures source.old < R.failures source.new }
     ensures steady { OnOk result (R.failures source.new ≡ R.failures source.old) }
 {

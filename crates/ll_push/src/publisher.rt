@@ -1,16 +1,16 @@
 //! An encoder's bytes, published on one connection as far as it goes.
-ghost use Rattle.std.specs.Prelude.{◌≡◌, ◌≢◌, ◌<◌, ℕ, List, Some, None, IfErr, IfOk, IsErrOf, MatchResult, OnErr, OnOk, false, true};
+ghost use Rattle.std.specs.Prelude.{◌≡◌, ◌≢◌, ◌⊎◌, ◌+◌, ◌<◌, ◌≤◌, ℕ, List, Some, None, IfErr, IfOk, IsErrOf, MatchResult, OnErr, OnOk, false, true};
 ghost use Rattle.std.specs.Io.KnownBytes.{Appends};
 ghost use Rattle.ll_device.specs.Written.{AppendsPrefix};
 ghost use Rattle.ll_mp4.specs.declared.fault.Fault.{Fault};
 ghost use Rattle.ll_push.specs.declared.fault.PushFault.{PushFault};
 ghost use Rattle.ll_push.specs.Answers.{StepsByAnswer};
 ghost use Rattle.ll_push.specs.Exchanges.{IsGone, IsUnanswered, link_value};
-ghost use Rattle.ll_push.specs.Faults.{IsOfLink, IsOfSource};
+ghost use Rattle.ll_push.specs.Faults.{IsOfLink, IsOfSource, most};
 ghost use Rattle.ll_push.specs.Messages as spec;
 ghost use Rattle.ll_push.specs.Meaning.{named};
 ghost use Rattle.ll_push.specs.Next.{FrontGives, IsEndFault, IsFaultNext, IsFed, IsFrontFault, IsNext, IsOwn, IsSent, IsTaken, is_refusal};
-ghost use Rattle.ll_push.specs.Publishing.{HasFailed, IsFirstFault, IsStep, at_start, text_to_come};
+ghost use Rattle.ll_push.specs.Publishing.{HasFailed, HasSent, IsFirstFault, IsStep, at_start, text_to_come};
 
 use crate::answer::{Answer, read_answer};
 use crate::fault::PushFault;
@@ -96,6 +96,9 @@ impl<'a> Publisher<'a> {
         ensures steady { OnOk result (R.failures source.new ≡ R.failures source.old) }
         ensures unanswered { (input : List ℕ) (fault : PushFault) → R.left source.old ≡ Some input → IsErrOf result fault → IsOfLink fault
             → HasFailed self.old input (link_value P.written P.inward P.failures link.old) (link_value P.written P.inward P.failures link.new) fault }
+        ensures endless { (input : List ℕ) → R.left source.old ≡ Some input → IsErrOf result PushFault.Endless
+            → (R.reads source.old + most ≤ R.reads source.new) ⊎ HasSent most self.old input (link_value P.written P.inward P.failures link.old) (link_value P.written P.inward P.failures link.new) }
+        ensures later { R.reads source.old ≤ R.reads source.new }
         ensures told { IfOk result StepsByAnswer }
         ensures connected { IfErr result (λ fault. fault ≢ PushFault.Connect) }
     {
@@ -126,6 +129,8 @@ impl<'a> Publisher<'a> {
         ensures read_failed { IsErrOf result PushFault.Read → R.failures source.old < R.failures source.new }
         ensures steady { OnOk result (R.failures source.new ≡ R.failures source.old) }
         ensures own { IfErr result IsOfSource }
+        ensures endless { IsErrOf result PushFault.Endless → R.reads source.old + most ≤ R.reads source.new }
+        ensures later { R.reads source.old ≤ R.reads source.new }
     {
         match self.unsent.take() {
             Some(message) => Ok(message),
@@ -146,6 +151,8 @@ fn next_message<R: Reader>(
     ensures read_failed { IsErrOf result PushFault.Read → R.failures source.old < R.failures source.new }
     ensures steady { OnOk result (R.failures source.new ≡ R.failures source.old) }
     ensures own { IfErr result IsOfSource }
+    ensures endless { IsErrOf result PushFault.Endless → R.reads source.old + most ≤ R.reads source.new }
+    ensures later { R.reads source.old ≤ R.reads source.new }
 {
     for _ in 0..u64::MAX {
         if let Some(message) = front_message(alloc, place, splitter)? {
@@ -188,6 +195,7 @@ fn front_message(
 
 /// Reads once more, and answers whether that gave anything.
 fn read_more<R: Reader>(source: &mut R, splitter: &mut Splitter) -> Result<bool, PushFault>
+    ensures once { R.reads source.new ≡ R.reads source.old + 1 }
     ensures fed { IfOk result (IsFed splitter.old (R.left source.old) splitter.new (R.left source.new)) }
     ensures faults { IfErr result (λ fault. fault ≢ PushFault.Memory → (fault ≡ PushFault.Read) × (R.failures source.old < R.failures source.new)) }
     ensures steady { OnOk result (R.failures source.new ≡ R.failures source.old) }

@@ -1,5 +1,5 @@
 -- Each message is the first of those that are told.
-use Rattle.std.proofs.Common.{◌∙◌}
+use Rattle.std.proofs.Common.{◌∙◌, arith}
 use Rattle.ll_push.specs.Meaning.{named}
 use Rattle.ll_push.specs.declared.fault.PushFault.TheVariants.{Input}
 use Rattle.ll_push.proofs.NextLemmas.{fault-found, next-found, same-more}
@@ -23,5 +23,6 @@ loop-preserved g c = record {
       λ input l. same-more (named c.args.place.now) c.args.splitter.now input c.loop.splitter c.front_message.new.splitter c.read_more.new.splitter (g.R.Reader.left c.loop.source)
       (g.R.Reader.left c.read_more.new.source) c.in_ok-message.field-0 c.in_ok-read_more.field-0 (c.loop.invariant.same input l) c.in_ok-message.ensures.piece
       c.in_default.is c.in_ok-read_more.ensures.fed c.if-not-branch.false;
+  reads = omega (arith, c.loop.invariant.reads, c.in_ok-read_more.ensures.once);
   steady = c.in_ok-read_more.ensures.steady ∙ c.loop.invariant.steady;
 }
