@@ -1,5 +1,5 @@
 -- The replies of a release, found by their tickets.
-use Rattle.std.proofs.Common.{◌≡◌, ℕ, ◌<◌, ◌+◌, ◌==◌, List, [], ◌∷◌, Bool, true, false, cond, Option, Some, None, filter, find, is_some, length, map, option_and_then, option_map, refl, ap, ap₂, sym, ◌∙◌, subst, true≢false, arith, nat_cmp}
+use Rattle.std.proofs.Common.{◌≡◌, ℕ, ◌+◌, ◌==◌, List, [], ◌∷◌, Bool, true, false, cond, Option, Some, None, filter, find, is_some, length, map, option_and_then, option_map, refl, ap, ap₂, sym, ◌∙◌, subst, true≢false, arith, nat_cmp}
 use Rattle.std.proofs.lemmas.Bool.Decides.{nat_tests}
 use Rattle.std.proofs.lemmas.Option.{none-some}
 use Rattle.std.specs.BTreeMap.{is_at}

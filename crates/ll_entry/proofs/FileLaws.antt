@@ -1,5 +1,5 @@
 -- The names of files of media are read again, and what is read is spelled so.
-use Rattle.std.proofs.Common.{◌≡◌, ℕ, ◌<◌, ◌≤◌, ◌^◌, ◌++◌, ◌&&◌, List, [], ◌∷◌, Bool, true, false, Option, Some, None, refl, ap, ap₂, sym, ◌∙◌, subst, append_assoc, arith, codes, decimal, bytes_eq, option_and_then, option_map, if◌then◌else◌}
+use Rattle.std.proofs.Common.{◌≡◌, ℕ, ◌≤◌, ◌++◌, ◌&&◌, List, [], ◌∷◌, Bool, true, false, Option, Some, None, refl, ap, ap₂, sym, ◌∙◌, subst, append_assoc, arith, codes, decimal, bytes_eq, option_and_then, option_map, if◌then◌else◌}
 use Rattle.std.proofs.lemmas.Bool.{and_from}
 use Rattle.std.proofs.lemmas.Fmt.{digits_decimal}
 use Rattle.std.proofs.lemmas.List.Splits.{join_with_byte-slice_split}
@@ -8,7 +8,7 @@ use Rattle.std.specs.Char.{is_ascii_digit}
 use Rattle.std.specs.List.{join_with_byte}
 use Rattle.ll_attr.specs.Words.{after, pieces_at}
 use Rattle.ll_attr.proofs.Digits.{digits_model, list_all-is_ascii_digit}
-use Rattle.ll_directive.specs.Files.{file_name, media_by, media_file, number_after, number_in, one_number, two_numbers}
+use Rattle.ll_directive.specs.Files.{file_name, media_by, media_file, number_after, number_in}
 use Rattle.ll_format.specs.Words.{is_one_line}
 use Rattle.ll_format.proofs.FormatLaws.{WordLaws, key_again, key_takes, lacks}
 use Rattle.ll_format.proofs.WordLaws.{lacks_from, number-laws}

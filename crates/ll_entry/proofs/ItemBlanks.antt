@@ -15,9 +15,8 @@ use Rattle.ll_window.proofs.StepLemmas.{kept_of}
 use Rattle.ll_window.specs.Compact.{clock, compact}
 use Rattle.ll_window.specs.Numbers.{last_place, numbered_parts}
 use Rattle.ll_window.specs.Refusal as window
-use Rattle.ll_window.specs.Rows.{Row, broken_in, lasting, rows}
+use Rattle.ll_window.specs.Rows.{Row, rows}
 use Rattle.ll_window.specs.Segments.{duration, finished_by, own, split, unfinished_by}
-use Rattle.ll_window.specs.Window as shown
 use Rattle.ll_window.specs.declared.part_position.PartPosition.{PartPosition}
 
 -- ---- one rendition's items

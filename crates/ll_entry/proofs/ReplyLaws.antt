@@ -13,7 +13,7 @@ use Rattle.ll_verdict.specs.declared.reply.Outcome.{Outcome}
 use Rattle.ll_verdict.specs.declared.reply.Outcome.TheVariants.{Text, Media, NotFound, TooFar, Busy, Timeout}
 use Rattle.ll_item.specs.declared.skip_kind.SkipKind.{SkipKind}
 use Rattle.ll_item.specs.declared.skip_kind.SkipKind.TheVariants.{Yes, V2}
-use Rattle.ll_entry.specs.Replies.{most, count, count_alone, counted_reply, counts, name, no_word, with_key, or_dash, or_dash_text, WithinDash, kind, kind_name, update, playlist, spaced, outcome, outcome_text, OutcomeWithin, or_held, or_held_text, HeldWithin}
+use Rattle.ll_entry.specs.Replies.{most, count, count_alone, counts, name, no_word, with_key, or_dash, or_dash_text, WithinDash, kind, kind_name, update, playlist, spaced, outcome, outcome_text, OutcomeWithin, or_held, or_held_text, HeldWithin}
 use Rattle.ll_entry.specs.declared.version.Version.{Version}
 use Rattle.ll_entry.specs.declared.version.Version.TheVariants.{One, Two}
 

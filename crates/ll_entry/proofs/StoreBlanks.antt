@@ -6,7 +6,6 @@ use Rattle.std.specs.List.{concat}
 use Rattle.ll_item.specs.Items.{blank}
 use Rattle.ll_item.specs.Media.{zeros}
 use Rattle.ll_item.specs.Settings.{Configuration}
-use Rattle.ll_item.specs.Told.{Told}
 use Rattle.ll_item.specs.declared.item.Item.{Item}
 use Rattle.ll_item.specs.declared.item.Item.TheVariants as item
 use Rattle.ll_item.specs.declared.part.Part.{Part}

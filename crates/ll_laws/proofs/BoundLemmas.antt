@@ -41,7 +41,10 @@ some_micro c n lasts ends micros e = grind (arith, nat_tests, e)
 
 -- the next part begins no sooner than the last one ends
 begins : (ps : List Part) (o : Option ℕ) (time : ℕ) → time + duration ps ≤ restarted o (time + duration ps) → time + duration ps ≤ clock_by ps o time
-begins [] o time le = let same : time + 0 ≡ time = omega arith in subst (λ t. t ≤ restarted o t) same le
+begins [] o time le =
+    let same : time + 0 ≡ time = omega arith in
+    let h = subst (λ t. t ≤ restarted o t) same le in
+    omega (arith, h)
 begins (p ∷ ps) o time le = omega arith
 
 -- with one more part they end where that one does

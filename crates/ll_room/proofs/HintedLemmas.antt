@@ -1,6 +1,6 @@
 -- A request for media that waits, waits for the next part of its rendition or for one that can't come any more; and what an item brings it is that
 -- part's bytes, or none.
-use Rattle.std.proofs.Common.{◌≡◌, ◌≢◌, ℕ, ◌+◌, ◌≤◌, ◌==◌, List, [], ◌∷◌, ◌++◌, Bool, true, false, not, ◌&&◌, ◌||◌, cond, nat_le, nat_lt, Option, Some, None, is_none, filter, map, length, refl, ap, ap₂, sym, subst, ◌∙◌, true≢false, arith, option_map}
+use Rattle.std.proofs.Common.{◌≡◌, ◌≢◌, ℕ, ◌+◌, ◌≤◌, ◌==◌, List, [], ◌∷◌, ◌++◌, Bool, true, false, ◌&&◌, ◌||◌, cond, nat_le, nat_lt, Option, Some, None, is_none, filter, map, length, refl, ap, ap₂, sym, subst, ◌∙◌, true≢false, arith, option_map}
 use Rattle.std.proofs.lemmas.Bool.Decides.{nat_tests}
 use Rattle.ll_directive.specs.Files.{is_playlist}
 use Rattle.ll_directive.specs.Targets.{WantValue, awaits}

@@ -1,5 +1,5 @@
 -- Where a rendition stands is told by what is kept of it.
-use Rattle.std.proofs.Common.{◌≡◌, ℕ, ◌<◌, ◌≤◌, List, Option, Some, None, ap, ap₂, sym, ◌∙◌, length, slice_get, nat_lt, true, arith}
+use Rattle.std.proofs.Common.{◌≡◌, ℕ, ◌<◌, ◌≤◌, List, Some, ap, ap₂, sym, ◌∙◌, length, slice_get, arith}
 use Rattle.std.proofs.lemmas.Bool.Decides.{nat_tests}
 use Rattle.ll_page.proofs.RenditionLemmas.{length-renditions, rendition-got}
 use Rattle.ll_rendition.specs.declared.rendition.Rendition.{Rendition}
