@@ -51,7 +51,8 @@ start tests/build_lines.sh
 # (With RT_JOBS a run doesn't plan several times the memory that a check takes, which would have fewer crates side by side.)
 lanes=${RT_JOBS:-$(nproc)}
 begin nice -n 5 tests/try_rows.sh 10
-prove_chain "$room" crates.txt </dev/null >/dev/null 2>&1
+# (a line for each crate, so that who waits sees that it goes on)
+prove_chain "$room" crates.txt </dev/null > >(tell "$(grep -c '^[a-z]' crates.txt)") 2>&1
 echo "== rt ci"
 {
     env RT_JOBS="$lanes" nice -n 5 rt ci 2>&1 | tee "$room/proofs"

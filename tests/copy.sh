@@ -100,3 +100,36 @@ without() {
             else print $1
         }'
 }
+
+# tell WHOLE: of what runs of `rt ci` in folders of $room say, a line for each crate that is proved: how many functions it has, how long it took, and how many of how
+# many that are.
+tell() {
+    local crate= count=0 line
+    local -A functions told
+    while IFS= read -r line; do
+        case $line in
+        '== '*) crate=${line#== } ;;
+        'logic=proved functions='*)
+            line=${line#*functions=} functions[$crate]=${line%% *}
+            ;;
+        'rt: '*' proved')
+            line=${line#rt: } crate=${line% proved}
+            [ -n "${told[$crate]-}" ] && continue
+            count=$((count + 1)) told[$crate]=1
+            echo "$crate: ${functions[$crate]-} functions in $(seconds "$crate") s ($count of $1)"
+            ;;
+        'rt: '*' is kept: '*)
+            line=${line#rt: } crate=${line%% *}
+            [ -n "${told[$crate]-}" ] && continue
+            count=$((count + 1)) told[$crate]=1
+            echo "$crate: proved before ($count of $1)"
+            ;;
+        *'NOT PROVED'* | 'rt: FAILED'*) echo "$line" ;;
+        esac
+    done
+}
+
+# seconds CRATE: how long ago its proof began, which is when its folder `out` was made.
+seconds() {
+    echo $(($(date +%s) - $(stat -c %W "$room"/*/crates/"$1"/out | sort -n | head -n 1)))
+}
