@@ -42,6 +42,7 @@ bench: kit
 	@$(HERE)bench/apply.sh
 	@$(HERE)bench/check.sh
 	@$(HERE)bench/growth.sh
+	@$(HERE)bench/releases.sh
 	@$(HERE)bench/waiting.sh
 	@$(HERE)bench/connections.sh
 	@$(HERE)bench/serve.sh
