@@ -188,7 +188,7 @@ fn publish_to<L: Ledgers, C, G: Gate, K: Sink, R: Wait>(
     requires known { slice_get service.now.hub.now channel ≡ Some settings.now }
     ensures own { IsOwn result }
     ensures refused { (fault : ItemFault) → item_in settings.now text.now payload.now ≡ Err fault → result ≡ Ok (Err (item_refusal fault), None) }
-    ensures full { IfOk result (λ told. told.0 ≡ Err Refusal.RecordFull → told.1 ≡ Some channel) }
+    ensures full { IfOk result (λ told. told.0 ≡ Err (Refusal.Rule PublishFault.RecordFull) → told.1 ≡ Some channel) }
     ensures told { IfOk result (λ told. IsAnswerAt settings.now channel text.now payload.now told.0) }
 {
     let first = publish_once(service, pass, channel, settings, text, payload)?;
@@ -208,8 +208,8 @@ fn publish_again<L: Ledgers, C, G: Gate, K: Sink, R: Wait>(
     requires known { slice_get service.now.hub.now channel ≡ Some settings.now }
     requires told { IsAnswerAt settings.now channel text.now payload.now first }
     ensures own { IsOwn result }
-    ensures kept { first ≢ Err Refusal.RecordFull → result ≡ Ok (first, None) }
-    ensures full { IfOk result (λ told. told.0 ≡ Err Refusal.RecordFull → told.1 ≡ Some channel) }
+    ensures kept { first ≢ Err (Refusal.Rule PublishFault.RecordFull) → result ≡ Ok (first, None) }
+    ensures full { IfOk result (λ told. told.0 ≡ Err (Refusal.Rule PublishFault.RecordFull) → told.1 ≡ Some channel) }
     ensures told { IfOk result (λ told. IsAnswerAt settings.now channel text.now payload.now told.0) }
 {
     if !is_full(&first) {
@@ -230,7 +230,7 @@ fn refusal_in(answer: &Published) -> Option<Refusal> {
 
 /// Whether an item was refused since the record of its channel is full.
 fn is_full(answer: &Published) -> bool
-    ensures { Decides result (answer.now ≡ Err Refusal.RecordFull) }
+    ensures { Decides result (answer.now ≡ Err (Refusal.Rule PublishFault.RecordFull)) }
 {
     match answer {
         Ok(_) => false,
