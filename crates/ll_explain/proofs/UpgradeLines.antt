@@ -23,10 +23,10 @@ use Rattle.ll_entry.proofs.EntryLines.{counted-again, read_again}
 use Rattle.ll_entry.proofs.ReplyLaws.{count-lacks, count-laws, name-lacks, name-laws, or_dash-lacks, or_dash-laws, or_held-laws, outcome-laws, spaced-laws, update-lacks, update-laws, update-within}
 use Rattle.ll_entry.proofs.ToldLemmas.{told-right, whole-entry}
 use Rattle.ll_entry.specs.Chain.{Chain, entry_at}
-use Rattle.ll_entry.specs.Entries.{ask_fields, ask_in, ask_of, collect_fields, counted, collect_of, entry_by, entry_in, is_init_line, is_part_line, item_text, media_in, publish_by, published, short_in, want_by}
+use Rattle.ll_entry.specs.Entries.{ask_fields, ask_in, ask_of, collect_fields, counted, collect_of, entry_by, entry_in, is_finish_line, is_init_line, is_part_line, is_timed_break, item_text, media_in, publish_by, published, short_in, want_by}
 use Rattle.ll_entry.specs.Frame.{last_line}
 use Rattle.ll_entry.specs.Blank.{blank_entry}
-use Rattle.ll_entry.specs.Lines.{AwaitedWithin, IsSpelled, WantWithin, WhatWithin, asked_line, counted_line, entry_line, msn_of, part_of}
+use Rattle.ll_entry.specs.Lines.{AwaitedWithin, IsSpelled, WantWithin, WhatWithin, asked_line, entry_line, msn_of, part_of}
 use Rattle.ll_entry.specs.Replies.{HeldWithin, OutcomeWithin, WithinDash, asked_for, awaited_of, count, most, or_dash, or_dash_text, or_held_text, outcome_text, told_in, update, with_key}
 use Rattle.ll_entry.specs.Told.{as_told, entry_after}
 use Rattle.ll_entry.specs.declared.entry.Recorded.{Recorded}
@@ -36,6 +36,7 @@ use Rattle.ll_entry.specs.declared.version.Version.TheVariants.{One, Two}
 use Rattle.ll_format.proofs.FormatLaws.{FormatLaws, bind_some, guarded, key_again, key_takes, lacks, some_is, to_end-laws, up_to-laws}
 use Rattle.ll_format.proofs.WordLaws.{lacks_from, number-lacks}
 use Rattle.ll_format.specs.Format.{◌>>=◌, up_to}
+use Rattle.ll_item.specs.ItemLines.{counted_line}
 use Rattle.ll_item.specs.Items.{item_in}
 use Rattle.ll_item.specs.Media.{zeros}
 use Rattle.ll_item.specs.Names.{is_name, is_name_byte}
@@ -280,7 +281,11 @@ media_again text true e other =
 media_again text false e other =
     ap (item_text Two) (append-nil text) ∙ ap (λ b. read_if b (is_init_line text) text) e ∙ ap (λ b. read_if false b text) other
 
--- in format 1 a line that is read as an item is no initialization section's, and is the item's own
+none_first : (a b d : Bool) → (a || b || d) ≡ false → a ≡ false
+none_first true b d e = cc
+none_first false b d e = refl
+
+-- in format 1 a line that is read as an item is none of those that it doesn't know, and is the item's own
 one_text : (c : Configuration) (text : List ℕ) (entry : Recorded) (b : Bool) → publish_by c (if b then None else Some (text, 0)) ≡ Ok entry
     → (b ≡ false) × (publish_by c (Some (text, 0)) ≡ Ok entry)
 one_text c text entry true h = cc
@@ -294,11 +299,11 @@ publish-again : (c : Configuration) (line text : List ℕ) (item : Item) → lin
     → entry_in Two c (line ++ media_text line) ≡ Ok (recorded.Publish item)
 publish-again c line text item is h =
     let part = is_part_line text in
-    let own = one_text c text (recorded.Publish item) (is_init_line text) h in
+    let own = one_text c text (recorded.Publish item) (is_init_line text || is_finish_line text || is_timed_break text) h in
     ap (λ l. entry_in Two c (l ++ media_text l)) is
     ∙ ap (λ o. entry_in Two c (codes "P " ++ (text ++ media_if (option_map_or is_part_line o false)))) (key_again (codes "P ") text)
     ∙ after_key c (text ++ media_if part)
-    ∙ ap (publish_by c) (media_again text part refl own.0)
+    ∙ ap (publish_by c) (media_again text part refl (none_first (is_init_line text) (is_finish_line text) (is_timed_break text) own.0))
     ∙ own.1
 
 -- ---- the line of each entry in format 2
