@@ -17,7 +17,7 @@ pub(crate) fn add_answer(
     let ranges = &mut bench.ranges;
     match question {
         "attributes" => add_tests(alloc, told, ranges, input),
-        "id" => write!(told, "{:?}", test_add(alloc, ranges, 0, input, GOOD)),
+        "id" => add_result(told, test_add(alloc, ranges, 0, input, GOOD)),
         "copy" => {
             add_change(alloc, told, ranges, input)?;
             add_copy(alloc, told, ranges, number(input, 3))
@@ -37,10 +37,15 @@ fn add_change(
     input: &str,
 ) -> Result<(), AllocError> {
     let (word, id) = (column(input, 0), column(input, 1));
-    let answer = change(alloc, ranges, word, number(input, 2), id);
+    add_result(told, change(alloc, ranges, word, number(input, 2), id))?;
+    told.push(' ')
+}
+
+/// Adds the result of a change or of a test.
+fn add_result(told: &mut String, answer: Result<(), RangeError>) -> Result<(), AllocError> {
     match answer {
-        Ok(()) => told.push_str("Ok(()) "),
-        Err(error) => write!(told, "Err({error}) "),
+        Ok(()) => told.push_str("Ok(())"),
+        Err(error) => write!(told, "Err({error})"),
     }
 }
 
@@ -190,7 +195,11 @@ fn add_tests(
     let text = format!(in alloc; "{more},{GOOD}")?;
     let alone = test_add(alloc, ranges, 0, "a", more);
     let with_start = test_add(alloc, ranges, 0, "a", text.as_str());
-    write!(told, "({alone:?}, {with_start:?})")
+    told.push('(')?;
+    add_result(told, alone)?;
+    told.push_str(", ")?;
+    add_result(told, with_start)?;
+    told.push(')')
 }
 
 /// An id, and whether it may be added.
