@@ -18,6 +18,9 @@ use Rattle.ll_locked.specs.declared.fault.HubFault.{HubFault}
 use Rattle.ll_locked.specs.declared.fault.HubFault.TheVariants as hub
 use Rattle.ll_locked.specs.declared.fault.RoomFault.TheVariants as room
 use Rattle.ll_link.specs.declared.fault.LinkFault.TheVariants.{Hub}
+use Rattle.ll_hub.specs.Passes.{PassValue}
+use Rattle.ll_room.specs.StampedValue.{StampedValue}
+use Rattle.ll_link.specs.Heard.{heard_at, heard_in, number_told}
 use Rattle.ll_link.specs.Answers.{IsReason, IsRuledOut, refused_by, refused_in, refused_item}
 
 pub refused_item-some : (read : Result Item ItemFault) (reason : Refusal) → refused_item read ≡ Some reason
@@ -52,11 +55,12 @@ named-at channels name place c e =
 module _ (c : Configuration) (place : ℕ) (text media : List ℕ) (channels : List Configuration) (found : Item) (seen : List ℕ) where
   module _ (known : slice_get channels place ≡ Some c) (read : item_in c text media ≡ Ok found) where
     ruled-by : (reason : Refusal) (fault : PublishFault) → refusal.Rule fault ≡ reason → IsItemRefused channels place found seen fault → reason ≢ out_of_memory
-        → IsRuledOut c text media reason
+        → IsRuledOut c place seen text media reason
     ruled-by reason fault is refused other = record {
       item = found;
       read = read;
       seen = refused.seen;
+      pass = refused.known.pass;
       fault = fault;
       rule =
           subst (λ s. IsRefused s found refused.seen fault) (same_Some refused.settings c (sym refused.known.channel ∙ known))
@@ -69,7 +73,7 @@ module _ (c : Configuration) (place : ℕ) (text media : List ℕ) (channels : L
     never reason e = absurd (cc)
 
     pub answer-refused : (fault : HubFault) (reason : Refusal) → Ok reason ≡ refused_by fault → IsPublishFault channels place found seen fault
-        → IsReason (refused_item (item_in c text media)) (IsRuledOut c text media) reason
+        → IsReason (refused_item (item_in c text media)) (IsRuledOut c place seen text media) reason
     answer-refused (hub.Room other (room.Publish fault)) reason e p not =
         inr (ruled-by reason fault (let same : Ok reason ≡ Ok (refusal.Rule fault) = e in cc) p.1 not)
     answer-refused (hub.Room other (room.Ask fault)) reason e p not = never reason e
@@ -79,3 +83,13 @@ module _ (c : Configuration) (place : ℕ) (text media : List ℕ) (channels : L
     answer-refused hub.Stranger reason e p not = never reason e
     answer-refused hub.Short reason e p not = never reason e
     answer-refused hub.Memory reason e p not = never reason e
+
+-- a refusal changes nothing of a pass
+pub heard-refused : (found : Option (ℕ × Configuration)) (reason : Refusal) (pass : PassValue) → pass ≡ heard_in found (Err reason) pass
+heard-refused None reason pass = refl
+heard-refused (Some f) reason pass = refl
+
+-- where the first answer is a refusal, the pass is as it was before it
+pub heard-nothing : (place : ℕ) (first : Result (StampedValue ℕ) Refusal) (reason : Refusal) (pass before : PassValue) → first ≡ Err reason
+    → pass ≡ heard_at place (number_told first) before → pass ≡ before
+heard-nothing place first reason pass before is e = e ∙ ap (λ r. heard_at place (number_told r) before) is

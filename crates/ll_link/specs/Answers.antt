@@ -1,5 +1,5 @@
 -- What is answered to a publisher's line, and to a player's request that its channel can't take.
-use Rattle.std.specs.Prelude.{◌≡◌, ◌≢◌, ◌⊎◌, ℕ, List, Option, Some, None, Result, Ok, Err, if◌then◌else◌, length, nat_le}
+use Rattle.std.specs.Prelude.{◌≡◌, ◌≢◌, ◌⊎◌, ℕ, List, Option, Some, None, Result, Ok, Err, if◌then◌else◌, length, nat_le, slice_get}
 use Rattle.ll_item.specs.Items.{item_in}
 use Rattle.ll_item.specs.Media.{media_limit}
 use Rattle.ll_item.specs.Settings.{Configuration}
@@ -43,49 +43,53 @@ refused_before channels says.Bad = Some BadLine
 refused_before channels says.TooLong = Some LineTooLong
 refused_before channels says.MediaTooLong = Some MediaTooLong
 
--- an item was published: the channel at this place accepted the one of this text, with these bytes, after some events, as the item of this number
-pub record IsItemOf (c : Configuration) (place : ℕ) (text media : List ℕ) (mark : StampedValue ℕ) : Type 0 where
+-- an item was published: the channel at this place accepted the one of this text, with these bytes, after some events, as the item of this number; the
+-- caller had seen fewer of it
+pub record IsItemOf (c : Configuration) (place : ℕ) (passed : List ℕ) (text media : List ℕ) (mark : StampedValue ℕ) : Type 0 where
   pub item : Item
   pub read : item_in c text media ≡ Ok item
   pub room : mark.room ≡ place
   pub stamp : mark.stamp ≡ stamp.Publish item
   pub seen : ℕ
+  pub pass : slice_get passed place ≡ Some seen
   pub accepted : IsAccepted c item seen mark.value
 
--- an item was refused: the channel refused the one of this text, with these bytes, after some events, by the first rule that does
-pub record IsRuledOut (c : Configuration) (text media : List ℕ) (reason : Refusal) : Type 0 where
+-- an item was refused: the channel at this place refused the one of this text, with these bytes, after some events, by the first rule that does; the caller
+-- had seen no more of it
+pub record IsRuledOut (c : Configuration) (place : ℕ) (passed : List ℕ) (text media : List ℕ) (reason : Refusal) : Type 0 where
   pub item : Item
   pub read : item_in c text media ≡ Ok item
   pub seen : ℕ
+  pub pass : slice_get passed place ≡ Some seen
   pub fault : PublishFault
   pub rule : IsRefused c item seen fault
   pub told : reason ≡ refusal.Rule fault
 
 -- the same of each, in the hub's channel of this name
-pub record IsItemIn (channels : List Configuration) (name text media : List ℕ) (mark : StampedValue ℕ) : Type 0 where
+pub record IsItemIn (channels : List Configuration) (passed : List ℕ) (name text media : List ℕ) (mark : StampedValue ℕ) : Type 0 where
   pub place : ℕ
   pub settings : Configuration
   pub known : channel_of_name channels 0 name ≡ Some (place, settings)
-  pub item : IsItemOf settings place text media mark
+  pub item : IsItemOf settings place passed text media mark
 
-pub record IsRuledOutIn (channels : List Configuration) (name text media : List ℕ) (reason : Refusal) : Type 0 where
+pub record IsRuledOutIn (channels : List Configuration) (passed : List ℕ) (name text media : List ℕ) (reason : Refusal) : Type 0 where
   pub place : ℕ
   pub settings : Configuration
   pub known : channel_of_name channels 0 name ≡ Some (place, settings)
-  pub rule : IsRuledOut settings text media reason
+  pub rule : IsRuledOut settings place passed text media reason
 
 -- what a line announces was published: its item, with its bytes, in the channel of its name; or was refused so
-abbrev pub IsAnnounced : List Configuration → says.Line → StampedValue ℕ → Type 0
-IsAnnounced channels (says.Item name text media) mark = IsItemIn channels name text media mark
-IsAnnounced channels says.Bad mark = ⊥
-IsAnnounced channels says.TooLong mark = ⊥
-IsAnnounced channels says.MediaTooLong mark = ⊥
+abbrev pub IsAnnounced : List Configuration → List ℕ → says.Line → StampedValue ℕ → Type 0
+IsAnnounced channels passed (says.Item name text media) mark = IsItemIn channels passed name text media mark
+IsAnnounced channels passed says.Bad mark = ⊥
+IsAnnounced channels passed says.TooLong mark = ⊥
+IsAnnounced channels passed says.MediaTooLong mark = ⊥
 
-abbrev pub IsOverruled : List Configuration → says.Line → Refusal → Type 0
-IsOverruled channels (says.Item name text media) reason = IsRuledOutIn channels name text media reason
-IsOverruled channels says.Bad reason = ⊥
-IsOverruled channels says.TooLong reason = ⊥
-IsOverruled channels says.MediaTooLong reason = ⊥
+abbrev pub IsOverruled : List Configuration → List ℕ → says.Line → Refusal → Type 0
+IsOverruled channels passed (says.Item name text media) reason = IsRuledOutIn channels passed name text media reason
+IsOverruled channels passed says.Bad reason = ⊥
+IsOverruled channels passed says.TooLong reason = ⊥
+IsOverruled channels passed says.MediaTooLong reason = ⊥
 
 -- why an item or a line is refused: for what is said before any room is asked, or by a rule of its channel; unless no memory was found
 abbrev pub IsReason : Option Refusal → (Refusal → Type 0) → Refusal → Type 0
@@ -95,16 +99,18 @@ abbrev pub IsAnswer : Option Refusal → (StampedValue ℕ → Type 0) → (Refu
 IsAnswer before Published Ruled (Ok mark) = Published mark
 IsAnswer before Published Ruled (Err reason) = IsReason before Ruled reason
 
--- what is answered to an item of this text, with these bytes: in the channel at this place, and in that of this name; and to a line
-abbrev pub IsAnswerAt : Configuration → (place : ℕ) → (text media : List ℕ) → Result (StampedValue ℕ) Refusal → Type 0
-IsAnswerAt c place text media answer = IsAnswer (refused_item (item_in c text media)) (IsItemOf c place text media) (IsRuledOut c text media) answer
+-- what is answered to an item of this text, with these bytes, where the caller has seen this of the channels: in the channel at this place, and in that of this
+-- name; and to a line
+abbrev pub IsAnswerAt : Configuration → (place : ℕ) → (passed : List ℕ) → (text media : List ℕ) → Result (StampedValue ℕ) Refusal → Type 0
+IsAnswerAt c place passed text media answer =
+    IsAnswer (refused_item (item_in c text media)) (IsItemOf c place passed text media) (IsRuledOut c place passed text media) answer
 
-abbrev pub IsAnswerIn : List Configuration → (name text media : List ℕ) → Result (StampedValue ℕ) Refusal → Type 0
-IsAnswerIn channels name text media answer =
-    IsAnswer (refused_in (channel_of_name channels 0 name) text media) (IsItemIn channels name text media) (IsRuledOutIn channels name text media) answer
+abbrev pub IsAnswerIn : List Configuration → (passed : List ℕ) → (name text media : List ℕ) → Result (StampedValue ℕ) Refusal → Type 0
+IsAnswerIn channels passed name text media answer =
+    IsAnswer (refused_in (channel_of_name channels 0 name) text media) (IsItemIn channels passed name text media) (IsRuledOutIn channels passed name text media) answer
 
-abbrev pub IsAnswerTo : List Configuration → says.Line → Result (StampedValue ℕ) Refusal → Type 0
-IsAnswerTo channels line answer = IsAnswer (refused_before channels line) (IsAnnounced channels line) (IsOverruled channels line) answer
+abbrev pub IsAnswerTo : List Configuration → (passed : List ℕ) → says.Line → Result (StampedValue ℕ) Refusal → Type 0
+IsAnswerTo channels passed line answer = IsAnswer (refused_before channels line) (IsAnnounced channels passed line) (IsOverruled channels passed line) answer
 
 -- what is answered to an item that the hub refuses; no refusal of the channel's room ends the connection with Hub
 abbrev pub refused_by : HubFault → Result Refusal LinkFault

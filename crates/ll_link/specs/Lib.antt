@@ -1,5 +1,6 @@
 pub mod Answers
 pub mod Faults
+pub mod Heard
 pub mod Publishing
 pub mod Reads
 pub mod Serving

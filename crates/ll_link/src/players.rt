@@ -1,6 +1,8 @@
 //! Workers that serve players: connections at rest take none of them.
 ghost use denote.Param.Send.{IsSend, IsSync};
-ghost use Rattle.std.specs.Prelude.{◌≡◌, ◌≤◌, IfOk, length};
+ghost use Rattle.std.specs.Prelude.{◌<◌, ◌≡◌, ◌≤◌, IfErr, IfOk, length};
+ghost use Rattle.std.specs.List.{All};
+ghost use Rattle.ll_hub.specs.Passes.{new_pass};
 
 use crate::player::turn;
 use crate::seat::{Player, Post, Seat};
@@ -35,10 +37,11 @@ const AT_ONCE: u64 = 8;
 /// All passes are taken before the first connection. Workers are started as connections come. Where the system starts no thread, a
 /// connection is served by those that there are, or is closed where there are none.
 ///
-/// Where it fails, it has taken no connection; it gives those passes that there are, and why another isn't there:
+/// If it fails, it has taken no connection. It gives all passes back that it has taken, fewer than `workers`, each of which has seen and counted nothing; and
+/// it tells why:
 ///
-/// 1. The hub has no more: Short.
-/// 2. No memory is found for the workers, or the system tells nobody of connections at rest: Memory.
+/// 1. The hub has no more passes: Short.
+/// 2. Out of memory, also before the first pass was taken, or the system tells nobody of connections at rest: Memory.
 pub fn serve_players<
     L: Ledgers + Send + Sync,
     P: TryLink + Send,
@@ -60,15 +63,18 @@ pub fn serve_players<
     requires some { 1 ≤ workers }
     requires most { workers ≤ 4096 }
     ensures all { IfOk result (λ passes. length passes.items ≡ workers) }
+    ensures fewer { IfErr result (λ e. length e.0.items < workers) }
+    ensures untouched { IfErr result (λ e. All (λ p. p ≡ new_pass (length hub.now)) e.0.items) }
 {
     let posts = posts_of(rt, workers);
     let Ok((to, from)) = crossbeam_channel::bounded::<Post, Global>(alloc, posts) else {
         return Err((Vec::new(alloc), HubFault::Memory));
     };
-    let passes = seats(rt, alloc, workers, hub)?;
     let Ok(rests) = rests_of(rt, alloc, posts, &to) else {
-        return Err((passes, HubFault::Memory));
+        return Err((Vec::new(alloc), HubFault::Memory));
     };
+    // The passes come last: whatever fails before takes none.
+    let passes = seats(rt, alloc, workers, hub)?;
     let open = AtomicU64::new(0);
     let hall = Hall {
         service: Service {

@@ -8,7 +8,9 @@ ghost use Rattle.ll_publish.specs.Meaning.{meant};
 ghost use Rattle.ll_publish.specs.Refusals.{item_refusal, reply_line};
 ghost use Rattle.ll_item.specs.Channels.{channel_of_name};
 ghost use Rattle.ll_link.specs.Answers.{IsAnswerAt, IsAnswerIn, IsAnswerTo, refused_before, refused_by, refused_in};
+ghost use Rattle.ll_hub.specs.Passes.{PassValue};
 ghost use Rattle.ll_link.specs.Faults.{IsOwn, IsTrue};
+ghost use Rattle.ll_link.specs.Heard.{heard, heard_at, heard_in, number_told};
 ghost use Rattle.ll_link.specs.Publishing.{IsCutOff, IsReplyTo, IsServed};
 ghost use Rattle.ll_link.specs.Reads.{IsReadThrough, IsReadWithin};
 ghost use Rattle.ll_link.specs.Serving.{IsBroken, IsDrained, IsServing};
@@ -41,8 +43,8 @@ pub(crate) fn serve<L: Ledgers, P: Link, C, G: Gate, K: Sink, R: Wait>(
     ensures faults { IsTrue result (P.failures link.old) (P.failures link.new) }
     ensures few { IsReadWithin (P.inward link.old) (P.inward link.new) service.now.reads }
     ensures endless { IsErrOf result LinkFault.Endless → IsReadThrough (P.inward link.old) (P.inward link.new) service.now.reads }
-    ensures served { OnOk result (IsServed service.now.hub.now (P.inward link.old) (P.inward link.new) (P.written link.old) (P.written link.new)) }
-    ensures cut_off { OnErr result (IsCutOff service.now.hub.now (P.inward link.old) (P.inward link.new) (P.written link.old) (P.written link.new)) }
+    ensures served { OnOk result (IsServed service.now.hub.now pass.old pass.new (P.inward link.old) (P.inward link.new) (P.written link.old) (P.written link.new)) }
+    ensures cut_off { OnErr result (IsCutOff service.now.hub.now pass.old pass.new (P.inward link.old) (P.inward link.new) (P.written link.old) (P.written link.new)) }
 {
     let mut feed = Feed::new(service.alloc);
     let mut answers = 0;
@@ -71,10 +73,10 @@ fn answer<L: Ledgers, P: Link, C, G: Gate, K: Sink, R: Wait>(
     ensures faults { IsTrue result (P.failures link.old) (P.failures link.new) }
     ensures unread { P.inward link.new ≡ P.inward link.old }
     ensures other { IfErr result (λ fault. fault ≢ LinkFault.Endless) }
-    ensures served { OnOk result ((taken : List ℕ) (base : Option (List ℕ)) → IsServing service.now.hub.now taken feed.old base (P.written link.old)
-        → IsDrained service.now.hub.now taken feed.new base (P.written link.new)) }
-    ensures broken { OnErr result ((taken : List ℕ) (base : Option (List ℕ)) → IsServing service.now.hub.now taken feed.old base (P.written link.old)
-        → IsBroken service.now.hub.now taken base (P.written link.new)) }
+    ensures served { OnOk result ((taken : List ℕ) (start : PassValue) (base : Option (List ℕ)) → IsServing service.now.hub.now taken feed.old start pass.old base (P.written link.old)
+        → IsDrained service.now.hub.now taken feed.new start pass.new base (P.written link.new)) }
+    ensures broken { OnErr result ((taken : List ℕ) (start : PassValue) (base : Option (List ℕ)) → IsServing service.now.hub.now taken feed.old start pass.old base (P.written link.old)
+        → IsBroken service.now.hub.now taken start pass.new base (P.written link.new)) }
 {
     for _ in service.rt.forever() {
         let Some(line) = feed.next() else {
@@ -124,7 +126,9 @@ fn publish<L: Ledgers, C, G: Gate, K: Sink, R: Wait>(
     line: Line<'_>,
 ) -> Result<Result<u64, Refusal>, LinkFault>
     ensures own { IsOwn result }
-    ensures right { IfOk result (IsReplyTo service.now.hub.now (meant line.entry)) }
+    ensures right { IfOk result (IsReplyTo service.now.hub.now pass.old (meant line.entry)) }
+    ensures passed { IfOk result (λ reply. pass.new ≡ heard service.now.hub.now (meant line.entry) reply pass.old) }
+    ensures unchanged { OnErr result (pass.new ≡ pass.old) }
 {
     Ok(counted(publish_line(service, pass, line)?))
 }
@@ -137,7 +141,9 @@ fn publish_line<L: Ledgers, C, G: Gate, K: Sink, R: Wait>(
 ) -> Result<Published, LinkFault>
     ensures own { IsOwn result }
     ensures refused { (reason : Refusal) → refused_before service.now.hub.now (meant line.entry) ≡ Some reason → result ≡ Ok (Err reason) }
-    ensures told { IfOk result (IsAnswerTo service.now.hub.now (meant line.entry)) }
+    ensures told { IfOk result (IsAnswerTo service.now.hub.now pass.old.seen (meant line.entry)) }
+    ensures passed { IfOk result (λ answer. pass.new ≡ heard service.now.hub.now (meant line.entry) (number_told answer) pass.old) }
+    ensures unchanged { OnErr result (pass.new ≡ pass.old) }
 {
     match line {
         Line::Item(name, text, bytes) => match Payload::of_bytes(bytes) {
@@ -161,7 +167,9 @@ fn publish_item<L: Ledgers, C, G: Gate, K: Sink, R: Wait>(
 ) -> Result<Published, LinkFault>
     ensures own { IsOwn result }
     ensures refused { (reason : Refusal) → refused_in (channel_of_name service.now.hub.now 0 name.now) text.now payload.now ≡ Some reason → result ≡ Ok (Err reason) }
-    ensures told { IfOk result (IsAnswerIn service.now.hub.now name.now text.now payload.now) }
+    ensures told { IfOk result (IsAnswerIn service.now.hub.now pass.old.seen name.now text.now payload.now) }
+    ensures passed { IfOk result (λ answer. pass.new ≡ heard_in (channel_of_name service.now.hub.now 0 name.now) (number_told answer) pass.old) }
+    ensures unchanged { OnErr result (pass.new ≡ pass.old) }
 {
     let Some((channel, settings)) = service.hub.find(name) else {
         return Ok(Err(Refusal::UnknownChannel));
@@ -189,13 +197,15 @@ fn publish_to<L: Ledgers, C, G: Gate, K: Sink, R: Wait>(
     ensures own { IsOwn result }
     ensures refused { (fault : ItemFault) → item_in settings.now text.now payload.now ≡ Err fault → result ≡ Ok (Err (item_refusal fault), None) }
     ensures full { IfOk result (λ told. told.0 ≡ Err (Refusal.Rule PublishFault.RecordFull) → told.1 ≡ Some channel) }
-    ensures told { IfOk result (λ told. IsAnswerAt settings.now channel text.now payload.now told.0) }
+    ensures told { IfOk result (λ told. IsAnswerAt settings.now channel pass.old.seen text.now payload.now told.0) }
+    ensures passed { IfOk result (λ told. pass.new ≡ heard_at channel (number_told told.0) pass.old) }
+    ensures unchanged { OnErr result (pass.new ≡ pass.old) }
 {
     let first = publish_once(service, pass, channel, settings, text, payload)?;
     publish_again(service, pass, channel, settings, text, payload, first)
 }
 
-/// What publishing an item comes to that was answered so at first: this answer, unless the record of the channel was full.
+/// What publishing an item comes to that was answered so at first: this answer, unless the record of the channel was full. `before` is the pass before that answer.
 fn publish_again<L: Ledgers, C, G: Gate, K: Sink, R: Wait>(
     service: &Service<'_, L, C, G, K, R>,
     pass: &mut Pass<L>,
@@ -206,11 +216,14 @@ fn publish_again<L: Ledgers, C, G: Gate, K: Sink, R: Wait>(
     first: Published,
 ) -> Result<(Published, Option<HandedOut>), LinkFault>
     requires known { slice_get service.now.hub.now channel ≡ Some settings.now }
-    requires told { IsAnswerAt settings.now channel text.now payload.now first }
     ensures own { IsOwn result }
     ensures kept { first ≢ Err (Refusal.Rule PublishFault.RecordFull) → result ≡ Ok (first, None) }
     ensures full { IfOk result (λ told. told.0 ≡ Err (Refusal.Rule PublishFault.RecordFull) → told.1 ≡ Some channel) }
-    ensures told { IfOk result (λ told. IsAnswerAt settings.now channel text.now payload.now told.0) }
+    ensures told { (before : PassValue) → pass.old ≡ heard_at channel (number_told first) before → IsAnswerAt settings.now channel before.seen text.now payload.now first
+        → IfOk result (λ told. IsAnswerAt settings.now channel before.seen text.now payload.now told.0) }
+    ensures passed { (before : PassValue) → pass.old ≡ heard_at channel (number_told first) before
+        → IfOk result (λ told. pass.new ≡ heard_at channel (number_told told.0) before) }
+    ensures unchanged { (before : PassValue) → pass.old ≡ heard_at channel (number_told first) before → OnErr result (pass.new ≡ before) }
 {
     if !is_full(&first) {
         return Ok((first, None));
@@ -250,7 +263,9 @@ fn publish_once<L: Ledgers, C, G, K, R: Wait>(
     requires known { slice_get service.now.hub.now channel ≡ Some settings.now }
     ensures own { IsOwn result }
     ensures refused { (fault : ItemFault) → item_in settings.now text.now payload.now ≡ Err fault → result ≡ Ok (Err (item_refusal fault)) }
-    ensures told { IfOk result (IsAnswerAt settings.now channel text.now payload.now) }
+    ensures told { IfOk result (IsAnswerAt settings.now channel pass.old.seen text.now payload.now) }
+    ensures passed { IfOk result (λ answer. pass.new ≡ heard_at channel (number_told answer) pass.old) }
+    ensures unchanged { OnErr result (pass.new ≡ pass.old) }
 {
     let item = match Item::read(service.alloc, settings, text, payload) {
         Ok(item) => item,

@@ -1,6 +1,8 @@
 //! Workers, each of which serves one connection at a time.
 ghost use denote.Param.Send.{IsSend, IsSync};
-ghost use Rattle.std.specs.Prelude.{◌≡◌, ◌<◌, ◌≤◌, ◌^◌, Err, IfOk, IsErrOf, OnErr, OnOk, length, min};
+ghost use Rattle.std.specs.Prelude.{◌≡◌, ◌<◌, ◌≤◌, ◌++◌, ◌^◌, ◌∷◌, [], Err, IfErr, IfOk, IsErrOf, OnErr, OnOk, length, min};
+ghost use Rattle.std.specs.List.{All};
+ghost use Rattle.ll_hub.specs.Passes.{new_pass};
 ghost use Rattle.ll_link.specs.Faults.{IsTrue};
 ghost use Rattle.ll_link.specs.Publishing.{IsCutOff, IsServed};
 ghost use Rattle.ll_link.specs.Reads.{IsReadThrough, IsReadWithin};
@@ -41,8 +43,8 @@ pub fn serve_link<L: Ledgers, P: Link, C: Clock, G: Gate, K: Sink, R: Wait + tim
     ensures faults { IsTrue result (P.failures link.old) (P.failures link.new) }
     ensures few { IsReadWithin (P.inward link.old) (P.inward link.new) (2 ^ 32) }
     ensures endless { IsErrOf result LinkFault.Endless → IsReadThrough (P.inward link.old) (P.inward link.new) (2 ^ 32) }
-    ensures served { role ≡ Role.Publisher → OnOk result (IsServed hub.now (P.inward link.old) (P.inward link.new) (P.written link.old) (P.written link.new)) }
-    ensures cut_off { role ≡ Role.Publisher → OnErr result (IsCutOff hub.now (P.inward link.old) (P.inward link.new) (P.written link.old) (P.written link.new)) }
+    ensures served { role ≡ Role.Publisher → OnOk result (IsServed hub.now pass.old pass.new (P.inward link.old) (P.inward link.new) (P.written link.old) (P.written link.new)) }
+    ensures cut_off { role ≡ Role.Publisher → OnErr result (IsCutOff hub.now pass.old pass.new (P.inward link.old) (P.inward link.new) (P.written link.old) (P.written link.new)) }
 {
     serve_link_within(rt, alloc, role, link, clock, gate, sink, hub, pass, READS)
 }
@@ -63,8 +65,8 @@ pub fn serve_link_within<L: Ledgers, P: Link, C: Clock, G: Gate, K: Sink, R: Wai
     ensures faults { IsTrue result (P.failures link.old) (P.failures link.new) }
     ensures few { IsReadWithin (P.inward link.old) (P.inward link.new) (min reads (2 ^ 32)) }
     ensures endless { IsErrOf result LinkFault.Endless → IsReadThrough (P.inward link.old) (P.inward link.new) (min reads (2 ^ 32)) }
-    ensures served { role ≡ Role.Publisher → OnOk result (IsServed hub.now (P.inward link.old) (P.inward link.new) (P.written link.old) (P.written link.new)) }
-    ensures cut_off { role ≡ Role.Publisher → OnErr result (IsCutOff hub.now (P.inward link.old) (P.inward link.new) (P.written link.old) (P.written link.new)) }
+    ensures served { role ≡ Role.Publisher → OnOk result (IsServed hub.now pass.old pass.new (P.inward link.old) (P.inward link.new) (P.written link.old) (P.written link.new)) }
+    ensures cut_off { role ≡ Role.Publisher → OnErr result (IsCutOff hub.now pass.old pass.new (P.inward link.old) (P.inward link.new) (P.written link.old) (P.written link.new)) }
 {
     let service = Service {
         rt,
@@ -88,10 +90,11 @@ pub fn serve_link_within<L: Ledgers, P: Link, C: Clock, G: Gate, K: Sink, R: Wai
 /// has one to serve, until all are; it stays to the end. Where the system starts no thread, that connection is served by the next worker
 /// that is free, or is closed where there are none, and the next such connection tries to start one again.
 ///
-/// Where it fails, it has taken no connection; it gives those passes that there are, and why another isn't there:
+/// If it fails, it has taken no connection. It gives all passes back that it has taken, fewer than `workers`, each of which has seen and counted nothing; and
+/// it tells why:
 ///
-/// 1. The hub has no more: Short.
-/// 2. No memory is found for the workers: Memory.
+/// 1. The hub has no more passes: Short.
+/// 2. Out of memory, also before the first pass was taken: Memory.
 pub fn serve_links<
     L: Ledgers + Send + Sync,
     S: Source + Send,
@@ -113,6 +116,8 @@ pub fn serve_links<
     requires some { 1 ≤ workers }
     requires most { workers ≤ 4096 }
     ensures all { IfOk result (λ passes. length passes.items ≡ workers) }
+    ensures fewer { IfErr result (λ e. length e.0.items < workers) }
+    ensures untouched { IfErr result (λ e. All (λ p. p ≡ new_pass (length hub.now)) e.0.items) }
 {
     let Ok((to, from)) = crossbeam_channel::unbounded::<S::Peer, Global>(alloc) else {
         return Err((Vec::new(alloc), HubFault::Memory));
@@ -132,26 +137,47 @@ pub fn serve_links<
     Ok(share_out(&shift, to, source, passes))
 }
 
-/// So many passes of the hub; or those that there are, and why another isn't there.
+/// Takes `workers` passes of the hub. If it fails, it gives those that were taken back, and tells why another isn't there.
 pub(crate) fn seats<L: Ledgers, R: Wait>(
     rt: &R,
     alloc: Global,
     workers: usize,
     hub: &Hub<L>,
 ) -> Result<Vec<Pass<L>>, (Vec<Pass<L>>, HubFault)>
-    ensures { IfOk result (λ passes. length passes.items ≡ workers) }
+    ensures all { IfOk result (λ passes. length passes.items ≡ workers) }
+    ensures fewer { IfErr result (λ e. length e.0.items < workers) }
+    ensures untouched { IfErr result (λ e. All (λ p. p ≡ new_pass (length hub.now)) e.0.items) }
 {
     let mut passes = Vec::new(alloc);
     for _ in 0..workers {
-        let pass = match hub.seat(rt) {
-            Ok(pass) => pass,
-            Err(fault) => return Err((passes, fault)),
-        };
-        if passes.push(pass).is_err() {
-            return Err((passes, HubFault::Memory));
+        match one_more(rt, passes, hub) {
+            Ok(more) => passes = more,
+            Err(failed) => return Err(failed),
         }
     }
     Ok(passes)
+}
+
+/// Takes a pass of the hub, and puts it after `passes`. If it fails, none was taken: it gives `passes` back, and tells why.
+fn one_more<L: Ledgers, R: Wait>(
+    rt: &R,
+    passes: Vec<Pass<L>>,
+    hub: &Hub<L>,
+) -> Result<Vec<Pass<L>>, (Vec<Pass<L>>, HubFault)>
+    ensures taken { IfOk result (λ more. more.items ≡ passes.items ++ new_pass (length hub.now) ∷ []) }
+    ensures same { IfErr result (λ e. e.0.items ≡ passes.items) }
+{
+    let mut passes = passes;
+    if passes.reserve(1).is_err() {
+        return Err((passes, HubFault::Memory));
+    }
+    match hub.seat(rt) {
+        Ok(pass) => {
+            passes.push_reserved(pass);
+            Ok(passes)
+        }
+        Err(fault) => Err((passes, fault)),
+    }
 }
 
 /// What the workers of a source share.

@@ -9,5 +9,5 @@ invariant-loop g l = record {
   steady : g.P.Writer.failures l.link ≡ g.P.Writer.failures l.fn.link;
   taken : List ℕ;
   read : g.P.Writer.inward l.link ≡ looked_at l.counter 0 taken (g.P.Writer.inward l.fn.link);
-  drained : IsDrained l.fn.service.hub.now taken l.feed (g.P.Writer.written l.fn.link) (g.P.Writer.written l.link);
+  drained : IsDrained l.fn.service.hub.now taken l.feed l.fn.pass l.pass (g.P.Writer.written l.fn.link) (g.P.Writer.written l.link);
 }
