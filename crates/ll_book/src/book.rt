@@ -245,7 +245,7 @@ impl Book {
     }
 
     /// What each request gets that a release will take, in order of their tickets: of these pages of its rendition, and of the bytes of the part that
-    /// comes, where one comes. It fails only where no memory is found.
+    /// comes, where one comes.
     pub fn holders(
         &self,
         alloc: Global,

@@ -41,7 +41,7 @@ pub fn second_release(window: &Window, item: &Item) -> Option<Release>
     }
 }
 
-/// The part that an item is, with another holder of its bytes; none of another item. It fails only where no memory is found.
+/// The part that an item is, with another holder of its bytes; none of another item.
 pub fn part_of(window: &Window, item: &Item) -> Result<Option<NextPart>, AllocError>
     ensures { IfOk result (λ part. part ≡ spec.part_of window.now item.now) }
 {
@@ -55,7 +55,7 @@ pub fn part_of(window: &Window, item: &Item) -> Result<Option<NextPart>, AllocEr
     }
 }
 
-/// The holders of a release, where there is one. It fails only where no memory is found.
+/// The holders of a release, where there is one.
 pub fn holders_for(
     book: &Book,
     alloc: Global,

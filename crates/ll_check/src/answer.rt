@@ -5,7 +5,7 @@ ghost use Rattle.ll_check.specs.Answer as spec;
 use ll_entry::{CheckFault, CheckKind};
 use std::alloc::{AllocError, Global};
 
-/// `ok N` for a chain of N entries that is right, `bad ENTRY NAME` for one that isn't. It fails only where no memory is found.
+/// `ok N` for a chain of N entries that is right, `bad ENTRY NAME` for one that isn't.
 pub fn answer_line(alloc: Global, answer: Result<u64, CheckFault>) -> Result<String, AllocError>
     ensures { IfOk result (λ t. string_bytes t ≡ spec.answer_line answer) }
 {

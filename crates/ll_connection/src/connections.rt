@@ -55,8 +55,7 @@ impl Connections {
     }
 
     /// These bytes came on the connection of this number, which they open where it is new. One that has ended takes none. Its requests
-    /// are handed in, up to one that waits; what is written are the answers, in order, and whether it has shut. It fails only where no
-    /// memory is found.
+    /// are handed in, up to one that waits; what is written are the answers, in order, and whether it has shut.
     pub fn bytes(
         &mut self,
         rooms: &mut Rooms,
@@ -93,7 +92,7 @@ impl Connections {
     }
 
     /// The request of the connection of this number, which waited, gets its reply; then its next requests are handed in, up to one that
-    /// waits. One that isn't there, or has ended, is passed over. It fails only where no memory is found.
+    /// waits. One that isn't there, or has ended, is passed over.
     pub fn reply(
         &mut self,
         rooms: &mut Rooms,

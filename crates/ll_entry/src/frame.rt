@@ -11,7 +11,7 @@ use std::alloc::{AllocError, Global};
 pub const LAST_LINE: &str = "#END";
 
 /// The first three lines of a chunk in this format, of which the second is the settings line: whose it is, and how many entries of its chain
-/// stand before it. It fails only where no memory is found.
+/// stand before it.
 #[tactic(auto, unfolding(crate::specs::Frame::header_text))]
 pub fn header_text(
     alloc: Global,

@@ -6,7 +6,7 @@ use ll_attr::Text;
 use ll_item::Settings;
 use std::alloc::{AllocError, Global};
 
-/// The line that spells settings. It fails only where no memory is found.
+/// The line that spells settings.
 #[tactic(auto, unfolding(crate::specs::SettingsLine::settings_line))]
 pub fn settings_text(alloc: Global, settings: &Settings) -> Result<String, AllocError>
     ensures { IfOk result (λ text. string_bytes text ≡ settings_line settings.now) }

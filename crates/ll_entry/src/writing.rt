@@ -39,8 +39,7 @@ pub fn publish_line(alloc: Global, settings: &Settings, item: &Item) -> Result<S
     Ok(line)
 }
 
-/// The line of a request of this number, for a playlist or for media, and of what it got at once; none where it was held. It fails only
-/// where no memory is found.
+/// The line of a request of this number, for a playlist or for media, and of what it got at once; none where it was held.
 pub fn ask_line(
     alloc: Global,
     ask: u64,

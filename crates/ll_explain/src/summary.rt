@@ -154,7 +154,7 @@ fn add(chains: &mut Vec<Summary>, told: &Told<'_>) -> Result<(), AllocError> {
     Ok(())
 }
 
-/// The summaries of chains, line by line. It fails only where no memory is found.
+/// The summaries of chains, line by line.
 pub fn summary_text(alloc: Global, chains: &[Summary]) -> Result<String, AllocError> {
     let mut text = String::new(alloc);
     let mut number: u64 = 0;

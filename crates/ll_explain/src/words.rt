@@ -9,8 +9,7 @@ use ll_verdict::{Outcome, Reply};
 use std::alloc::{AllocError, Global};
 
 impl Explained<'_> {
-    /// The entry of this number in words, with its line, the channel's time before it, and the playlist that it brings, byte for byte. It fails only where
-    /// no memory is found.
+    /// The entry of this number in words, with its line, the channel's time before it, and the playlist that it brings, byte for byte.
     #[tactic(auto, unfolding(crate::specs::Words::explained_text))]
     pub fn text(&self, alloc: Global, entry: u64) -> Result<String, AllocError>
         ensures { IfOk result (λ t. string_bytes t ≡ spec.explained_text entry self.now.time self.now.line.now self.now.reply) }

@@ -125,7 +125,7 @@ pub record IsReplied (hub : List Configuration) (claim : ClaimValue) (before aft
   pub decided : IsDecided settings claim.entry mark.value
   pub passed : after ≡ noted_reply before claim.channel mark.value
 
--- what waiting with a limit comes to: the reply, or the same claim again, and nothing seen
+-- how waiting with a limit ends: with the reply, or with the same claim again, and nothing seen
 abbrev pub IsWaited : List Configuration → ClaimValue → List ℕ → List ℕ → Waited → Type 0
 IsWaited hub claim before after (waited.Reply mark) = IsReplied hub claim before after mark
 IsWaited hub claim before after (waited.Still back) = (back ≡ claim) × (after ≡ before)
@@ -163,7 +163,7 @@ IsRotateFault hub place other = ⊥
 
 -- ---- finish
 
--- each channel's total is what some events come to that the channel at its place recorded
+-- each channel's total is that of some events of the channel at its place
 abbrev pub AreTotals : List Configuration → List Total → Type 0
 AreTotals hub totals = (place : ℕ) (settings : Configuration) (total : Total) → slice_get hub place ≡ Some settings → slice_get totals place ≡ Some total
     → IsTotal place settings total

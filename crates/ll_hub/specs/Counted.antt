@@ -24,7 +24,7 @@ IsUnaskedBy shows r place c seen (Room other fault) = IsAskRefused shows place c
 IsUnaskedBy shows r place c seen Memory = ⊤
 IsUnaskedBy shows r place c seen fault = IsUncountedBy r place c seen fault
 
--- what it leaves: only where the room was asked may a reading be recorded
+-- what it leaves: a reading is recorded only if the room was asked
 abbrev pub IsLeftBy : (ℕ → Type 0) → Recording → Recording → ℕ → HubFault → Type 0
 IsLeftBy shows old new place (Room other fault) = IsAskFaultBy shows old new place (Room other fault)
 IsLeftBy shows old new place fault = new ≡ old

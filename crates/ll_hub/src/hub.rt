@@ -31,7 +31,7 @@ pub enum HubAsked {
     Held(Claim),
 }
 
-/// What waiting with a limit comes to.
+/// How waiting with a limit ends.
 pub enum Waited {
     /// The reply is there.
     Reply(Stamped<Reply>),
@@ -79,8 +79,7 @@ impl<L: Ledgers> Drop for Hub<L> {
 }
 
 impl<L: Ledgers> Hub<L> {
-    /// A hub of these channels, to which nothing has happened. Of channels of one name the first is found by it. It fails
-    /// only where no memory is found.
+    /// A hub of these channels, to which nothing has happened. Of channels of one name the first is found by it.
     pub fn new(alloc: Global, channels: Vec<Settings>, blanks: Blanks) -> Result<Hub<L>, AllocError>
         requires some { 1 ≤ length channels.items }
         requires most { length channels.items ≤ 1024 }

@@ -29,7 +29,7 @@ impl SharedBytes {
         SharedBytes { bytes: None }
     }
 
-    /// A copy of these bytes. It fails only where no memory is found.
+    /// A copy of these bytes.
     pub fn of(alloc: Global, bytes: &[u8]) -> Result<SharedBytes, AllocError>
         ensures { IfOk result (λ block. block ≡ bytes.now) }
     {
@@ -58,7 +58,7 @@ impl SharedBytes {
         }
     }
 
-    /// Another holder of these bytes. It fails only where no memory is found.
+    /// Another holder of these bytes.
     pub fn again(&self) -> Result<SharedBytes, AllocError>
         ensures { IfOk result (λ block. block ≡ self.now) }
     {

@@ -11,7 +11,7 @@ use ll_attr::Text;
 use std::alloc::{AllocError, Global};
 
 /// Adds the line of EXT-X-SKIP (section 4.4.5.2) that stands for so many segments, and tells the ids of these date ranges as removed
-/// recently, where it tells any. It fails only where no memory is found.
+/// recently, where it tells any.
 #[tactic(auto, using(crate::proofs::SkipLemmas::ids_told))]
 pub fn push_skip(
     alloc: Global,

@@ -12,7 +12,7 @@ use crate::line::{Control, DateRange, Line, PartLine, Report, Skip};
 use std::alloc::AllocError;
 use std::fmt;
 
-/// Adds a line, with LF at its end. It fails only where no memory is found.
+/// Adds a line, with LF at its end.
 #[tactic(auto, unfolding(crate::specs::Text::line_text))]
 pub fn push_line(text: &mut String, line: &Line<'_>) -> Result<(), AllocError>
     ensures { OnOk result (string_bytes text.new ≡ string_bytes text.old ++ line_text (meant line.now)) }

@@ -263,7 +263,7 @@ fn ask_in<L: Ledgers, P: Link, C: Clock, G: Gate, K: Sink, R: Wait + time::Clock
     ask_again(service, link, pass, session, channel, again, first)
 }
 
-/// What a request comes to that was answered so at first: this answer, unless the record of the channel was full.
+/// Answers a request that was answered `first`: with that answer, unless the record of the channel was full; then the request is made again.
 fn ask_again<L: Ledgers, P: Link, C: Clock, G: Gate, K: Sink, R: Wait + time::Clock>(
     service: &Service<'_, L, C, G, K, R>,
     link: &mut P,

@@ -205,7 +205,7 @@ fn publish_to<L: Ledgers, C, G: Gate, K: Sink, R: Wait>(
     publish_again(service, pass, channel, settings, text, payload, first)
 }
 
-/// What publishing an item comes to that was answered so at first: this answer, unless the record of the channel was full. `before` is the pass before that answer.
+/// Answers an item that was answered `first`: with that answer, unless the record of the channel was full; then it is published again. `before` is the pass before that answer.
 fn publish_again<L: Ledgers, C, G: Gate, K: Sink, R: Wait>(
     service: &Service<'_, L, C, G, K, R>,
     pass: &mut Pass<L>,

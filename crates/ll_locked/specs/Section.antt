@@ -1,4 +1,4 @@
--- For private contracts: what one locked section of a channel answers, and what it leaves.
+-- What one locked section of a channel answers, and what it leaves.
 use Rattle.std.specs.Prelude.{◌≡◌, ◌≢◌, ◌≤◌, ◌<◌, ◌^◌, ℕ, ◌+◌, List, [], ◌∷◌, ◌++◌, None, Some, find, option_map, false, true, ⊤}
 use Rattle.ll_verdict.specs.Waiting.{entry_in, found, is_ready_at}
 use Rattle.ll_directive.specs.Targets.{WantValue}

@@ -29,7 +29,7 @@ pub record IsAccepted (c : Configuration) (item : Item) (seen count : ℕ) : Typ
   pub counted : count ≡ length (items c events) + 1
   pub later : seen < count
 
--- an item was refused after some recorded events; that the record holds as much as a record holds comes after the other rules
+-- an item was refused after some events; that the record holds as much as a record holds comes after the other rules
 pub record IsRefused (c : Configuration) (item : Item) (seen : ℕ) (fault : PublishFault) : Type 0 where
   pub recording : Recording
   pub events : List Event
@@ -42,7 +42,7 @@ pub record IsRefused (c : Configuration) (item : Item) (seen : ℕ) (fault : Pub
 abbrev pub is_filled : Recording → Bool
 is_filled r = is_record_full r || is_full r.room.events
 
--- the channel at this place was recorded until no request and no reading was taken any more
+-- after some events of the channel at this place, no request and no reading is taken any more
 pub record IsFilled (place : ℕ) (c : Configuration) : Type 0 where
   pub recording : Recording
   pub events : List Event
@@ -118,7 +118,7 @@ pub record IsTotalOf (c : Configuration) (events : List Event) (t : Total) : Typ
   pub asked : t.asks ≡ asks events
   pub held : t.held ≡ length (open_requests c events)
 
--- this is what some events come to that the channel at this place recorded
+-- this is the total of some events of the channel at this place
 pub record IsTotal (place : ℕ) (c : Configuration) (t : Total) : Type 0 where
   pub recording : Recording
   pub events : List Event

@@ -1,4 +1,4 @@
--- For private contracts: what is found in bytes that hold boxes alone.
+-- What is found in bytes that hold boxes alone.
 use Rattle.std.specs.Prelude.{ℕ, ◌==◌, List, Option, Some, None, Result, Ok, Err}
 use Rattle.std.specs.Borrow.{Bor}
 use Rattle.ll_mp4.specs.Boxes.{Contents, Ended, Broken, Content, Front, Nothing, Part, Whole, and_content, boxes, contents, contents_in}

@@ -30,7 +30,7 @@ duration_of scale start end = micros scale end - micros scale start
 abbrev pub fits : Pace → ℕ → ℕ → Bool
 fits pace end duration = nat_lt end tick_limit && nat_le duration pace.part
 
--- whether a segment is finished whose parts have so many microseconds, one of which has come last
+-- whether a segment is finished that lasts `in_segment` microseconds with the part that came last
 abbrev pub is_finished : Pace → ℕ → Bool
 is_finished pace in_segment = nat_le pace.segment in_segment
 
@@ -38,7 +38,7 @@ is_finished pace in_segment = nat_le pace.segment in_segment
 abbrev pub then_in_segment : Pace → ℕ → ℕ
 then_in_segment pace in_segment = if is_finished pace in_segment then 0 else in_segment
 
--- the part of these bytes, so many microseconds long, that goes on with what is known and ends at this tick
+-- the part of these bytes, `duration` microseconds long, that goes on with what is known and ends at tick `end`
 abbrev pub media : Pace → Known → List ℕ → ℕ → ℕ → ℕ → Piece × Known
 media pace known bytes flags end duration = (
   Media (record { bytes = bytes; duration = duration; independent = is_sync flags; finishes = is_finished pace (known.in_segment + duration) }),

@@ -36,7 +36,7 @@ impl Model for Page {
 impl Page {
     /// The page of the rendition with this index, where there is that rendition: its delta update of this kind, or its full playlist for
     /// none. It shares what is shown and
-    /// copies nothing of it; it fails only where no memory is found.
+    /// copies nothing of it; it fails if no memory is found.
     pub fn make(
         alloc: Global,
         shown: &Shown,
@@ -53,8 +53,7 @@ impl Page {
         Page::make_from(alloc, shown, rendition, &pieces, form)
     }
 
-    /// The page that `make` makes, joined from the pieces of its view, so that no line of a segment is written again. It fails
-    /// only where no memory is found.
+    /// The page that `make` makes, joined from the pieces of its view, so that no line of a segment is written again.
     pub fn make_from(
         alloc: Global,
         shown: &Shown,
@@ -120,7 +119,7 @@ impl Page {
         self.shown.view(self.rendition).unwrap()
     }
 
-    /// The same page, shared: neither its text nor its view is copied. It fails only where no memory is found.
+    /// The same page, shared: neither its text nor its view is copied.
     pub fn again(&self) -> Result<Page, AllocError>
         ensures { IfOk result (λ p. p ≡ self.now) }
     {

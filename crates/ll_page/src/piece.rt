@@ -35,7 +35,7 @@ impl Model for Piece {
 
 impl Piece {
     /// The piece of a segment, finished or open, which lists these parts: the one that is there, shared, where it's of just
-    /// these, or else a new one. It fails only where no memory is found.
+    /// these, or else a new one.
     pub(crate) fn of(
         alloc: Global,
         there: Option<&Arc<Piece>>,

@@ -49,7 +49,7 @@ impl Pieces {
     }
 
     /// The pieces of a view, whatever view these are of: the piece of a segment that is the same and lists the same parts is
-    /// shared, and each other is written. It fails only where no memory is found.
+    /// shared, and each other is written.
     pub fn after(&self, alloc: Global, view: &View<'_>) -> Result<Pieces, AllocError>
         ensures { IfOk result (λ p. p ≡ pieces_of view.now) }
     {

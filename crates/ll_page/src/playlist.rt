@@ -20,7 +20,7 @@ use std::alloc::{AllocError, Global};
 /// The text of the full Media Playlist of a view (section 4.4): the lines that tell of the channel, the date ranges in
 /// order of adding, then of each segment of the window its discontinuity, map, time and parts, its EXTINF and URI, then the
 /// same lines of the open segment, a report of each other rendition, and a hint of the next part or the end. LF ends each
-/// line. It fails only where no memory is found.
+/// line.
 pub fn full(alloc: Global, view: &View<'_>) -> Result<Text, AllocError>
     ensures { IfOk result (λ text. text ≡ full_text view.now) }
 {
@@ -31,7 +31,7 @@ pub fn full(alloc: Global, view: &View<'_>) -> Result<Text, AllocError>
 /// The text of the delta update of a view (section 6.2.5.1): the lines of the full playlist, but that one line stands for
 /// those of the segments that are skipped (section 4.4.5.2), and none of the others leads; the full playlist where no segment
 /// is skipped. An update of kind V2 also skips the date ranges that were added longer ago than the Skip Boundary, and tells the
-/// ids of those that were removed lately. It fails only where no memory is found.
+/// ids of those that were removed lately.
 pub fn delta(alloc: Global, view: &View<'_>, kind: SkipKind) -> Result<Text, AllocError>
     ensures { IfOk result (λ text. text ≡ delta_text kind view.now) }
 {

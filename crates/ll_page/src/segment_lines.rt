@@ -97,7 +97,7 @@ fn push_parts(text: &mut String, number: u64, parts: &[Part]) -> Result<(), Allo
     Ok(())
 }
 
-/// The moment so many microseconds after 1970-01-01T00:00:00Z, cut to milliseconds.
+/// Returns the moment `micros` microseconds after 1970-01-01T00:00:00Z, cut to milliseconds.
 fn utc_time(micros: u64) -> UtcTime
     requires { micros ≤ last_micro }
     ensures { result ≡ micros / 1000 }

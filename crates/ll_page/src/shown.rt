@@ -78,8 +78,7 @@ impl ChannelMoment {
 }
 
 impl Shown {
-    /// The channel of these settings, which it shares, and renditions, which has accepted so many items. It fails only where no memory
-    /// is found.
+    /// The channel of these settings, which it shares, and renditions, which has accepted so many items.
     pub fn new(
         alloc: Global,
         settings: &Arc<Settings>,
@@ -148,7 +147,7 @@ impl Shown {
         View::new(&kept.settings, &kept.renditions, rendition, kept.count)
     }
 
-    /// The same, shared: nothing is copied. It fails only where no memory is found.
+    /// The same, shared: nothing is copied.
     pub fn again(&self) -> Result<Shown, AllocError>
         ensures { IfOk result (λ s. s ≡ self.now) }
     {
@@ -158,7 +157,7 @@ impl Shown {
     }
 
     /// Takes in one more item of the channel, which nothing refuses. Where others share what is kept, it is copied first, and they go on to
-    /// share what was. It fails only where no memory is found, and then changes nothing.
+    /// share what was. If no memory is found, nothing changes.
     pub fn accept(&mut self, item: Item) -> Result<(), AllocError>
         requires allowed { refusal_at (slice_get self.old.renditions (rendition_of item)) item ≡ None }
         requires few { self.old.count < 2 ^ 60 }

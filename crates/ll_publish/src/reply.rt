@@ -1,4 +1,4 @@
-//! The lines that answer a publisher. Each fails only where no memory is found.
+//! The lines that answer a publisher.
 ghost use Rattle.std.specs.Prelude.{◌≡◌, IfOk, string_bytes};
 ghost use Rattle.ll_publish.specs.Refusals as spec;
 

@@ -15,7 +15,7 @@ pub record Names : Type 0 where
 unfoldable pub init_line : Names → ℕ → List ℕ
 init_line names len = names.channel ++ (codes " init " ++ (names.rendition ++ (codes " " ++ (decimal len ++ codes "\n"))))
 
--- of a part of so many microseconds, with these flags and so many bytes
+-- of a part of `duration` microseconds and `len` bytes, with these flags
 unfoldable pub part_line : Names → ℕ → List ℕ → ℕ → List ℕ
 part_line names duration flags len =
     names.channel ++ (codes " part " ++ (names.rendition ++ (codes " " ++ (decimal duration ++ (codes " " ++ (flags ++ (codes " " ++ (decimal len ++ codes "\n"))))))))

@@ -106,7 +106,7 @@ pub record HasSent (many : ℕ) (before : PublisherValue) (input : List ℕ) (fi
   pub exchanged : AreExchanged sent first last
   pub are : length sent ≡ many
 
--- What one connection comes to. All messages were sent on it and accepted, and no fault ends them; or those before one that is refused; or those before one of
+-- How one connection ends. All messages were sent on it and accepted, and no fault ends them; or those before one that is refused; or those before one of
 -- which nothing was taken.
 abbrev pub IsStep : PublisherValue → List ℕ → LinkValue → PublisherValue → Option (List ℕ) → LinkValue → Step → Type 0
 IsStep before input first after left last Whole = AreExchanged (messages_to_come before input) first last × (fault_to_come before input ≡ None)

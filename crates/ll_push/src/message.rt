@@ -1,4 +1,4 @@
-//! The messages that an origin is sent: a line each, which an item's bytes and LF may follow. Each fails only where no memory is found.
+//! The messages that an origin is sent: a line each, which an item's bytes and LF may follow.
 ghost use Rattle.std.specs.Prelude.{◌≡◌, ◌++◌, ◌∷◌, [], IfOk, string_bytes};
 ghost use Rattle.ll_push.specs.Messages as spec;
 ghost use Rattle.ll_push.specs.Meaning.{named};

@@ -1,4 +1,4 @@
--- For private contracts: what is kept of date ranges, and what one more change makes of it.
+-- What is kept of date ranges, and what one more change makes of it.
 use Rattle.std.specs.Prelude.{ℕ, ◌++◌, List, [], ◌∷◌, string_bytes}
 use Rattle.std.specs.declared.string.String.{String}
 use Rattle.ll_attr.specs.Attributes.{spelling}

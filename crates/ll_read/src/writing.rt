@@ -11,7 +11,7 @@ use ll_line::{Control, DateTime, Line, Uri, push_line, push_skip};
 use std::alloc::{AllocError, Global};
 
 impl Playlist {
-    /// The text of this playlist; LF ends each line (section 4). It fails only where no memory is found.
+    /// The text of this playlist; LF ends each line (section 4).
     pub fn write(&self, alloc: Global) -> Result<Text, AllocError>
         ensures { IfOk result (λ text. text ≡ spelling self.now) }
     {

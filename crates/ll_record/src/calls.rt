@@ -65,7 +65,7 @@ impl Recorder {
         Ok(())
     }
 
-    /// Accepts an item that nothing refuses, as [`Recorder::test`] tells. It fails only where no memory is found, and then changes nothing.
+    /// Accepts an item that nothing refuses, as [`Recorder::test`] tells. If no memory is found, nothing changes.
     fn take_in(&mut self, item: Item) -> Result<Stamped<u64>, AllocError>
         requires allowed { refusal_by self.old.room item ≡ None }
         requires space { self.old.calls < record_end }
@@ -113,7 +113,7 @@ impl Recorder {
         }
     }
 
-    /// Makes a request, which can still be recorded. It fails only where no memory is found, and then changes nothing.
+    /// Makes a request, which can still be recorded. If no memory is found, nothing changes.
     fn make_request(&mut self, want: Want) -> Result<Asked, AllocError>
         requires few { is_full self.old.room.events ≡ false }
         requires space { self.old.calls < record_end }

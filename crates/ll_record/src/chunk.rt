@@ -27,7 +27,7 @@ impl Model for Chunk {
 }
 
 impl Chunk {
-    /// The chunk of these lines of so many entries of a channel, which had so many before. It fails only where no memory is found.
+    /// The chunk of these lines of so many entries of a channel, which had so many before.
     pub(crate) fn new(
         alloc: Global,
         settings: &Settings,

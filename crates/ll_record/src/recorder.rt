@@ -41,8 +41,7 @@ impl Model for Recorder {
 }
 
 impl Recorder {
-    /// The recorder of a room of this number for a channel of these settings, to which nothing has happened. It fails only where no
-    /// memory is found.
+    /// The recorder of a room of this number for a channel of these settings, to which nothing has happened.
     pub fn new(alloc: Global, channel: u64, settings: Settings) -> Result<Recorder, AllocError>
         ensures new { IfOk result (λ r. r ≡ record { room = room_value channel settings (state_of settings []); at = 0; lines = []; calls = 0 }) }
         ensures recorded { IfOk result (λ r. IsRecorded r []) }
@@ -63,7 +62,7 @@ impl Recorder {
         &self.room
     }
 
-    /// Hands the record out, and begins another. No reply changes by it. It fails only where no memory is found, and then changes nothing.
+    /// Hands the record out, and begins another. No reply changes by it. If no memory is found, nothing changes.
     pub fn rotate(&mut self) -> Result<Chunk, AllocError>
         ensures chunk { IfOk result (λ k. IsChunk self.old k) }
         ensures faithful { (events : List Event) → IsRecorded self.old events → IfOk result (λ k. IsFaithful self.old events k) }

@@ -59,7 +59,7 @@ impl Rendition {
     }
 
     /// Takes one more item in, where nothing refuses it, as [`Rendition::test`] tells: what was kept of the items before it is then what is
-    /// kept of these and this one. It fails only where no memory is found, and then changes nothing.
+    /// kept of these and this one. If no memory is found, nothing changes.
     pub fn accept(&mut self, item: Item) -> Result<(), AllocError>
         requires { refusal_of self.old item ≡ None }
         ensures accepted { (c : Configuration) (before : List Item) → self.old ≡ kept c before → OnOk result (self.new ≡ kept c (before ++ item ∷ [])) }

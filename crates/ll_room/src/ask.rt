@@ -116,7 +116,7 @@ impl Room {
         Decision::Waits(wanted)
     }
 
-    /// Makes a request of which this was decided, as [`Room::decide`] does. It fails only where no memory is found, and then changes nothing.
+    /// Makes a request of which this was decided, as [`Room::decide`] does. If no memory is found, nothing changes.
     pub fn ask_decided(&mut self, want: Want, decision: Decision) -> Result<Asked, AllocError>
         requires few { self.old.events < event_end }
         requires decided { IsDecided self.old want decision }
@@ -142,8 +142,7 @@ impl Room {
         }
     }
 
-    /// Makes a request of which this was decided, and gives no reply: no playlist is written. It fails only where no memory is found, and then
-    /// changes nothing.
+    /// Makes a request of which this was decided, and gives no reply: no playlist is written. If no memory is found, nothing changes.
     pub(crate) fn pass(&mut self, decision: Decision) -> Result<(), AllocError>
         requires few { self.old.events < event_end }
         requires decided { IsDecidedOfOne self.old decision }

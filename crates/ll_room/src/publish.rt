@@ -65,7 +65,7 @@ impl Room {
         Ok(())
     }
 
-    /// Accepts an item that nothing refuses, as [`Room::test`] tells. It fails only where no memory is found, and then changes nothing.
+    /// Accepts an item that nothing refuses, as [`Room::test`] tells. If no memory is found, nothing changes.
     pub fn accept(&mut self, item: Item) -> Result<Stamped<u64>, AllocError>
         requires { refusal_by self.old item ≡ None }
         ensures accepted { (events : List Event) → Stands self.old events → OnOk result (Stands self.new (events ++ Publish item ∷ [])) }
@@ -155,7 +155,7 @@ impl Room {
         Ok(())
     }
 
-    /// Makes all that an item and these releases need, and changes nothing. It fails only where no memory is found.
+    /// Makes all that an item and these releases need, and changes nothing.
     fn prepare(
         &self,
         item: Item,
@@ -175,7 +175,7 @@ impl Room {
         self.find_holders(rendition, shown, part, first, second)
     }
 
-    /// The part that an item is, with another holder of its bytes. It fails only where no memory is found.
+    /// The part that an item is, with another holder of its bytes.
     fn part_of(&self, item: &Item) -> Result<Option<NextPart>, AllocError>
         ensures { IfOk result (λ part. part ≡ spec.part_in self.now item.now) }
     {

@@ -38,7 +38,7 @@ impl Model for Replayer {
 }
 
 impl Replayer {
-    /// The room of this number for a channel of these settings, to which nothing has happened. It fails only where no memory is found.
+    /// The room of this number for a channel of these settings, to which nothing has happened.
     pub fn new(alloc: Global, channel: u64, settings: Settings) -> Result<Replayer, AllocError>
         ensures { IfOk result (λ k. k ≡ room_value channel settings (state_of settings [])) }
     {
@@ -83,8 +83,7 @@ impl Replayer {
         Ok(given(asked))
     }
 
-    /// Makes a request of which [`Room::decide`] decided this, and gives no reply: no playlist is written. It fails only where no memory is
-    /// found.
+    /// Makes a request of which [`Room::decide`] decided this, and gives no reply: no playlist is written.
     pub fn pass(&mut self, decision: Decision) -> Result<(), AllocError>
         requires few { self.old.events < event_end }
         requires decided { IsDecidedOfOne self.old decision }

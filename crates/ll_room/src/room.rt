@@ -75,7 +75,7 @@ impl Model for Room {
 }
 
 impl Room {
-    /// The room of this number for a channel of these settings, to which nothing has happened. It fails only where no memory is found.
+    /// The room of this number for a channel of these settings, to which nothing has happened.
     pub fn new(alloc: Global, channel: u64, settings: Settings) -> Result<Room, AllocError>
         ensures { IfOk result (λ r. r ≡ room_value channel settings (state_of settings [])) }
     {

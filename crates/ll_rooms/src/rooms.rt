@@ -76,7 +76,7 @@ impl Rooms {
         self.events
     }
 
-    /// Adds a channel with no events after the others. It fails only where no memory is found.
+    /// Adds a channel with no events after the others.
     pub fn declare(&mut self, settings: Settings) -> Result<(), AllocError>
         ensures declared { (w : World) → self.old ≡ kept_world w → OnOk result (Leads self.new None w (world.declare settings w)) }
         ensures unchanged { OnErr result (self.new ≡ self.old) }
@@ -86,7 +86,7 @@ impl Rooms {
         Ok(())
     }
 
-    /// Offers an item to the channel at this place. It fails only where no memory is found.
+    /// Offers an item to the channel at this place.
     pub fn offer(&mut self, place: usize, item: Item) -> Result<Option<ActAnswer>, AllocError>
         ensures offered { (w : World) → self.old ≡ kept_world w → IfOk result (λ a. Leads self.new a w (world.offer place item w)) }
         ensures unchanged { OnErr result (self.new ≡ self.old) }
@@ -105,8 +105,7 @@ impl Rooms {
         Ok(Some(ActAnswer::Accepted(count)))
     }
 
-    /// Makes a request of the channel at this place, whose reply is told to this owner: now, or once it is due. It fails only where
-    /// no memory is found.
+    /// Makes a request of the channel at this place, whose reply is told to this owner: now, or once it is due.
     pub fn ask(
         &mut self,
         owner: Owner,

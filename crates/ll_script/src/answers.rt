@@ -1,4 +1,4 @@
-//! The lines that answer the lines of a script, but for publishers' lines. Each fails only where no memory is found.
+//! The lines that answer the lines of a script, but for publishers' lines.
 ghost use Rattle.std.specs.Prelude.{◌≡◌, ◌++◌, IfOk, OnOk, decimal, length, string_bytes};
 ghost use Rattle.std.specs.List.{concat};
 ghost use Rattle.ll_script.specs.Answers as spec;

@@ -75,7 +75,7 @@ pub(crate) struct Counts {
 }
 
 impl Counts {
-    /// Nothing has happened on the channel of this name. It fails only where no memory is found.
+    /// Nothing has happened on the channel of this name.
     pub(crate) fn new(alloc: Global, name: &str) -> Result<Counts, AllocError> {
         let mut refused = Vec::with_capacity(alloc, REFUSALS.len())?;
         for _ in 0..REFUSALS.len() {
@@ -152,7 +152,7 @@ impl Counts {
         }
     }
 
-    /// Adds the line of the channel at this moment. It fails only where no memory is found.
+    /// Adds the line of the channel at this moment.
     pub(crate) fn push_line(&self, text: &mut String, time: UtcTime) -> Result<(), AllocError> {
         let name = &self.name;
         write!(text, "{time} {name}{self}")?;

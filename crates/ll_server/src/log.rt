@@ -13,7 +13,7 @@ pub struct Log<'a, R> {
 }
 
 impl<'a, R: Files<File = File> + Eprint> Log<'a, R> {
-    /// The file of this name; nothing is kept without one. It fails only where no memory is found.
+    /// The file of this name; nothing is kept without one.
     pub fn open(rt: &'a R, alloc: Global, path: Option<&Text>) -> Result<Log<'a, R>, AllocError> {
         let file = match path {
             Some(path) => Some(Journal::open(

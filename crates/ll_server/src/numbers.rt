@@ -13,7 +13,7 @@ pub struct Numbers {
 }
 
 impl Numbers {
-    /// Those of these channels. It fails only where no memory is found.
+    /// Those of these channels.
     pub fn new(alloc: Global, channels: &[Settings]) -> Result<Numbers, AllocError> {
         let mut counts = Vec::with_capacity(alloc, channels.len())?;
         for settings in channels {
@@ -22,7 +22,7 @@ impl Numbers {
         Ok(Numbers { channels: counts })
     }
 
-    /// A line for each channel, as things are at this moment. It fails only where no memory is found.
+    /// A line for each channel, as things are at this moment.
     pub fn lines(&self, alloc: Global, time: UtcTime) -> Result<String, AllocError> {
         let mut text = String::new(alloc);
         for counts in &self.channels {

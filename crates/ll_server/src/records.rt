@@ -19,7 +19,7 @@ pub struct Records<'a, R> {
 impl<'a, R: Files<File = File> + Eprint> Records<'a, R> {
     /// The records of these channels. Their files are opened here, and made where they aren't there, so that none is wanting later because
     /// connections have taken all descriptors. Of one that can't be opened standard error is told, and its channel has no record.
-    /// Without a path no records are kept. It fails only where no memory is found.
+    /// Without a path no records are kept.
     pub fn open(
         rt: &'a R,
         alloc: Global,

@@ -146,7 +146,7 @@ impl Session {
         self.shut = true;
     }
 
-    /// A copy of the bytes that were put out and not sent. It fails only where no memory is found.
+    /// A copy of the bytes that were put out and not sent.
     pub fn output(&self) -> Result<Vec<u8>, AllocError>
         ensures { IfOk result (λ bytes. bytes.items ≡ concat self.now.answers) }
     {

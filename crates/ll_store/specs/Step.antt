@@ -1,4 +1,4 @@
--- For private contracts: what one more item makes of the bytes that are kept.
+-- What one more item makes of the bytes that are kept.
 use Rattle.std.specs.Prelude.{ℕ, List, [], ◌∷◌, ◌++◌, Bool, true, false, length}
 use Rattle.ll_item.specs.declared.item.Item.{Item}
 use Rattle.ll_item.specs.declared.item.Item.TheVariants as item

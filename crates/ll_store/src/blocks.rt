@@ -26,7 +26,7 @@ impl Model for Blocks {
 }
 
 impl Blocks {
-    /// The bytes of one part. It fails only where no memory is found.
+    /// The bytes of one part.
     #[tactic(auto, using(crate::proofs::Sizes::concat_one))]
     pub fn one(alloc: Global, media: Media) -> Result<Blocks, AllocError>
         ensures { IfOk result (λ blocks. blocks ≡ media) }
@@ -97,7 +97,7 @@ impl<'a> Found<'a> {
         self.size
     }
 
-    /// Another holder of them. It fails only where no memory is found.
+    /// Another holder of them.
     pub fn share(&self, alloc: Global) -> Result<Blocks, AllocError>
         ensures { IfOk result (λ blocks. blocks ≡ self.now) }
     {

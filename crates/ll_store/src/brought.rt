@@ -27,7 +27,7 @@ pub enum Brought {
 }
 
 impl Brought {
-    /// What this item brings: another holder of its bytes. It fails only where no memory is found.
+    /// What this item brings: another holder of its bytes.
     pub fn by(item: &Item) -> Result<Brought, AllocError>
         ensures { IfOk result (λ brought. brought ≡ brought_by item.now) }
     {

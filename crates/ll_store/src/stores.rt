@@ -13,7 +13,7 @@ use ll_item::{Item, Settings, What};
 use ll_rendition::Rendition;
 use std::alloc::{AllocError, Global};
 
-/// What is kept of no items, for each rendition of a channel of these settings. It fails only where no memory is found.
+/// What is kept of no items, for each rendition of a channel of these settings.
 pub fn new_stores(alloc: Global, settings: &Settings) -> Result<Vec<Store>, AllocError>
     ensures { IfOk result (λ made. all_kept made.items ≡ stores settings.now []) }
 {

@@ -17,7 +17,7 @@ abbrev pub AreTimed : List Row → ℕ → Type 0
 AreTimed [] time = Unit
 AreTimed (r ∷ rs) time = (r.segment.time + r.segment.duration + lasting rs ≤ time) × AreTimed rs time
 
--- with one more part of so many microseconds, which stands here, and where the open segment begins at this time
+-- `p` with one more part, of `micros` microseconds at `place`, of an open segment that begins at `time`
 abbrev pub grown : Progress → ℕ → ℕ → PartPosition → Progress
 grown p time micros place = record p {
   open_time = time;

@@ -14,8 +14,8 @@ use Rattle.ll_window.specs.Segments.{segments, open_segment, duration, ended}
 abbrev pub rounded : ℕ → ℕ
 rounded micros = (micros + 500000) / 1000000
 
--- why a part of so many microseconds may not follow, where its segment has this number and lasts so long without it,
--- and it begins at this time
+-- why a part of `micros` microseconds may not follow at time `ends`, in the segment of this number that lasts `lasts` microseconds
+-- without it
 abbrev pub part_refusal : Configuration → ℕ → ℕ → ℕ → ℕ → Option PushFault
 part_refusal c number lasts ends micros =
     if micros == 0 then Some BadDuration

@@ -38,14 +38,14 @@ abbrev pub shown_by : Bool → Row → Row
 shown_by true r = r
 shown_by false r = record { segment = r.segment; parts = [] }
 
--- the segments, each with its parts where the segments after it, and so many microseconds of open parts, last less than
--- this, and else without parts (section 4.4.4.9)
+-- the segments, each with its parts if what follows it (the segments after it, and open parts of `tail` microseconds) lasts less
+-- than `near`, and else without parts (section 4.4.4.9)
 abbrev pub listed : ℕ → ℕ → List Row → List Row
 listed near tail [] = []
 listed near tail (r ∷ rs) = shown_by (nat_lt (lasting rs + tail) near) r ∷ listed near tail rs
 
--- how many of these segments a delta update skips: those after which the segments, and so many microseconds of open
--- parts, last longer than this (section 6.2.5.1)
+-- how many of these segments a delta update skips: those that more than `limit` microseconds follow, the `tail` microseconds of
+-- open parts included (section 6.2.5.1)
 abbrev pub skipped_in : ℕ → ℕ → List Row → ℕ
 skipped_in limit tail [] = 0
 skipped_in limit tail (r ∷ rs) = one_if (nat_lt limit (lasting rs + tail)) + skipped_in limit tail rs

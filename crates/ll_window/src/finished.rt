@@ -147,7 +147,7 @@ impl Finished {
         Ok(segment)
     }
 
-    /// Gives up the parts of the segments after which the others and the open parts last so many microseconds at least.
+    /// Drops the parts of each segment that at least `near` microseconds follow, those of the open parts included.
     pub(crate) fn hide(&mut self, near: u64, open_duration: u64)
         requires hidden { AreHidden self.old }
         requires far { 0 < self.old.far → near ≤ self.old.near_lasting + open_duration }
@@ -160,8 +160,8 @@ impl Finished {
         while self.hide_next(near, open_duration) {}
     }
 
-    /// Gives up the parts of the first segment that has not, where the others and the open parts after it last so many microseconds at
-    /// least; answers whether it did.
+    /// Drops the parts of the first segment that still has them, if at least `near` microseconds follow it, those of the open parts
+    /// included. Returns whether it did.
     fn hide_next(&mut self, near: u64, open_duration: u64) -> bool
         requires hidden { AreHidden self.old }
         requires far { 0 < self.old.far → near ≤ self.old.near_lasting + open_duration }
@@ -194,7 +194,7 @@ impl Finished {
         self.rows.get(place)
     }
 
-    /// How many of the segments have more than so many microseconds after them, those of the open parts included.
+    /// Returns how many of the segments have more than `limit` microseconds after them, those of the open parts included.
     pub(crate) fn skip_count(&self, limit: u64, open_duration: u64) -> usize
         requires sum { self.now.lasting ≡ spec.lasting self.now.rows.items }
         requires lasting { self.now.lasting + open_duration < 2 ^ 64 }
@@ -208,7 +208,7 @@ impl Finished {
         count
     }
 
-    /// Gives up the segments after which the others alone last so many microseconds at least.
+    /// Drops each segment that segments of at least `least` microseconds follow.
     fn shrink(&mut self, least: u64)
         requires sum { self.old.lasting ≡ spec.lasting self.old.rows.items }
         requires breaks { self.old.discontinuity + broken_in self.old.rows.items < 2 ^ 64 }
@@ -222,7 +222,7 @@ impl Finished {
         while self.leave(least) {}
     }
 
-    /// Gives up the first segment, where those after it last so many microseconds at least; answers whether it did.
+    /// Drops the first segment, if those after it last at least `least` microseconds. Returns whether it did.
     fn leave(&mut self, least: u64) -> bool
         requires sum { self.old.lasting ≡ spec.lasting self.old.rows.items }
         requires breaks { self.old.discontinuity + broken_in self.old.rows.items < 2 ^ 64 }
@@ -260,7 +260,7 @@ impl Finished {
     }
 }
 
-/// These parts, to be shared, taken out of their place. It fails only where no memory is found, and then they stay there.
+/// Takes these parts out of their place, to be shared. If no memory is found, they stay there.
 fn shared(alloc: Global, parts: &mut Vec<Part>) -> Result<Arc<Vec<Part>>, AllocError>
     ensures shared { IfOk result (λ all. (arc_value all).items ≡ parts.old.items) }
     ensures emptied { OnOk result (parts.new.items ≡ []) }

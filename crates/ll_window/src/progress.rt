@@ -69,7 +69,7 @@ impl Progress {
         }
     }
 
-    /// With one more part of so many microseconds, which stands here, where the open segment begins at this time.
+    /// Returns this with one more part, of `micros` microseconds at `place`, of an open segment that begins at `time`.
     pub(crate) fn with_part(self, time: u64, micros: u64, place: PartPosition) -> Progress
         requires open { self.open_duration + micros < 2 ^ 64 }
         requires end { self.end_time + micros < 2 ^ 64 }

@@ -65,7 +65,7 @@ impl Model for Window {
 }
 
 impl Window {
-    /// The window of no items, under a copy of these settings. It fails only where no memory is found.
+    /// The window of no items, under a copy of these settings.
     pub fn new(alloc: Global, settings: &Settings) -> Result<Window, AllocError>
         ensures { IfOk result (λ w. w ≡ compact settings.now []) }
     {
@@ -314,7 +314,7 @@ impl Window {
         }
     }
 
-    /// Why a part of so many microseconds may not follow.
+    /// Returns why a part of `micros` microseconds may not follow.
     fn part_fault(&self, micros: u64) -> Option<PushFault>
         ensures { result ≡ part_refusal self.now.settings self.now.next_number (duration self.now.open_parts) (clock self.now) micros }
     {

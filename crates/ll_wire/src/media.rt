@@ -30,7 +30,7 @@ impl Model for MediaBody {
 }
 
 impl MediaBody {
-    /// Another holder of these bytes. It fails only where no memory is found, or where the bytes of a part aren't known.
+    /// Another holder of these bytes. It fails if no memory is found, or if the bytes of a part aren't known.
     pub(crate) fn new(alloc: Global, media: &Blocks) -> Result<MediaBody, AllocError>
         ensures { IfOk result (λ body. body ≡ media.now) }
     {

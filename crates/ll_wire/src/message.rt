@@ -16,7 +16,7 @@ use std::alloc::{AllocError, Global};
 const HEAD: usize = 256;
 
 /// The response with this answer (RFC 9112, section 4), which tells whether the connection is kept. Its body is the playlist or the media, which
-/// it shares with the answer, or the name of the refusal and LF. It fails only where no memory is found, or where the bytes
+/// it shares with the answer, or the name of the refusal and LF. It fails if no memory is found, or if the bytes
 /// of media aren't known.
 pub fn response(alloc: Global, answer: &Answer, keep: bool) -> Result<Message, AllocError>
     ensures { IfOk result (λ message. bytes_of message ≡ spec.response_bytes answer.now keep) }

@@ -40,7 +40,7 @@ impl Model for Pages {
 
 impl Pages {
     /// The pages of the rendition with this index, where there is that rendition; none is written yet. What was rendered of its segments
-    /// before this moment, where something was, is shared. It fails only where no memory is found.
+    /// before this moment, where something was, is shared.
     pub fn new(
         alloc: Global,
         shown: Shown,
@@ -93,7 +93,7 @@ impl Pages {
         self.shown.count()
     }
 
-    /// The page in this form. It fails only where no memory is found.
+    /// The page in this form.
     pub fn page(&mut self, alloc: Global, form: Option<SkipKind>) -> Result<Page, AllocError>
         ensures page { IfOk result (λ p. p ≡ page_in self.old form) }
         ensures unchanged { self.new ≡ self.old }

@@ -41,7 +41,6 @@ impl Written {
     }
 
     /// The page of a rendition in this form, of the channel as it is shown. What was rendered of its segments, where something was, is shared.
-    /// It fails only where no memory is found.
     pub fn page(
         &mut self,
         alloc: Global,

@@ -1,4 +1,4 @@
--- What publishing it again comes to is told of the pass before the first try.
+-- The answer to publishing it again is told of the pass before the first try.
 use Rattle.ll_link.proofs.publisher.publish_to.Goals as goal
 
 pub returns-clause-told : goal.returns-clause-told
