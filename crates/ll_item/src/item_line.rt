@@ -8,7 +8,6 @@ ghost use Rattle.ll_item.specs.Items as spec;
 
 use crate::item::{Item, ItemFault, PartItem};
 use crate::media::{Media, Payload};
-use crate::name::is_name;
 use crate::settings::Settings;
 use crate::words::one_word;
 use ll_attr::{AttrFault, AttrList, AttrValue, Attribute, Text, after, cut, parse_number};
@@ -86,7 +85,7 @@ fn read_break(settings: &Settings, text: &str) -> Result<Item, ItemFault>
     ensures not_memory { IfErr result (λ fault. fault ≢ ItemFault.Memory) }
 {
     let Some((name, time)) = cut(text, ' ') else {
-        let rendition = named(settings, text)?;
+        let rendition = settings.named(text)?;
         return Ok(Item::Break {
             rendition,
             time: None,
@@ -98,7 +97,7 @@ fn read_break(settings: &Settings, text: &str) -> Result<Item, ItemFault>
     let Some(time) = break_time(time) else {
         return Err(ItemFault::BadLine);
     };
-    let rendition = named(settings, name)?;
+    let rendition = settings.named(name)?;
     Ok(Item::Break {
         rendition,
         time: Some(time),
@@ -145,7 +144,7 @@ fn read_part(
     let Some((independent, finish)) = part_flags(flags) else {
         return Err(ItemFault::BadLine);
     };
-    let rendition = named(settings, name)?;
+    let rendition = settings.named(name)?;
     Ok(Item::Part(PartItem {
         rendition,
         duration,
@@ -210,7 +209,7 @@ fn read_range(alloc: Global, settings: &Settings, text: &str) -> Result<Item, It
     let Some((name, list)) = cut(text, ' ') else {
         return Err(ItemFault::BadLine);
     };
-    let rendition = named(settings, name)?;
+    let rendition = settings.named(name)?;
     range_from(alloc, rendition, list)
 }
 
@@ -263,7 +262,7 @@ fn read_unrange(alloc: Global, settings: &Settings, text: &str) -> Result<Item, 
     let Some((name, id)) = cut(text, ' ') else {
         return Err(ItemFault::BadLine);
     };
-    let rendition = named(settings, name)?;
+    let rendition = settings.named(name)?;
     let id = Text::from_str(alloc, id)?;
     Ok(Item::Unrange { rendition, id })
 }
@@ -274,18 +273,7 @@ fn read_alone(settings: &Settings, text: &str) -> Result<usize, ItemFault>
     ensures not_memory { IfErr result (λ fault. fault ≢ ItemFault.Memory) }
 {
     match one_word(text) {
-        Some(name) => named(settings, name),
+        Some(name) => settings.named(name),
         None => Err(ItemFault::BadLine),
     }
-}
-
-/// The index of the rendition of this name, or what is wrong with the name.
-fn named(settings: &Settings, name: &str) -> Result<usize, ItemFault>
-    ensures value { result ≡ spec.named settings.now name.now }
-    ensures not_memory { IfErr result (λ fault. fault ≢ ItemFault.Memory) }
-{
-    if !is_name(name) {
-        return Err(ItemFault::BadLine);
-    }
-    settings.rendition(name).ok_or(ItemFault::NoRendition)
 }

@@ -1,14 +1,16 @@
-ghost use Rattle.std.specs.Prelude.{◌≡◌, ◌≤◌, ◌*◌, ◌&&◌, ℕ, List, IfOk, length, None, true};
+ghost use Rattle.std.specs.Prelude.{◌≡◌, ◌≢◌, ◌≤◌, ◌*◌, ◌&&◌, ℕ, List, IfErr, IfOk, length, None, true};
 ghost use Rattle.ll_item.specs.Configured.{configured};
 ghost use Rattle.ll_item.specs.Settings.{settings_of, limit_broken, number_end};
 ghost use Rattle.ll_attr.specs.YearEnd.{last_milli};
 ghost use Rattle.ll_item.specs.Names.{is_name, are_names};
+ghost use Rattle.ll_item.specs.Items as spec;
 ghost use Rattle.ll_item.specs.Items.{rendition_named};
 ghost use Rattle.ll_item.specs.Same.{same_settings};
 ghost use Rattle.std.proofs.Common.{rules};
 ghost use Rattle.std.specs.Bool.{Decides};
 ghost use Rattle.std.specs.Cmp.Rules.{comparing};
 
+use crate::item::ItemFault;
 use crate::name;
 use ll_attr::Text;
 use std::alloc::{AllocError, Global};
@@ -279,6 +281,21 @@ impl Settings {
         ensures { result ≡ rendition_named self.now name.now }
     {
         self.renditions.iter().position(|r| r.as_str() == name)
+    }
+
+    /// Returns the index of the rendition of this name.
+    ///
+    /// # Errors
+    ///
+    /// `BadLine` if `name` is no name; `NoRendition` if the channel has no rendition of that name.
+    pub fn named(&self, name: &str) -> Result<usize, ItemFault>
+        ensures value { result ≡ spec.named self.now name.now }
+        ensures not_memory { IfErr result (λ fault. fault ≢ ItemFault.Memory) }
+    {
+        if !name::is_name(name) {
+            return Err(ItemFault::BadLine);
+        }
+        self.rendition(name).ok_or(ItemFault::NoRendition)
     }
 
     /// The media sequence number of the first segment (EXT-X-MEDIA-SEQUENCE, section 4.4.3.2).

@@ -1,4 +1,5 @@
 ghost use Rattle.std.specs.Prelude.{◌≡◌, ◌<◌, ◌≤◌, IfOk, MatchOption, length};
+ghost use Rattle.std.specs.Arc.{arc_str_bytes};
 ghost use Rattle.ll_page.specs.Page.{page_text, seen_of, update_in};
 ghost use Rattle.ll_page.specs.Pieces.{pieces_of};
 
@@ -82,6 +83,13 @@ impl Page {
         ensures { result.now ≡ page_text self.now }
     {
         &self.text
+    }
+
+    /// Returns the text alone, shared: it is not copied, and keeps nothing else of the view.
+    pub fn shared_text(&self) -> Result<ArcStr, AllocError>
+        ensures { IfOk result (λ t. arc_str_bytes t ≡ page_text self.now) }
+    {
+        self.text.clone()
     }
 
     /// How many items the channel had accepted.
