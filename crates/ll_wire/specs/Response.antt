@@ -1,6 +1,7 @@
 -- The response with an answer (RFC 9112, section 4).
-use Rattle.std.specs.Prelude.{ℕ, List, [], ◌∷◌, ◌++◌, Bool, true, false, ◌==◌, if◌then◌else◌, codes, decimal, length}
+use Rattle.std.specs.Prelude.{ℕ, List, [], ◌∷◌, ◌++◌, Bool, true, false, ◌==◌, if◌then◌else◌, codes, decimal, length, unwrap_or}
 use Rattle.std.specs.List.{starts_with}
+use Rattle.http.specs.StatusCode.{code_digits, reason_phrase}
 use Rattle.ll_page.specs.Page.{page_text}
 use Rattle.ll_directive.specs.Targets.{fault_name}
 use Rattle.ll_directive.specs.Targets as target
@@ -52,15 +53,13 @@ body_of (answer.Head fault) = named (head_fault_name fault)
 
 -- ---- the lines of a response
 
+-- the reason phrase of a status, empty if it has none
+unfoldable pub reason : ℕ → List ℕ
+reason status = unwrap_or (reason_phrase status) []
+
 -- a status and its reason phrase
 abbrev pub status_words : ℕ → List ℕ
-status_words status =
-    if status == 200 then codes "200 OK"
-    else if status == 404 then codes "404 Not Found"
-    else if status == 405 then codes "405 Method Not Allowed"
-    else if status == 431 then codes "431 Request Header Fields Too Large"
-    else if status == 503 then codes "503 Service Unavailable"
-    else codes "400 Bad Request"
+status_words status = code_digits status ++ (codes " " ++ reason status)
 
 abbrev pub content_type : ℕ → List ℕ
 content_type status = if status == 200 then codes "application/vnd.apple.mpegurl" else codes "text/plain"
@@ -96,7 +95,7 @@ message status body keep = lines status (length body) keep ++ body
 
 -- all that stands before so many bytes of media
 abbrev pub media_lines : ℕ → Bool → List ℕ
-media_lines length keep = first_lines (codes "200 OK") (codes "video/mp4") length ++ last_lines (codes "max-age=60") [] (kept_word keep)
+media_lines length keep = first_lines (status_words 200) (codes "video/mp4") length ++ last_lines (codes "max-age=60") [] (kept_word keep)
 
 -- a response with these bytes of media
 abbrev pub media_message : List ℕ → Bool → List ℕ

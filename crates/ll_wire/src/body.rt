@@ -6,15 +6,15 @@ ghost use Rattle.ll_wire.specs.Parts.{bytes_of, shared_bytes};
 use crate::media::MediaBody;
 use crate::slices::Slices;
 use ll_item::SharedBytes;
-use ll_page::Page;
+use std::sync::ArcStr;
 
 /// The end of a response that others may share, so that it is never copied.
 #[derive(Drop)]
 pub enum Body {
     /// Nothing is shared: the head is all of the response.
     Nothing,
-    /// A playlist.
-    Playlist(Page),
+    /// A playlist's text alone: nothing of the channel is kept while it is sent.
+    Playlist(ArcStr),
     /// Media.
     Media(MediaBody),
 }
@@ -36,7 +36,7 @@ impl Body {
     {
         match self {
             Body::Nothing => 0,
-            Body::Playlist(page) => page.text().len(),
+            Body::Playlist(text) => text.len(),
             Body::Media(media) => media.len(),
         }
     }
@@ -48,7 +48,7 @@ impl Body {
     {
         match self {
             Body::Nothing => (&[], &[]),
-            Body::Playlist(page) => (&page.text().as_bytes()[n..], &[]),
+            Body::Playlist(text) => (&text.as_bytes()[n..], &[]),
             Body::Media(media) => media.after(n),
         }
     }

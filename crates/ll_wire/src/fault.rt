@@ -1,3 +1,4 @@
+use http::StatusCode;
 use thiserror::Error;
 
 /// Why no request begins at the front of some bytes: the first fault of its head, in this order.
@@ -25,13 +26,13 @@ impl HeadFault {
     ghost use Rattle.ll_wire.specs.Response.{head_status, head_fault_name};
 
     /// The HTTP status of the answer.
-    pub fn status(self) -> u16
+    pub fn status(self) -> StatusCode
         ensures { result ≡ head_status self }
     {
         match self {
-            HeadFault::BadMethod => 405,
-            HeadFault::HeadTooLarge => 431,
-            _ => 400,
+            HeadFault::BadMethod => StatusCode::METHOD_NOT_ALLOWED,
+            HeadFault::HeadTooLarge => StatusCode::REQUEST_HEADER_FIELDS_TOO_LARGE,
+            _ => StatusCode::BAD_REQUEST,
         }
     }
 

@@ -8,6 +8,7 @@ ghost use Rattle.ll_wire.specs.Heads.{head_of, head_value, unfinished, judged_pa
 use crate::fault::HeadFault;
 use crate::fields::{any_tells_body, any_tells_close, hosts};
 use crate::place::ends_in_target;
+use http::Method;
 use httparse::spans::{EMPTY_HEADER_SPAN, HeaderSpan, RequestSpans, parse_request};
 use httparse::{Error, Status};
 
@@ -117,7 +118,7 @@ fn judge(bytes: &[u8], fields: &[HeaderSpan], spans: RequestSpans) -> Head
     if spans.version == 1 && hosts(bytes, fields) != 1 {
         return Head::Bad(HeadFault::BadHost);
     }
-    if spans.method.of(bytes) != b"GET".as_slice() {
+    if spans.method.of(bytes) != Method::GET.as_str().as_bytes() {
         return Head::Bad(HeadFault::BadMethod);
     }
     if any_tells_body(bytes, fields) {

@@ -1,5 +1,6 @@
 //! The bytes of an answer.
 ghost use Rattle.std.specs.Prelude.{◌≡◌, ◌++◌, IfOk, OnOk, string_bytes};
+ghost use Rattle.http.specs.StatusCode.{IsStatusCode};
 ghost use Rattle.ll_page.specs.Page.{page_text};
 ghost use Rattle.ll_wire.specs.Parts.{bytes_of};
 ghost use Rattle.ll_wire.specs.Response as spec;
@@ -7,6 +8,7 @@ ghost use Rattle.ll_wire.specs.Response as spec;
 use crate::answer::Answer;
 use crate::body::{Body, Message};
 use crate::media::MediaBody;
+use http::StatusCode;
 use ll_page::Page;
 use ll_store::Blocks;
 use ll_verdict::Reply;
@@ -23,8 +25,10 @@ pub fn response(alloc: Global, answer: &Answer, keep: bool) -> Result<Message, A
 {
     match answer {
         Answer::Reply(reply) => reply_response(alloc, reply, keep),
-        Answer::Unavailable(reason) => refusal(alloc, 503, reason.name(), keep),
-        Answer::Target(fault) => refusal(alloc, fault.status(), fault.name(), keep),
+        Answer::Unavailable(reason) => {
+            refusal(alloc, StatusCode::SERVICE_UNAVAILABLE, reason.name(), keep)
+        }
+        Answer::Target(fault) => refusal(alloc, code_of(fault.status()), fault.name(), keep),
         Answer::Head(fault) => refusal(alloc, fault.status(), fault.name(), keep),
     }
 }
@@ -37,7 +41,7 @@ fn reply_response(alloc: Global, reply: &Reply, keep: bool) -> Result<Message, A
         Reply::Text(page) => playlist(alloc, page, keep),
         Reply::Media(piece) => media(alloc, &piece.bytes, keep),
         Reply::NotFound | Reply::TooFar | Reply::Busy | Reply::Timeout => {
-            refusal(alloc, reply.status(), reply.name(), keep)
+            refusal(alloc, code_of(reply.status()), reply.name(), keep)
         }
     }
 }
@@ -46,10 +50,10 @@ fn reply_response(alloc: Global, reply: &Reply, keep: bool) -> Result<Message, A
 fn playlist(alloc: Global, page: &Page, keep: bool) -> Result<Message, AllocError>
     ensures { IfOk result (λ message. bytes_of message ≡ spec.message 200 (page_text page.now) keep) }
 {
-    let head = head(alloc, 200, page.text().len(), keep)?;
+    let head = head(alloc, StatusCode::OK, page.text().len(), keep)?;
     Ok(Message {
         head: head.into_bytes(),
-        body: Body::Playlist(page.again()?),
+        body: Body::Playlist(page.shared_text()?),
     })
 }
 
@@ -65,7 +69,7 @@ fn media(alloc: Global, bytes: &Blocks, keep: bool) -> Result<Message, AllocErro
 }
 
 /// The response with a refusal of this name.
-fn refusal(alloc: Global, status: u16, name: &str, keep: bool) -> Result<Message, AllocError>
+fn refusal(alloc: Global, status: StatusCode, name: &str, keep: bool) -> Result<Message, AllocError>
     ensures { IfOk result (λ message. bytes_of message ≡ spec.message status (spec.named name.now) keep) }
 {
     let mut text = head(alloc, status, name.len() + 1, keep)?;
@@ -78,15 +82,10 @@ fn refusal(alloc: Global, status: u16, name: &str, keep: bool) -> Result<Message
 }
 
 /// All that stands before a body of this length.
-fn head(alloc: Global, status: u16, length: usize, keep: bool) -> Result<String, AllocError>
+fn head(alloc: Global, status: StatusCode, length: usize, keep: bool) -> Result<String, AllocError>
     ensures { IfOk result (λ text. string_bytes text ≡ spec.lines status length keep) }
 {
-    let mut text = first_lines(
-        alloc,
-        status_words(status),
-        content_type(status),
-        length as u64,
-    )?;
+    let mut text = first_lines(alloc, status, content_type(status), length as u64)?;
     push_last_lines(&mut text, "no-cache", allow_line(status), kept_word(keep))?;
     Ok(text)
 }
@@ -95,22 +94,39 @@ fn head(alloc: Global, status: u16, length: usize, keep: bool) -> Result<String,
 fn media_head(alloc: Global, length: u64, keep: bool) -> Result<String, AllocError>
     ensures { IfOk result (λ text. string_bytes text ≡ spec.media_lines length keep) }
 {
-    let mut text = first_lines(alloc, "200 OK", "video/mp4", length)?;
+    let mut text = first_lines(alloc, StatusCode::OK, "video/mp4", length)?;
     push_last_lines(&mut text, "max-age=60", "", kept_word(keep))?;
     Ok(text)
 }
 
-/// The status line and the first fields.
+/// Returns the status line and the first fields.
 #[tactic(auto, unfolding(crate::specs::Response::first_lines))]
-fn first_lines(alloc: Global, words: &str, kind: &str, length: u64) -> Result<String, AllocError>
-    ensures { IfOk result (λ text. string_bytes text ≡ spec.first_lines words.now kind.now length) }
+fn first_lines(
+    alloc: Global,
+    status: StatusCode,
+    kind: &str,
+    length: u64,
+) -> Result<String, AllocError>
+    ensures { IfOk result (λ text. string_bytes text ≡ spec.first_lines (spec.status_words status) kind.now length) }
 {
     let mut text = String::with_capacity(alloc, HEAD)?;
+    let (code, reason) = (status.as_str(), reason(status));
     write!(
         text,
-        "HTTP/1.1 {words}\r\nContent-Type: {kind}\r\nContent-Length: {length}\r\n"
+        "HTTP/1.1 {code} {reason}\r\nContent-Type: {kind}\r\nContent-Length: {length}\r\n"
     )?;
     Ok(text)
+}
+
+/// Returns the reason phrase of a status, empty if it has none.
+#[tactic(auto, unfolding(crate::specs::Response::reason))]
+fn reason(status: StatusCode) -> &'static str
+    ensures { result.now ≡ spec.reason status }
+{
+    match status.canonical_reason() {
+        Some(reason) => reason,
+        None => "",
+    }
 }
 
 /// Adds the other fields and the empty line.
@@ -129,35 +145,37 @@ fn push_last_lines(
     )
 }
 
-/// A status and its reason phrase.
-fn status_words(status: u16) -> &'static str
-    ensures { result.now ≡ spec.status_words status }
+/// Returns the status code of this number.
+fn code_of(status: u16) -> StatusCode
+    requires { IsStatusCode status }
+    ensures { result ≡ status }
 {
-    match status {
-        200 => "200 OK",
-        404 => "404 Not Found",
-        405 => "405 Method Not Allowed",
-        431 => "431 Request Header Fields Too Large",
-        503 => "503 Service Unavailable",
-        _ => "400 Bad Request",
+    match StatusCode::from_u16(status) {
+        Ok(code) => code,
+        Err(_) => unreachable!(),
     }
 }
 
-fn content_type(status: u16) -> &'static str
+/// Returns the type of the body of a response that isn't media.
+fn content_type(status: StatusCode) -> &'static str
     ensures { result.now ≡ spec.content_type status }
 {
-    if status == 200 {
+    if status == StatusCode::OK {
         "application/vnd.apple.mpegurl"
     } else {
         "text/plain"
     }
 }
 
-/// The methods that are allowed, where one was refused.
-fn allow_line(status: u16) -> &'static str
+/// Returns the line of the methods that are allowed, if one was refused.
+fn allow_line(status: StatusCode) -> &'static str
     ensures { result.now ≡ spec.allow_line status }
 {
-    if status == 405 { "Allow: GET\r\n" } else { "" }
+    if status == StatusCode::METHOD_NOT_ALLOWED {
+        "Allow: GET\r\n"
+    } else {
+        ""
+    }
 }
 
 fn kept_word(keep: bool) -> &'static str
