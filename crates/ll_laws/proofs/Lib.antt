@@ -1,4 +1,5 @@
 pub mod AnnouncedLemmas
+pub mod AnsweredProof
 pub mod ApartLemmas
 pub mod BoundLemmas
 pub mod ChangeLemmas
@@ -11,7 +12,9 @@ pub mod MapLemmas
 pub mod MergeLemmas
 pub mod OwnSegmentProof
 pub mod PageLemmas
+pub mod PieceBounds
 pub mod PlaylistLemmas
+pub mod PushedProof
 pub mod RangeItems
 pub mod RangeLines
 pub mod RangesProof
@@ -20,6 +23,7 @@ pub mod ReadableProof
 pub mod RemovalLemmas
 pub mod RowLemmas
 pub mod SegmentLemmas
+pub mod SentLines
 pub mod ShortLemmas
 pub mod SkipLines
 pub mod SplitLemmas

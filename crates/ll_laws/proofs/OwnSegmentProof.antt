@@ -10,7 +10,6 @@ use Rattle.ll_window.specs.declared.fault.PushFault.{PushFault}
 use Rattle.ll_window.specs.Compact.{Compact, clock, compact, skip_count}
 use Rattle.ll_window.specs.Refusal.{part_refusal, refusal, refusal_by, refusal_before_end}
 use Rattle.ll_window.specs.Rows.{Row, lasting}
-use Rattle.ll_item.specs.Told.{end_time}
 use Rattle.ll_window.specs.Segments.{own, segments, open_segment, duration, ended}
 use Rattle.ll_window.specs.Step.{with_part_by, with_item, ended_by, finished_by}
 use Rattle.ll_window.specs.Window.{skipped_in}

@@ -1,3 +1,4 @@
 pub mod Laws
 pub mod Published
+pub mod Pushed
 pub mod Worked

@@ -3,6 +3,7 @@
 #![tactic(auto)]
 
 ghost use Rattle.ll_laws.specs.Laws.{CompanionLaw, OwnSegmentLaw, ReadableLaw, TextLaw};
+ghost use Rattle.ll_laws.specs.Pushed.{AcceptedLaw, PiecesLaw, PushedLaw, RefusedLaw};
 ghost use Rattle.ll_laws.specs.Worked.{WorkedPlaylists};
 
 /// The promise to players, on texts: the text of a delta update, applied to the text of a full playlist of the same rendition
@@ -28,6 +29,20 @@ pub fn own_segment_law()
 /// texts stand where they may, MAP lines where they must, and no two date ranges have one ID.
 pub fn readable_law()
     ensures { ReadableLaw }
+{}
+
+/// What `llhls push` has to send of an encoder's bytes is read by an origin as the items of their pieces, each with just its bytes, and then
+/// the end of the rendition. The messages of some pieces are read so whatever bytes come after them.
+pub fn pushed_law()
+    ensures pieces { PiecesLaw }
+    ensures input { PushedLaw }
+{}
+
+/// Each line that answers a publisher is one that `llhls push` reads as what it is: it accepts if the item is accepted, and refuses for each
+/// reason that an origin has.
+pub fn answered_law()
+    ensures accepted { AcceptedLaw }
+    ensures refused { RefusedLaw }
 {}
 
 /// What the definitions say of small streams: the whole texts of seven playlists and of four delta updates, byte for byte.

@@ -2,7 +2,7 @@
 use Rattle.std.proofs.Common.{◌≡◌, ◌⊎◌, inl, inr, ℕ, ◌+◌, ◌<◌, ◌≤◌, Bool, true, false, List, Option, Some, None, refl, ap, sym, subst, ◌∙◌, arith}
 use Rattle.ll_push.specs.Exchanges.{LinkValue}
 use Rattle.ll_push.specs.Faults.{most}
-use Rattle.ll_push.specs.History.{HasGoneOn, AtStart, Another, HasBroken, HasEnded, HasGivenUp, HasLasted, OnAll, OnOne, connections, idle_after, most_idle}
+use Rattle.ll_push.specs.History.{HasGoneOn, AtStart, Another, HasBroken, HasEnded, HasGivenUp, HasLast, HasLasted, OnAll, OnOne, connections, idle_after, most_idle}
 use Rattle.ll_push.specs.Publishing.{HasFailed, HasSent, IsFirstFault, IsStep, PublisherValue, fault_to_come}
 use Rattle.ll_mp4.specs.declared.fault.Fault.{Fault}
 use Rattle.ll_push.specs.declared.fault.PushFault.{PushFault}
@@ -56,33 +56,18 @@ module _ {S P : Type 0} (gives : S → Option P → S → Type 0) (value : P →
       pub gave-none : gives o None after → HasGivenUp gives value start input origin left after
       gave-none none = record { publisher = p; rest = went.0; is_left = went.1; before = o; idle = idle; went = went.2.0; why = inl (few, none) }
 
+      abbrev last_one : (link : P) → gives o (Some link) after → HasLast gives value start input origin after
+      last_one link given = record { publisher = p; rest = went.0; before = o; idle = idle; went = went.2.0; few = few; link = link; given = given }
+
       pub broken-by : (link link_then : P) → gives o (Some link) after → (fault : PushFault)
           → ((rest : List ℕ) → left ≡ Some rest → HasFailed p rest (value link) (value link_then) fault) → HasBroken gives value start input origin after fault
-      broken-by link link_then given fault failed = record {
-        publisher = p;
-        rest = went.0;
-        before = o;
-        idle = idle;
-        went = went.2.0;
-        few = few;
-        link = link;
-        given = given;
-        link_then = link_then;
-        failed = failed went.0 went.1;
-      }
+      broken-by link link_then given fault failed = record { at = last_one link given; link_then = link_then; failed = failed went.0 went.1 }
 
       module _ (link link_then : P) (given : gives o (Some link) after) (q : PublisherValue) (later : Option (List ℕ)) (found : Step)
           (step : (rest : List ℕ) → left ≡ Some rest → IsStep p rest (value link) q later (value link_then) found) where
         pub ended-by : (last : Step) → found ≡ last → HasEnded gives value start input origin later after last
         ended-by last e = record {
-          publisher = p;
-          rest = went.0;
-          before = o;
-          idle = idle;
-          went = went.2.0;
-          few = few;
-          link = link;
-          given = given;
+          at = last_one link given;
           then = q;
           link_then = link_then;
           is_step = subst (IsStep p went.0 (value link) q later (value link_then)) e (step went.0 went.1);

@@ -16,7 +16,7 @@ use Rattle.ll_push.specs.Exchanges.{AreExchanged, IsExchanged, IsGone, IsUnanswe
 use Rattle.ll_push.specs.Messages.{MessageValue, Names, ends}
 use Rattle.ll_mp4.specs.declared.fault.Fault.{Fault}
 use Rattle.ll_push.specs.Next.{IsFaultNext, IsNext, IsSent, IsTaken, is_refusal}
-use Rattle.ll_push.specs.Publishing.{GoesOn, HasFailed, HasGone, HasRefused, HasSent, IsFirstFault, PublisherValue, after_message, fault_after, fault_by, fault_to_come, messages, messages_by, messages_to_come, text_to_come}
+use Rattle.ll_push.specs.Publishing.{GoesOn, HasFailed, HasGone, HasRefused, HasSent, HasSentUpTo, IsFirstFault, PublisherValue, after_message, fault_after, fault_by, fault_to_come, messages, messages_by, messages_to_come, text_to_come}
 use Rattle.ll_push.specs.Faults.{IsOfLink, IsOfSource}
 use Rattle.ll_push.specs.declared.fault.PushFault.{PushFault}
 use Rattle.ll_push.specs.declared.fault.PushFault.TheVariants.{Input, Read, Connect, Lost, BadAnswer, Memory, Endless}
@@ -208,6 +208,9 @@ module _ (p : PublisherValue) (input : List ℕ) (first : LinkValue) (s : Publis
   fault_is : fault_to_come p input ≡ fault_after message.said later
   fault_is = so_far.goes.fault ∙ one.5
 
+  abbrev up_to : HasSentUpTo p input first
+  up_to = record { sent = so_far.sent; message = message.bytes; later = next_ones; all = in_all; mid = mid; exchanged = so_far.exchanged }
+
   module _ (last : LinkValue) where
     -- a prefix of this one was sent
     pub message-cut : AppendsPrefix mid.written last.written message.bytes → AppendsPrefix first.written last.written (text_to_come p input)
@@ -218,15 +221,7 @@ module _ (p : PublisherValue) (input : List ℕ) (first : LinkValue) (s : Publis
 
     -- it has no answer
     pub message-failed : (fault : PushFault) → IsUnanswered message.bytes mid last fault → HasFailed p input first last fault
-    message-failed fault why = record {
-      sent = so_far.sent;
-      message = message.bytes;
-      later = next_ones;
-      all = in_all;
-      mid = mid;
-      exchanged = so_far.exchanged;
-      why = why;
-    }
+    message-failed fault why = record { at = up_to; why = why }
 
     -- nothing of it was
     pub message-kept : (same : MessageValue) → same ≡ message → IsGone mid last → HasGone p input first (record after { unsent = Some same }) then last accepted
@@ -249,12 +244,7 @@ module _ (p : PublisherValue) (input : List ℕ) (first : LinkValue) (s : Publis
     -- this one was refused
     pub message-refused : (text : List ℕ) → ((line : List ℕ) × IsExchanged message.bytes line mid last × ((text ≡ line) × (refuses line ≡ true))) → HasRefused p input first last text
     message-refused text said = record {
-      sent = so_far.sent;
-      message = message.bytes;
-      later = next_ones;
-      all = in_all;
-      mid = mid;
-      exchanged = so_far.exchanged;
+      at = up_to;
       last_one = subst (λ l. IsExchanged message.bytes l mid last) (sym said.2.0) said.1;
       refuses = ap refuses said.2.0 ∙ said.2.1;
     }

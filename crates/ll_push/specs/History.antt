@@ -49,34 +49,32 @@ pub data HasLasted {S P : Type 0} (gives : S → Option P → S → Type 0) (val
   OnAll : (p : PublisherValue) (rest : List ℕ) (idle : ℕ) (went : HasGoneOn gives value start input origin p rest after idle) → connections went ≡ most
       → HasLasted gives value start input origin after
 
--- After such connections the source gave one that went so far, which is the last one.
+-- After such connections the source gave one more.
+pub record HasLast {S P : Type 0} (gives : S → Option P → S → Type 0) (value : P → LinkValue) (start : PublisherValue) (input : List ℕ) (origin : S)
+    (after : S) : Type 0 where
+  pub publisher : PublisherValue
+  pub rest : List ℕ
+  pub before : S
+  pub idle : ℕ
+  pub went : HasGoneOn gives value start input origin publisher rest before idle
+  pub few : idle < most_idle
+  pub link : P
+  pub given : gives before (Some link) after
+
+-- The last connection went so far.
 pub record HasEnded {S P : Type 0} (gives : S → Option P → S → Type 0) (value : P → LinkValue) (start : PublisherValue) (input : List ℕ) (origin : S)
     (left : Option (List ℕ)) (after : S) (last : Step) : Type 0 where
-  pub publisher : PublisherValue
-  pub rest : List ℕ
-  pub before : S
-  pub idle : ℕ
-  pub went : HasGoneOn gives value start input origin publisher rest before idle
-  pub few : idle < most_idle
-  pub link : P
-  pub given : gives before (Some link) after
+  pub at : HasLast gives value start input origin after
   pub then : PublisherValue
   pub link_then : P
-  pub is_step : IsStep publisher rest (value link) then left (value link_then) last
+  pub is_step : IsStep at.publisher at.rest (value at.link) then left (value link_then) last
 
--- After such connections the source gave one on which a message has no answer, for this reason.
+-- On the last connection a message has no answer, for this reason.
 pub record HasBroken {S P : Type 0} (gives : S → Option P → S → Type 0) (value : P → LinkValue) (start : PublisherValue) (input : List ℕ) (origin : S)
     (after : S) (fault : PushFault) : Type 0 where
-  pub publisher : PublisherValue
-  pub rest : List ℕ
-  pub before : S
-  pub idle : ℕ
-  pub went : HasGoneOn gives value start input origin publisher rest before idle
-  pub few : idle < most_idle
-  pub link : P
-  pub given : gives before (Some link) after
+  pub at : HasLast gives value start input origin after
   pub link_then : P
-  pub failed : HasFailed publisher rest (value link) (value link_then) fault
+  pub failed : HasFailed at.publisher at.rest (value at.link) (value link_then) fault
 
 -- After such connections the source gave none, or too many in a row had nothing accepted.
 pub record HasGivenUp {S P : Type 0} (gives : S → Option P → S → Type 0) (value : P → LinkValue) (start : PublisherValue) (input : List ℕ) (origin : S)

@@ -1,55 +1,40 @@
--- What an origin is sent: a line for each piece, which its bytes and LF follow, and a line for the end.
-use Rattle.std.specs.Prelude.{ℕ, Bool, true, false, List, [], ◌∷◌, ◌++◌, codes, decimal, length, map}
+-- What an origin is sent: the line of an item for each piece, which its bytes and LF follow, and the line of the end.
+use Rattle.std.specs.Prelude.{ℕ, Bool, true, false, List, [], ◌∷◌, ◌++◌, codes, length, map}
+use Rattle.ll_item.specs.ItemLines.{counted_line, end_line, init_line, part_line}
+use Rattle.ll_item.specs.Items.{flags_text}
+use Rattle.ll_mp4.specs.Pieces.{Piece, Init, Media}
 use Rattle.ll_push.specs.declared.watch.Said.{Said}
 use Rattle.ll_push.specs.declared.watch.Said.TheVariants as said
-use Rattle.ll_mp4.specs.Pieces.{Piece, Init, Media}
 
 -- the names of a channel and of one of its renditions
 pub record Names : Type 0 where
   pub channel : List ℕ
   pub rendition : List ℕ
 
--- ---- lines
+-- the line of an item of a channel, without its end
+unfoldable pub sent_line : List ℕ → List ℕ → List ℕ
+sent_line channel line = channel ++ (codes " " ++ line)
 
--- of an initialization section of so many bytes
-unfoldable pub init_line : Names → ℕ → List ℕ
-init_line names len = names.channel ++ (codes " init " ++ (names.rendition ++ (codes " " ++ (decimal len ++ codes "\n"))))
+-- an item's line with the number of its bytes, and these, with LF after each
+abbrev pub item_text : List ℕ → List ℕ → List ℕ → List ℕ
+item_text channel line bytes = sent_line channel (counted_line line (length bytes)) ++ 10 ∷ (bytes ++ 10 ∷ [])
 
--- of a part of `duration` microseconds and `len` bytes, with these flags
-unfoldable pub part_line : Names → ℕ → List ℕ → ℕ → List ℕ
-part_line names duration flags len =
-    names.channel ++ (codes " part " ++ (names.rendition ++ (codes " " ++ (decimal duration ++ (codes " " ++ (flags ++ (codes " " ++ (decimal len ++ codes "\n"))))))))
+-- the line of an item that has none
+abbrev pub bare_text : List ℕ → List ℕ → List ℕ
+bare_text channel line = sent_line channel line ++ 10 ∷ []
 
--- of the end
-unfoldable pub end_line : Names → List ℕ
-end_line names = names.channel ++ (codes " end " ++ (names.rendition ++ codes "\n"))
-
--- whether a part is independent, and whether it is the last of its segment
-abbrev pub flags : Bool → Bool → List ℕ
-flags true true = codes "if"
-flags true false = codes "i"
-flags false true = codes "f"
-flags false false = codes "-"
-
--- ---- messages
-
-abbrev pub size : List ℕ → ℕ
-size bytes = length bytes
-
--- a line, an item's bytes and LF
-abbrev pub followed : List ℕ → List ℕ → List ℕ
-followed line bytes = line ++ (bytes ++ 10 ∷ [])
-
+-- the message of a piece
 abbrev pub piece_text : Names → Piece → List ℕ
-piece_text names (Init bytes) = followed (init_line names (size bytes)) bytes
-piece_text names (Media part) = followed (part_line names part.duration (flags part.independent part.finishes) (size part.bytes)) part.bytes
+piece_text names (Init bytes) = item_text names.channel (init_line names.rendition) bytes
+piece_text names (Media part) =
+    item_text names.channel (part_line names.rendition part.duration (flags_text part.independent part.finishes)) part.bytes
 
 -- one after another
 abbrev pub piece_texts : Names → List Piece → List (List ℕ)
 piece_texts names pieces = map (piece_text names) pieces
 
 abbrev pub end_text : Names → List ℕ
-end_text names = end_line names
+end_text names = bare_text names.channel (end_line names.rendition)
 
 -- what a message announces
 abbrev pub said_of : Piece → Said

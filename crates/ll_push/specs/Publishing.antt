@@ -77,26 +77,25 @@ pub record HasGone (before : PublisherValue) (input : List ℕ) (first : LinkVal
   pub gone : IsGone mid last
   pub some : accepted ≡ nat_le 1 (length sent)
 
--- Some messages were sent and accepted, and then one that was answered by this line, which refuses it.
-pub record HasRefused (before : PublisherValue) (input : List ℕ) (first last : LinkValue) (line : List ℕ) : Type 0 where
+-- Some messages were sent and accepted, up to one.
+pub record HasSentUpTo (before : PublisherValue) (input : List ℕ) (first : LinkValue) : Type 0 where
   pub sent : List (List ℕ)
   pub message : List ℕ
   pub later : List (List ℕ)
   pub all : messages_to_come before input ≡ sent ++ message ∷ later
   pub mid : LinkValue
   pub exchanged : AreExchanged sent first mid
-  pub last_one : IsExchanged message line mid last
+
+-- Some messages were sent and accepted, and then one that was answered by this line, which refuses it.
+pub record HasRefused (before : PublisherValue) (input : List ℕ) (first last : LinkValue) (line : List ℕ) : Type 0 where
+  pub at : HasSentUpTo before input first
+  pub last_one : IsExchanged at.message line at.mid last
   pub refuses : refuses line ≡ true
 
 -- Some messages were sent and accepted, and then one has no answer, for this reason.
 pub record HasFailed (before : PublisherValue) (input : List ℕ) (first last : LinkValue) (fault : PushFault) : Type 0 where
-  pub sent : List (List ℕ)
-  pub message : List ℕ
-  pub later : List (List ℕ)
-  pub all : messages_to_come before input ≡ sent ++ message ∷ later
-  pub mid : LinkValue
-  pub exchanged : AreExchanged sent first mid
-  pub why : IsUnanswered message mid last fault
+  pub at : HasSentUpTo before input first
+  pub why : IsUnanswered at.message at.mid last fault
 
 -- So many messages were sent and accepted.
 pub record HasSent (many : ℕ) (before : PublisherValue) (input : List ℕ) (first last : LinkValue) : Type 0 where

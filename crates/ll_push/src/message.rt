@@ -1,11 +1,15 @@
 //! The messages that an origin is sent: a line each, which an item's bytes and LF may follow.
-ghost use Rattle.std.specs.Prelude.{◌≡◌, ◌++◌, ◌∷◌, [], IfOk, string_bytes};
+ghost use Rattle.std.specs.Prelude.{◌≡◌, IfOk};
+ghost use Rattle.ll_item.specs.ItemLines as lines;
+ghost use Rattle.ll_item.specs.ItemLines.{line_text};
+ghost use Rattle.ll_item.specs.Items.{flags_text};
 ghost use Rattle.ll_push.specs.Messages as spec;
 ghost use Rattle.ll_push.specs.Meaning.{named};
 ghost use Rattle.ll_mp4.specs.Meaning.{meant};
 
 use crate::place::Place;
 use crate::watch::Said;
+use ll_item::ItemLine;
 use ll_mp4::{Part, Piece};
 use std::alloc::{AllocError, Global};
 use std::marker::Model;
@@ -26,7 +30,7 @@ impl Model for Message {
 }
 
 impl Message {
-    /// The message of a piece.
+    /// Returns the message of `piece` at `place`.
     pub(crate) fn of(
         alloc: Global,
         place: &Place<'_>,
@@ -34,13 +38,14 @@ impl Message {
     ) -> Result<Message, AllocError>
         ensures { IfOk result (λ m. m ≡ spec.piece_message (named place.now) (meant piece.now)) }
     {
+        let Place { channel, rendition } = *place;
         match piece {
             Piece::Init(bytes) => Ok(Message {
-                bytes: followed(init_line(alloc, place, bytes.len())?, bytes)?,
+                bytes: item_text(alloc, channel, ItemLine::Init { rendition }, bytes)?,
                 said: Said::Init,
             }),
             Piece::Media(part) => Ok(Message {
-                bytes: followed(part_line(alloc, place, part)?, part.bytes)?,
+                bytes: item_text(alloc, channel, part_line(rendition, part), part.bytes)?,
                 said: Said::Part {
                     duration: part.duration,
                     finishes: part.finishes,
@@ -49,12 +54,13 @@ impl Message {
         }
     }
 
-    /// The message that nothing more comes.
+    /// Returns the message that nothing more comes at `place`.
     pub(crate) fn end(alloc: Global, place: &Place<'_>) -> Result<Message, AllocError>
         ensures { IfOk result (λ m. m ≡ spec.end_message (named place.now)) }
     {
+        let Place { channel, rendition } = *place;
         Ok(Message {
-            bytes: end_line(alloc, place)?.into_bytes(),
+            bytes: bare_text(alloc, channel, ItemLine::End { rendition })?,
             said: Said::End,
         })
     }
@@ -74,52 +80,39 @@ impl Message {
     }
 }
 
-/// A line that an item's bytes and LF follow.
-fn followed(line: String, bytes: &[u8]) -> Result<Vec<u8>, AllocError>
-    ensures { IfOk result (λ m. m.items ≡ string_bytes line ++ (bytes.now ++ 10 ∷ [])) }
+/// Returns the message of the item of `channel` that `line` spells and that has these `bytes`.
+#[tactic(auto, unfolding(crate::specs::Messages::sent_line))]
+fn item_text(
+    alloc: Global,
+    channel: &str,
+    line: ItemLine<'_>,
+    bytes: &[u8],
+) -> Result<Vec<u8>, AllocError>
+    ensures { IfOk result (λ m. m.items ≡ spec.item_text channel.now (line_text line.entry) bytes.now) }
 {
-    let mut message = line.into_bytes();
+    let length = bytes.len();
+    let mut message = format!(in alloc; "{channel} {line} {length}\n")?.into_bytes();
     message.extend_from_slice(bytes)?;
     message.push(b'\n')?;
     Ok(message)
 }
 
-/// The line of an initialization section of so many bytes.
-#[tactic(auto, unfolding(crate::specs::Messages::init_line))]
-fn init_line(alloc: Global, place: &Place<'_>, len: usize) -> Result<String, AllocError>
-    ensures { IfOk result (λ t. string_bytes t ≡ spec.init_line (named place.now) len) }
+/// Returns the message of the item of `channel` that `line` spells and that has no bytes.
+#[tactic(auto, unfolding(crate::specs::Messages::sent_line))]
+fn bare_text(alloc: Global, channel: &str, line: ItemLine<'_>) -> Result<Vec<u8>, AllocError>
+    ensures { IfOk result (λ m. m.items ≡ spec.bare_text channel.now (line_text line.entry)) }
 {
-    let Place { channel, rendition } = *place;
-    format!(in alloc; "{channel} init {rendition} {len}\n")
+    Ok(format!(in alloc; "{channel} {line}\n")?.into_bytes())
 }
 
-/// The line of a part.
-#[tactic(auto, unfolding(crate::specs::Messages::part_line))]
-fn part_line(alloc: Global, place: &Place<'_>, part: &Part<'_>) -> Result<String, AllocError>
-    ensures { IfOk result (λ t. string_bytes t ≡ spec.part_line (named place.now) part.now.duration (spec.flags part.now.independent part.now.finishes) (spec.size part.now.bytes.now)) }
+/// Returns the line of `part` in the rendition of this name, without the number of its bytes.
+fn part_line<'a>(rendition: &'a str, part: &Part<'_>) -> ItemLine<'a>
+    ensures { line_text result ≡ lines.part_line rendition.now part.now.duration (flags_text part.now.independent part.now.finishes) }
 {
-    let Place { channel, rendition } = *place;
-    let (duration, flags, len) = (part.duration, flags(part), part.bytes.len());
-    format!(in alloc; "{channel} part {rendition} {duration} {flags} {len}\n")
-}
-
-/// The flags of a part.
-fn flags(part: &Part<'_>) -> &'static str
-    ensures { result.now ≡ spec.flags part.now.independent part.now.finishes }
-{
-    match (part.independent, part.finishes) {
-        (true, true) => "if",
-        (true, false) => "i",
-        (false, true) => "f",
-        (false, false) => "-",
+    ItemLine::Part {
+        rendition,
+        duration: part.duration,
+        independent: part.independent,
+        finish: part.finishes,
     }
-}
-
-/// The line of the end.
-#[tactic(auto, unfolding(crate::specs::Messages::end_line))]
-fn end_line(alloc: Global, place: &Place<'_>) -> Result<String, AllocError>
-    ensures { IfOk result (λ t. string_bytes t ≡ spec.end_line (named place.now)) }
-{
-    let Place { channel, rendition } = *place;
-    format!(in alloc; "{channel} end {rendition}\n")
 }

@@ -1,0 +1,9 @@
+-- The law has a file of its own.
+use Rattle.ll_laws.proofs.AnsweredProof.{accepted, refused}
+use Rattle.ll_laws.proofs.answered_law.Goals as goal
+
+pub returns-clause-accepted : goal.returns-clause-accepted
+returns-clause-accepted c = accepted
+
+pub returns-clause-refused : goal.returns-clause-refused
+returns-clause-refused c = refused
