@@ -99,7 +99,7 @@ next_ahead : (entry n m : ℕ) → m ≡ n + 1 → n + 1 ≢ entry → IsAhead e
 next_ahead entry n m is other (inl none) = inl none
 next_ahead entry n m is other (inr less) = inr (omega (arith, is, other, less))
 
-one_more : (ch now : Chain) (e : Event) → now ≡ record ch { events = ch.events ++ e ∷ [] } → entries (Some now) ≡ entries (Some ch) + 1
+pub one_more : (ch now : Chain) (e : Event) → now ≡ record ch { events = ch.events ++ e ∷ [] } → entries (Some now) ≡ entries (Some ch) + 1
 one_more ch now e is = ap (λ (c : Chain). entries (Some c)) is ∙ omega (arith, length-append ch.events (e ∷ []))
 
 ahead-told : (entry : ℕ) (p next : Position) (t : Told) (lines rest : List (List ℕ)) → Tells p t next lines rest

@@ -1,4 +1,8 @@
+pub mod Chains
+pub mod Counting
 pub mod Explained
 pub mod Seeking
+pub mod Summary
+pub mod SummaryLines
 pub mod Upgrade
 pub mod Words

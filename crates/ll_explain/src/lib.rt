@@ -4,10 +4,12 @@
 mod explained;
 mod laws;
 mod summary;
+mod summary_lines;
 mod upgraded;
 mod words;
 
 pub use explained::{ExplainFault, Explained, explain};
 pub use laws::upgrade_law;
-pub use summary::{Summary, summarize, summary_text};
+pub use summary::{Summary, summarize};
+pub use summary_lines::summary_text;
 pub use upgraded::upgrade;

@@ -1,7 +1,12 @@
 //! How much of what there is in each chain of a record.
-ghost use Rattle.std.specs.Prelude.{◌≡◌, ◌≢◌, IfErr, None, OnOk, Ok, Err, true, ℕ};
+ghost use Rattle.std.specs.Prelude.{◌≡◌, ◌≢◌, ◌++◌, ◌∷◌, ◌-◌, ◌^◌, ◌<◌, [], IfErr, IfOk, None, OnOk, Ok, Err, List, length, map, true, ℕ};
 ghost use Rattle.ll_attr.specs.Words.{pieces_at};
+ghost use Rattle.ll_directive.specs.Targets.{WantValue};
+ghost use Rattle.ll_enter.specs.declared.full.FullEntry.{FullEntry};
 ghost use Rattle.ll_entry.specs.Chain.{Between, checked, checked_from, not_before};
+ghost use Rattle.ll_explain.specs.Chains.{chains_in};
+ghost use Rattle.ll_explain.specs.Counting.{last_chain, one_more, with_kind, with_told};
+ghost use Rattle.ll_explain.specs.Summary.{held_now, summary_of};
 
 use ll_check::{Checker, Told};
 use ll_enter::FullEntry;
@@ -18,78 +23,89 @@ pub struct Summary {
     pub items: u64,
     /// The requests that got a playlist or media at once.
     pub at_once: u64,
-    /// The requests that were held, and got a reply before their time was over.
+    /// The requests that were held.
+    pub held: u64,
+    /// Those of them that got a reply before their time was over.
     pub answered: u64,
-    /// The requests that were held until their time was over.
+    /// Those that were held until their time was over.
     pub timed_out: u64,
+    /// Those that were given up.
+    pub given_up: u64,
     /// The requests for what was too far ahead.
     pub too_far: u64,
     /// The requests for a rendition or media that there isn't, as was told at once.
     pub not_found: u64,
     /// The requests that came when as many waited as may wait.
     pub busy: u64,
-    /// The requests that were held, and were given up.
-    pub given_up: u64,
-    /// The requests that are held, and neither got their reply nor were given up.
-    pub open: u64,
-    /// The most that were so at one time.
-    pub most_open: u64,
-    /// The first reading of the clock, in milliseconds; none where there is none.
+    /// The most requests that were held at one time.
+    pub most_held: u64,
+    /// The first reading of the clock, in milliseconds; none if there is none.
     pub first: Option<u64>,
     /// The last one.
     pub last: Option<u64>,
 }
 
 impl Summary {
-    /// A chain of no entries.
-    fn new() -> Summary {
+    /// Returns the summary of a chain of no entries.
+    pub fn new() -> Summary
+        ensures { result ≡ summary_of [] }
+    {
         Summary {
             entries: 0,
             items: 0,
             at_once: 0,
+            held: 0,
             answered: 0,
             timed_out: 0,
+            given_up: 0,
             too_far: 0,
             not_found: 0,
             busy: 0,
-            given_up: 0,
-            open: 0,
-            most_open: 0,
+            most_held: 0,
             first: None,
             last: None,
         }
     }
 
-    /// Counts one more entry.
-    fn add(&mut self, entry: &FullEntry) {
+    /// Counts `entry`, the next one of the chain.
+    pub fn add(&mut self, entry: &FullEntry)
+        ensures { (before : List FullEntry) → length before < 2 ^ 64 - 1 → self.old ≡ summary_of before → self.new ≡ summary_of (before ++ entry.now ∷ []) }
+    {
         count(&mut self.entries);
+        self.add_kind(entry);
+        self.most_held = self.most_held.max(self.still_held());
+    }
+
+    /// Returns how many requests are held at the chain's end: they neither got their reply nor were given up.
+    pub fn still_held(&self) -> u64
+        ensures { result ≡ held_now self.now }
+    {
+        let handed_out = self.answered.saturating_add(self.timed_out);
+        self.held
+            .saturating_sub(handed_out.saturating_add(self.given_up))
+    }
+
+    /// Counts `entry` for what it tells.
+    fn add_kind(&mut self, entry: &FullEntry)
+        ensures { self.new ≡ with_kind self.old entry.now }
+    {
         match entry {
             FullEntry::Publish => count(&mut self.items),
             FullEntry::Ask(_, _, Some(outcome)) => self.add_answer(*outcome),
-            FullEntry::Ask(_, _, None) => {
-                count(&mut self.open);
-                self.most_open = self.most_open.max(self.open);
-            }
+            FullEntry::Ask(_, _, None) => count(&mut self.held),
             FullEntry::Clock(ms) => {
                 self.first = self.first.or(Some(*ms));
                 self.last = Some(*ms);
             }
-            FullEntry::Collect(_, outcome) => {
-                self.open = self.open.saturating_sub(1);
-                match outcome {
-                    Outcome::Timeout => count(&mut self.timed_out),
-                    _ => count(&mut self.answered),
-                }
-            }
-            FullEntry::Close(_) => {
-                self.open = self.open.saturating_sub(1);
-                count(&mut self.given_up);
-            }
+            FullEntry::Collect(_, outcome) => self.add_reply(*outcome),
+            FullEntry::Close(_) => count(&mut self.given_up),
         }
     }
 
-    /// Counts what a request got at once.
-    fn add_answer(&mut self, outcome: Outcome) {
+    /// Counts `outcome`, which a request got at once.
+    fn add_answer(&mut self, outcome: Outcome)
+        ensures { (ask : ℕ) (want : WantValue) → self.new ≡ with_kind self.old (FullEntry.Ask ask want (Some outcome)) }
+    {
         match outcome {
             Outcome::Text(..) | Outcome::Media(..) | Outcome::Timeout => count(&mut self.at_once),
             Outcome::NotFound => count(&mut self.not_found),
@@ -97,16 +113,33 @@ impl Summary {
             Outcome::Busy => count(&mut self.busy),
         }
     }
+
+    /// Counts `outcome`, which was handed out to a request that was held.
+    fn add_reply(&mut self, outcome: Outcome)
+        ensures { (ask : ℕ) → self.new ≡ with_kind self.old (FullEntry.Collect ask outcome) }
+    {
+        match outcome {
+            Outcome::Timeout => count(&mut self.timed_out),
+            _ => count(&mut self.answered),
+        }
+    }
 }
 
 /// Counts one more.
-fn count(many: &mut u64) {
+fn count(many: &mut u64)
+    ensures { many.new ≡ one_more many.old }
+{
     *many = many.saturating_add(1);
 }
 
-/// How much of what there is in each chain of a record, which has to be right as for [`check`](ll_check::check).
+/// Returns how much of what there is in each chain of the record `chunks`.
+///
+/// # Errors
+///
+/// The fault of the record, as [`check`](ll_check::check) has it; Memory if memory runs out.
 pub fn summarize(alloc: Global, chunks: &[u8]) -> Result<Vec<Summary>, CheckFault>
     ensures right { OnOk result ((n : ℕ) × (checked chunks.now ≡ Ok n)) }
+    ensures counts { IfOk result (λ all. all.items ≡ map summary_of (chains_in chunks.now)) }
     ensures wrong { IfErr result (λ f. f.kind ≢ CheckKind.Memory → checked chunks.now ≡ Err f) }
     ensures memory { IfErr result (λ f. f.kind ≡ CheckKind.Memory → not_before f.entry (checked_from (Between None) (pieces_at 10 chunks.now)) ≡ true) }
 {
@@ -114,7 +147,7 @@ pub fn summarize(alloc: Global, chunks: &[u8]) -> Result<Vec<Summary>, CheckFaul
     summarize_by(alloc, &mut checker, chunks)
 }
 
-/// The same, by a checker to which nothing has come.
+/// Does the same by `checker`, to which nothing has come.
 fn summarize_by(
     alloc: Global,
     checker: &mut Checker,
@@ -122,15 +155,17 @@ fn summarize_by(
 ) -> Result<Vec<Summary>, CheckFault>
     requires { checker.old ≡ None }
     ensures right { OnOk result ((n : ℕ) × (checked chunks.now ≡ Ok n)) }
+    ensures counts { IfOk result (λ all. all.items ≡ map summary_of (chains_in chunks.now)) }
     ensures wrong { IfErr result (λ f. f.kind ≢ CheckKind.Memory → checked chunks.now ≡ Err f) }
     ensures memory { IfErr result (λ f. f.kind ≡ CheckKind.Memory → not_before f.entry (checked_from (Between None) (pieces_at 10 chunks.now)) ≡ true) }
 {
     let mut chains = Vec::new(alloc);
     let mut rest = chunks;
     while let Some((told, more)) = checker.next(rest)? {
+        let entries = checker.entries();
         if add(&mut chains, &told).is_err() {
             return Err(CheckFault {
-                entry: checker.entries() + 1,
+                entry: entries + 1,
                 kind: CheckKind::Memory,
             });
         }
@@ -140,8 +175,11 @@ fn summarize_by(
     Ok(chains)
 }
 
-/// Counts what lines tell: a chain begins with a chunk that has no entries before it.
-fn add(chains: &mut Vec<Summary>, told: &Told<'_>) -> Result<(), AllocError> {
+/// Counts what lines tell, `told`: a chain begins with a chunk that has no entries before it.
+fn add(chains: &mut Vec<Summary>, told: &Told<'_>) -> Result<(), AllocError>
+    ensures { (before : List (List FullEntry)) → length (last_chain before) < 2 ^ 64 - 1 → chains.old.items ≡ map summary_of before
+        → OnOk result (chains.new.items ≡ map summary_of (with_told before told.now)) }
+{
     match told {
         Told::Begun(_, 0) => chains.push(Summary::new())?,
         Told::Entry(_, _, entry) => {
@@ -152,41 +190,4 @@ fn add(chains: &mut Vec<Summary>, told: &Told<'_>) -> Result<(), AllocError> {
         _ => {}
     }
     Ok(())
-}
-
-/// The summaries of chains, line by line.
-pub fn summary_text(alloc: Global, chains: &[Summary]) -> Result<String, AllocError> {
-    let mut text = String::new(alloc);
-    let mut number: u64 = 0;
-    for chain in chains {
-        count(&mut number);
-        text.push_str(events_text(alloc, number, chain)?.as_str())?;
-        text.push_str(requests_text(alloc, chain)?.as_str())?;
-        text.push_str(refused_text(alloc, chain)?.as_str())?;
-    }
-    Ok(text)
-}
-
-/// The entries, items and readings of the chain of this number.
-fn events_text(alloc: Global, number: u64, chain: &Summary) -> Result<String, AllocError> {
-    let (entries, items) = (chain.entries, chain.items);
-    let (first, last) = (chain.first.unwrap_or(0), chain.last.unwrap_or(0));
-    format!(in alloc;
-        "chain {number}\nentries {entries}\nitems {items}\nfirst reading {first}\nlast reading {last}\n"
-    )
-}
-
-/// The requests of a chain that could get what they asked for.
-fn requests_text(alloc: Global, chain: &Summary) -> Result<String, AllocError> {
-    let (at_once, answered, timed_out) = (chain.at_once, chain.answered, chain.timed_out);
-    let (given_up, open, most) = (chain.given_up, chain.open, chain.most_open);
-    format!(in alloc;
-        "answered at once {at_once}\nheld and answered {answered}\ntimed out {timed_out}\ngiven up {given_up}\nstill held {open}\nmost held {most}\n"
-    )
-}
-
-/// The requests of a chain that were refused.
-fn refused_text(alloc: Global, chain: &Summary) -> Result<String, AllocError> {
-    let (too_far, not_found, busy) = (chain.too_far, chain.not_found, chain.busy);
-    format!(in alloc; "too far {too_far}\nnot found {not_found}\nbusy {busy}\n")
 }

@@ -1,0 +1,3 @@
+pub mod ChannelLemmas
+pub mod ConfigLemmas
+pub mod LineLemmas

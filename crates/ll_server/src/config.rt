@@ -1,29 +1,22 @@
 //! The settings of a server, a line each.
-ghost use Rattle.std.specs.Prelude.{◌≤◌, ◌<◌, IfOk, IsSome, length, vec_len};
+ghost use Rattle.std.specs.Prelude.{◌≡◌, ◌≤◌, ◌<◌, ◌+◌, IfErr, IfOk, IsErrOf, IsOk, OnErr, OnOk, Ok, Err, [], Some, length, option_map, vec_len, ℕ};
+ghost use Rattle.ll_item.specs.Settings.{settings_in};
+ghost use Rattle.ll_server.specs.Config as spec;
+ghost use Rattle.ll_server.specs.Config.{address_line, channel_line, channels_from, config_in, next, next_path, path_line, workers_line};
+ghost use Rattle.ll_server.specs.Faults.{IsFault, IsRightTo, LeadsPast};
 
+use crate::fault::ConfigFault;
+use crate::lines::Lines;
 use ll_attr::{Text, after, parse_number};
 use ll_item::{Settings, SettingsFault};
-use std::alloc::Global;
+use std::alloc::{AllocError, Global};
 use std::net::SocketAddrV4;
-use std::str;
-use thiserror::Error;
 
 /// The most channels of a server.
 const CHANNELS: usize = 1_024;
 
 /// The most workers of each role.
 const WORKERS: u64 = 4_096;
-
-/// Why a settings file tells nothing.
-#[derive(Clone, Copy, Debug, Error)]
-pub enum ConfigFault {
-    /// The first line that can't stand in its place, counted from 1; where the file ends too early, it is the line after its last.
-    #[error("BadLine {0}")]
-    BadLine(u64),
-    /// Out of memory.
-    #[error("Memory")]
-    Memory,
-}
 
 /// What a server is told: its lines, in this order.
 #[derive(Drop)]
@@ -53,18 +46,31 @@ pub struct Workers {
 }
 
 impl Config {
-    /// What a settings file tells, or why it tells nothing.
-    pub fn read(alloc: Global, bytes: &[u8]) -> Result<Config, ConfigFault> {
-        let mut lines = Lines {
-            rest: bytes,
-            number: 0,
-        };
-        let players = lines.address("listen ")?;
-        let publishers = lines.address("publish ")?;
-        let workers = lines.workers()?;
-        let record = lines.path(alloc, "record ")?;
-        let log = lines.path(alloc, "log ")?;
-        let channels = lines.channels(alloc)?;
+    /// Returns what the settings file `bytes` tells.
+    ///
+    /// # Errors
+    ///
+    /// `BadLine` with the number of the first line that can't stand in its place, counted from 1; `Memory` if no memory was found for a path or a channel,
+    /// and the lines before it are right.
+    pub fn read(alloc: Global, bytes: &[u8]) -> Result<Config, ConfigFault>
+        ensures value { IfOk result (λ c. config_in bytes.now ≡ Ok (record {
+          players = c.players;
+          publishers = c.publishers;
+          workers = c.workers.count;
+          record_path = c.record;
+          log_path = c.log;
+          channels = c.channels.items;
+        })) }
+        ensures refused { (line : ℕ) → IsErrOf result (ConfigFault.BadLine line) → config_in bytes.now ≡ Err line }
+        ensures memory { IsErrOf result ConfigFault.Memory → IfErr (config_in bytes.now) (λ line. 4 < line) }
+    {
+        let mut lines = Lines::of(bytes);
+        let players = read_address(&mut lines, "listen ")?;
+        let publishers = read_address(&mut lines, "publish ")?;
+        let workers = read_workers(&mut lines)?;
+        let record = read_path(alloc, &mut lines, "record ")?;
+        let log = read_path(alloc, &mut lines, "log ")?;
+        let channels = read_channels(alloc, &mut lines)?;
         Ok(Config {
             players,
             publishers,
@@ -76,116 +82,132 @@ impl Config {
     }
 }
 
-/// The lines of a settings file that weren't read, and the number of the last one that was, from 1.
-#[derive(Drop)]
-struct Lines<'a> {
-    rest: &'a [u8],
-    number: u64,
-}
-
-impl<'a> Lines<'a> {
-    /// The next line, without its end; nothing after the last.
-    fn next(&mut self) -> Result<Option<&'a str>, ConfigFault>
-        ensures { IfOk result (λ line. IsSome line → length self.new.rest.now < length self.old.rest.now) }
-    {
-        self.number = self.number.saturating_add(1);
-        if self.rest.is_empty() {
-            return Ok(None);
-        }
-        let end = self.rest.iter().position(|b| *b == b'\n');
-        let (line, rest) = match end {
-            Some(end) => (&self.rest[..end], &self.rest[end + 1..]),
-            None => (self.rest, &self.rest[self.rest.len()..]),
-        };
-        self.rest = rest;
-        let line = line.strip_suffix(b"\r").unwrap_or(line);
-        match str::from_utf8(line) {
-            Ok(text) => Ok(Some(text)),
-            Err(_) => Err(self.bad()),
-        }
-    }
-
-    /// The line that was read can't stand in its place.
-    fn bad(&self) -> ConfigFault {
-        ConfigFault::BadLine(self.number)
-    }
-
-    /// What stands after this keyword in the next line, which begins with it.
-    fn value(&mut self, keyword: &str) -> Result<&'a str, ConfigFault> {
-        match self.next()? {
-            Some(line) => match after(line, keyword) {
-                Some(value) => Ok(value),
-                None => Err(self.bad()),
-            },
-            None => Err(self.bad()),
-        }
-    }
-
-    /// The address in the next line.
-    fn address(&mut self, keyword: &str) -> Result<SocketAddrV4, ConfigFault> {
-        match self.value(keyword)?.parse::<SocketAddrV4>() {
-            Ok(address) => Ok(address),
-            Err(_) => Err(self.bad()),
-        }
-    }
-
-    /// The number of workers in the next line.
-    fn workers(&mut self) -> Result<Workers, ConfigFault> {
-        match parse_number(self.value("workers ")?, 20) {
-            Some(count) if 1 <= count && count <= WORKERS => Ok(Workers {
-                count: count as usize,
-            }),
-            _ => Err(self.bad()),
-        }
-    }
-
-    /// The path in the next line, where that begins with this keyword; any other line is left for later.
-    fn path(&mut self, alloc: Global, keyword: &str) -> Result<Option<Text>, ConfigFault> {
-        if !self.rest.starts_with(keyword.as_bytes()) {
-            return Ok(None);
-        }
-        let path = self.value(keyword)?;
-        if path.is_empty() {
-            return Err(self.bad());
-        }
-        match Text::from_str(alloc, path) {
-            Ok(path) => Ok(Some(path)),
-            Err(_) => Err(ConfigFault::Memory),
-        }
-    }
-
-    /// The channels of all further lines, of which there is at least one.
-    fn channels(&mut self, alloc: Global) -> Result<Vec<Settings>, ConfigFault>
-        ensures some { IfOk result (λ all. 1 ≤ vec_len all) }
-        ensures few { IfOk result (λ all. vec_len all ≤ 1024) }
-    {
-        let mut all: Vec<Settings> = Vec::new(alloc);
-        while let Some(line) = self.next()? {
-            let settings = self.channel(alloc, line)?;
-            if all.len() == CHANNELS || has_name(&all, settings.channel()) {
-                return Err(self.bad());
-            }
-            if all.push(settings).is_err() {
-                return Err(ConfigFault::Memory);
-            }
-        }
-        if all.is_empty() {
-            return Err(self.bad());
-        }
-        Ok(all)
-    }
-
-    /// The channel of a settings line.
-    fn channel(&self, alloc: Global, line: &str) -> Result<Settings, ConfigFault> {
-        match Settings::read(alloc, line) {
-            Ok(settings) => Ok(settings),
-            Err(SettingsFault::Memory) => Err(ConfigFault::Memory),
-            Err(_) => Err(self.bad()),
-        }
+/// Returns the address in the next line, after `keyword`.
+fn read_address(lines: &mut Lines<'_>, keyword: &str) -> Result<SocketAddrV4, ConfigFault>
+    ensures value { IfOk result (λ a. next (address_line keyword.now) lines.old ≡ Ok (a, lines.new)) }
+    ensures number { OnOk result (lines.new.number ≡ lines.old.number + 1) }
+    ensures bad { IfErr result (λ fault. IsFault fault (next (address_line keyword.now) lines.old) ⊥) }
+{
+    let line = lines.text()?;
+    match address_in(line, keyword) {
+        Some(address) => Ok(address),
+        None => Err(lines.bad()),
     }
 }
 
-/// Whether one of these channels has this name.
-fn has_name(all: &[Settings], name: &str) -> bool {
+/// Returns the address in `line`, after `keyword`.
+fn address_in(line: &str, keyword: &str) -> Option<SocketAddrV4>
+    ensures { result ≡ address_line keyword.now line.now }
+{
+    after(line, keyword)?.parse::<SocketAddrV4>().ok()
+}
+
+/// Returns the number of workers in the next line.
+fn read_workers(lines: &mut Lines<'_>) -> Result<Workers, ConfigFault>
+    ensures value { IfOk result (λ w. next workers_line lines.old ≡ Ok (w.count, lines.new)) }
+    ensures number { OnOk result (lines.new.number ≡ lines.old.number + 1) }
+    ensures bad { IfErr result (λ fault. IsFault fault (next workers_line lines.old) ⊥) }
+{
+    let line = lines.text()?;
+    match workers_in(line) {
+        Some(workers) => Ok(workers),
+        None => Err(lines.bad()),
+    }
+}
+
+/// Returns the number of workers in `line`.
+fn workers_in(line: &str) -> Option<Workers>
+    ensures { option_map (λ w. w.count) result ≡ workers_line line.now }
+{
+    let count = parse_number(after(line, "workers ")?, 20)?;
+    if 1 <= count && count <= WORKERS {
+        Some(Workers {
+            count: count as usize,
+        })
+    } else {
+        None
+    }
+}
+
+/// Returns the path in the next line, if that begins with `keyword`. Any other line is left for later.
+fn read_path(
+    alloc: Global,
+    lines: &mut Lines<'_>,
+    keyword: &str,
+) -> Result<Option<Text>, ConfigFault>
+    ensures value { IfOk result (λ p. next_path keyword.now lines.old ≡ Ok (p, lines.new)) }
+    ensures number { OnOk result (lines.old.number ≤ lines.new.number) }
+    ensures bad { IfErr result (λ fault. IsFault fault (next_path keyword.now lines.old) (LeadsPast lines.old.number (next_path keyword.now lines.old))) }
+{
+    if !lines.begins(keyword) {
+        return Ok(None);
+    }
+    let line = lines.text()?;
+    let Some(path) = path_in(line, keyword) else {
+        return Err(lines.bad());
+    };
+    match Text::from_str(alloc, path) {
+        Ok(path) => Ok(Some(path)),
+        Err(AllocError) => Err(ConfigFault::Memory),
+    }
+}
+
+/// Returns the path in `line`, after `keyword`: one byte or more.
+fn path_in<'a>(line: &'a str, keyword: &str) -> Option<&'a str>
+    ensures { option_map (λ p. p.now) result ≡ path_line keyword.now line.now }
+{
+    let path = after(line, keyword)?;
+    if path.is_empty() { None } else { Some(path) }
+}
+
+/// Returns the channels of all lines that are left, of which there is at least one.
+fn read_channels(alloc: Global, lines: &mut Lines<'_>) -> Result<Vec<Settings>, ConfigFault>
+    ensures value { IfOk result (λ all. channels_from [] lines.old.lines lines.old.number ≡ Ok all.items) }
+    ensures bad { IfErr result (λ fault. IsFault fault (channels_from [] lines.old.lines lines.old.number) (IsRightTo lines.old.number (channels_from [] lines.old.lines lines.old.number))) }
+    ensures some { IfOk result (λ all. 1 ≤ vec_len all) }
+    ensures few { IfOk result (λ all. vec_len all ≤ 1024) }
+{
+    let mut all: Vec<Settings> = Vec::new(alloc);
+    while !lines.is_over() {
+        let line = lines.text()?;
+        match channel_in(alloc, &all, line) {
+            Ok(Some(settings)) => {
+                if all.push(settings).is_err() {
+                    return Err(ConfigFault::Memory);
+                }
+            }
+            Ok(None) => return Err(lines.bad()),
+            Err(AllocError) => return Err(ConfigFault::Memory),
+        }
+    }
+    if all.is_empty() {
+        return Err(lines.missing());
+    }
+    Ok(all)
+}
+
+/// Returns the channel of the settings line `line`, if it can stand after the channels `before`.
+fn channel_in(
+    alloc: Global,
+    before: &[Settings],
+    line: &str,
+) -> Result<Option<Settings>, AllocError>
+    ensures value { IfOk result (λ s. s ≡ channel_line before.now line.now) }
+    ensures memory { OnErr result (IsOk (settings_in line.now)) }
+{
+    if before.len() >= CHANNELS {
+        return Ok(None);
+    }
+    match Settings::read(alloc, line) {
+        Ok(settings) if !has_name(before, settings.channel()) => Ok(Some(settings)),
+        Err(SettingsFault::Memory) => Err(AllocError),
+        _ => Ok(None),
+    }
+}
+
+/// Returns whether one of the channels `all` has the name `name`.
+fn has_name(all: &[Settings], name: &str) -> bool
+    ensures { result ≡ spec.has_name all.now name.now }
+{
     all.iter().any(|settings| settings.channel() == name)
 }

@@ -4,13 +4,16 @@
 
 mod config;
 mod counts;
+mod fault;
 mod gate;
 mod journal;
+mod lines;
 mod log;
 mod numbers;
 mod records;
 
-pub use config::{Config, ConfigFault, Workers};
+pub use config::{Config, Workers};
+pub use fault::ConfigFault;
 pub use gate::Gate;
 pub use log::Log;
 pub use numbers::Numbers;

@@ -43,8 +43,8 @@ impl<R> Records<'_, R> {
     }
 }
 
-impl<R: Eprint> Sink for Records<'_, R> {
-    fn take(&self, channel: usize, chunk: Chunk) {
+impl<R: Eprint> Sink for &Records<'_, R> {
+    fn take(&mut self, channel: usize, chunk: Chunk) {
         if let Some(record) = self.kept.get(channel) {
             record.append(self.rt, chunk.bytes());
         }

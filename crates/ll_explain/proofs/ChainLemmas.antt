@@ -1,0 +1,164 @@
+-- The chains of a record, by what its first lines tell.
+use Rattle.std.proofs.Common.{◌≡◌, ◌≤◌, ◌<◌, ◌^◌, ◌+◌, ◌-◌, ℕ, zero, suc, List, [], ◌∷◌, ◌++◌, cond, length, length-append, map, Option, Some, None, Result, Ok, refl, ap, sym, subst, ◌∙◌, append_assoc, option_map, arith}
+use Rattle.std.proofs.lemmas.List.{append-nil}
+use Rattle.ll_attr.specs.Words.{pieces_at}
+use Rattle.ll_check.proofs.Begun.{entry_line}
+use Rattle.ll_check.proofs.LaterLemmas.{Keeps, keeps_begun}
+use Rattle.ll_check.proofs.Places.{first-at}
+use Rattle.ll_check.proofs.StepLemmas.{GoesTo, moved}
+use Rattle.ll_check.specs.Found.{ChainValue, IsAt, so_far}
+use Rattle.ll_check.specs.Steps.{IsOver, Moves, Tells, full_entry}
+use Rattle.ll_check.specs.declared.told.Told.{Told}
+use Rattle.ll_check.specs.declared.told.Told.TheVariants as told
+use Rattle.ll_enter.specs.Full.{without_item}
+use Rattle.ll_enter.specs.declared.full.FullEntry.{FullEntry}
+use Rattle.ll_entry.specs.Chain.{Between, Chain, Inside, Position, checked_from, entries, text_in, with_line}
+use Rattle.ll_entry.specs.declared.fault.CheckKind.{CheckKind}
+use Rattle.ll_explain.proofs.ExplainLemmas.{one_more}
+use Rattle.ll_explain.specs.Chains.{Coming, after_chunk, after_entry, chains_in, coming, coming_by, nothing}
+use Rattle.ll_explain.specs.Counting.{joined, last_chain, with_entry, with_told}
+use Rattle.ll_explain.specs.Summary.{summary_of}
+use Rattle.ll_explain.specs.declared.summary.Summary.{Summary}
+
+-- ---- chains so far, and what comes after them
+
+joined-entry : (cs : List (List FullEntry)) (e : FullEntry) (later : Coming) → joined cs (after_entry (Some e) later) ≡ joined (with_entry cs e) later
+joined-entry [] e later = refl
+joined-entry (es ∷ []) e later = ap (λ l. l ∷ later.chains) (sym (append_assoc es (e ∷ []) later.entries))
+joined-entry (es ∷ fs ∷ []) e later = ap (λ l. es ∷ l) (joined-entry (fs ∷ []) e later)
+joined-entry (es ∷ fs ∷ gs ∷ more) e later = ap (λ l. es ∷ l) (joined-entry (fs ∷ gs ∷ more) e later)
+
+joined-chain : (cs : List (List FullEntry)) (later : Coming) → joined cs (after_chunk 0 later) ≡ joined (cs ++ [] ∷ []) later
+joined-chain [] later = refl
+joined-chain (es ∷ []) later = ap (λ l. l ∷ later.entries ∷ later.chains) (append-nil es)
+joined-chain (es ∷ fs ∷ more) later = ap (λ l. es ∷ l) (joined-chain (fs ∷ more) later)
+
+joined-nothing : (cs : List (List FullEntry)) → joined cs nothing ≡ cs
+joined-nothing [] = refl
+joined-nothing (es ∷ []) = ap (λ l. l ∷ []) (append-nil es)
+joined-nothing (es ∷ fs ∷ more) = ap (λ l. es ∷ l) (joined-nothing (fs ∷ more))
+
+-- what the first lines tell is a part of it
+tells-on : (p next : Position) (t : Told) (lines rest : List (List ℕ)) (cs : List (List FullEntry)) → Tells p t next lines rest
+    → joined cs (coming p lines) ≡ joined (with_told cs t) (coming next rest)
+tells-on (Between before) (Inside ch) (told.Begun settings zero) lines rest cs h =
+    ap (λ ls. joined cs (coming (Between before) ls)) h.header.are
+    ∙ ap (λ r. joined cs (coming_by r (λ ch. after_chunk (length ch.events) (coming (Inside ch) rest)))) h.header.begun
+    ∙ ap (λ n. joined cs (after_chunk n (coming (Inside ch) rest))) (sym h.many)
+    ∙ joined-chain cs (coming (Inside ch) rest)
+tells-on (Between before) (Inside ch) (told.Begun settings (suc at)) lines rest cs h =
+    ap (λ ls. joined cs (coming (Between before) ls)) h.header.are
+    ∙ ap (λ r. joined cs (coming_by r (λ ch. after_chunk (length ch.events) (coming (Inside ch) rest)))) h.header.begun
+    ∙ ap (λ n. joined cs (after_chunk n (coming (Inside ch) rest))) (sym h.many)
+tells-on (Inside ch) (Inside now) (told.Entry version line entry) lines rest cs h =
+    let from : Result Chain CheckKind → Coming = λ r. coming_by r (λ now. coming (Inside now) rest) in
+    ap (λ ls. joined cs (coming (Inside ch) ls)) h.are
+    ∙ ap (λ b. joined cs (cond b (coming (Between (Some ch)) rest) (after_entry (option_map without_item (full_entry ch line.now)) (from (with_line ch line.now))))) h.other
+    ∙ ap (λ o. joined cs (after_entry o (from (with_line ch line.now)))) h.told
+    ∙ ap (λ r. joined cs (after_entry (Some entry) (from r))) h.joined
+    ∙ joined-entry cs entry (coming (Inside now) rest)
+tells-on (Inside ch) (Between before) told.Ended lines rest cs h =
+    let other : Coming = after_entry (option_map without_item (full_entry ch h.line)) (coming_by (with_line ch h.line) (λ now. coming (Inside now) rest)) in
+    ap (λ ls. joined cs (coming (Inside ch) ls)) h.are
+    ∙ ap (λ b. joined cs (cond b (coming (Between (Some ch)) rest) other)) h.last
+    ∙ ap (λ o. joined cs (coming (Between o) rest)) (sym h.same)
+tells-on (Between before) (Between after) (told.Begun settings at) lines rest cs h = absurd h
+tells-on (Between before) next (told.Entry version line entry) lines rest cs h = absurd h
+tells-on (Between before) next told.Ended lines rest cs h = absurd h
+tells-on (Inside ch) next (told.Begun settings at) lines rest cs h = absurd h
+tells-on (Inside ch) (Between before) (told.Entry version line entry) lines rest cs h = absurd h
+tells-on (Inside ch) (Inside now) told.Ended lines rest cs h = absurd h
+
+-- ---- how long the last chain is
+
+last-entry : (cs : List (List FullEntry)) (e : FullEntry) → length (last_chain (with_entry cs e)) ≤ length (last_chain cs) + 1
+last-entry [] e = omega arith
+last-entry (es ∷ []) e = omega (arith, length-append es (e ∷ []))
+last-entry (es ∷ fs ∷ []) e = last-entry (fs ∷ []) e
+last-entry (es ∷ fs ∷ gs ∷ more) e = last-entry (fs ∷ gs ∷ more) e
+
+last-new : (cs : List (List FullEntry)) → last_chain (cs ++ [] ∷ []) ≡ []
+last-new [] = refl
+last-new (es ∷ []) = refl
+last-new (es ∷ fs ∷ more) = last-new (fs ∷ more)
+
+-- the last chain is no longer than all chains so far, and these are no fewer after more lines
+few-on : (p next : Position) (t : Told) (lines rest : List (List ℕ)) (cs : List (List FullEntry)) → Tells p t next lines rest
+    → length (last_chain cs) ≤ entries (so_far p) → (length (last_chain (with_told cs t)) ≤ entries (so_far next)) × (entries (so_far p) ≤ entries (so_far next))
+few-on (Between before) (Inside ch) (told.Begun settings zero) lines rest cs h few =
+    let keeps : Keeps before (Ok ch) =
+    subst (Keeps before) h.header.begun (keeps_begun before (text_in h.header.first) (text_in settings.now) (text_in h.header.place)) in
+    let new : length (last_chain (cs ++ [] ∷ [])) ≡ 0 = ap length (last-new cs) in (omega (arith, new), omega (arith, keeps))
+few-on (Between before) (Inside ch) (told.Begun settings (suc at)) lines rest cs h few =
+    let keeps : Keeps before (Ok ch) =
+    subst (Keeps before) h.header.begun (keeps_begun before (text_in h.header.first) (text_in settings.now) (text_in h.header.place)) in
+    (omega (arith, keeps, few), omega (arith, keeps))
+few-on (Inside ch) (Inside now) (told.Entry version line entry) lines rest cs h few =
+    let x = entry_line ch now line.now h.joined in
+    let more = one_more ch now x.event x.next in
+    let last = last-entry cs entry in (omega (arith, more, last, few), omega (arith, more))
+few-on (Inside ch) (Between before) told.Ended lines rest cs h few =
+    let same : entries (Some ch) ≡ entries before = ap entries (sym h.same) in (omega (arith, same, few), omega (arith, same))
+few-on (Between before) (Between after) (told.Begun settings at) lines rest cs h few = absurd h
+few-on (Between before) next (told.Entry version line entry) lines rest cs h few = absurd h
+few-on (Between before) next told.Ended lines rest cs h few = absurd h
+few-on (Inside ch) next (told.Begun settings at) lines rest cs h few = absurd h
+few-on (Inside ch) (Between before) (told.Entry version line entry) lines rest cs h few = absurd h
+few-on (Inside ch) (Inside now) told.Ended lines rest cs h few = absurd h
+
+-- ---- one step after another
+
+-- what is kept has gone over lines from the start, and the summaries are those of the chains so far
+pub record Counts (kept : Option ChainValue) (lines rest : List (List ℕ)) (summaries : List Summary) : Type 0 where
+  pub now : Position
+  pub at : IsAt kept now
+  pub same : checked_from (Between None) lines ≡ checked_from now rest
+  pub chains : List (List FullEntry)
+  pub few : length (last_chain chains) ≤ entries (so_far now)
+  pub told : (coming (Between None) lines).chains ≡ joined chains (coming now rest)
+  pub are : summaries ≡ map summary_of chains
+
+-- nothing was read yet
+pub counts-first : (kept : Option ChainValue) (lines : List (List ℕ)) (summaries : List Summary) → kept ≡ None → summaries ≡ [] → Counts kept lines lines summaries
+counts-first kept lines summaries none empty = record {
+  now = Between None;
+  at = first-at kept none;
+  same = refl;
+  chains = [];
+  few = omega arith;
+  told = refl;
+  are = empty;
+}
+
+-- the next lines were counted
+pub counts-next : (kept new : Option ChainValue) (t : Told) (lines mid : List (List ℕ)) (rest : List ℕ) (summaries more : List Summary) (n : ℕ)
+    → Counts kept lines mid summaries → ((q : Position) → IsAt kept q → Moves new q t mid (pieces_at 10 rest))
+    → ((q : Position) → IsAt new q → n ≡ entries (so_far q)) → n ≤ 2 ^ 63
+    → ((before : List (List FullEntry)) → length (last_chain before) < 2 ^ 64 - 1 → summaries ≡ map summary_of before → more ≡ map summary_of (with_told before t))
+    → Counts new lines (pieces_at 10 rest) more
+counts-next kept new t lines mid rest summaries more n c on many limit counted =
+    let m = on c.now c.at in
+    let few = few-on c.now m.next t mid (pieces_at 10 rest) c.chains m.by c.few in
+    let is = many m.next m.at in
+    record {
+      now = m.next;
+      at = m.at;
+      same = c.same ∙ moved c.now m.next t mid rest m.by;
+      chains = with_told c.chains t;
+      few = few.0;
+      told = c.told ∙ tells-on c.now m.next t mid (pieces_at 10 rest) c.chains m.by;
+      are = counted c.chains (omega (arith, c.few, few.1, is, limit)) c.are;
+    }
+
+pub goes-counts : (kept : Option ChainValue) (lines rest : List (List ℕ)) (summaries : List Summary) → Counts kept lines rest summaries
+    → GoesTo kept (Between None) lines rest
+goes-counts kept lines rest summaries c = record { now = c.now; at = c.at; same = c.same }
+
+-- no text is left: the chains so far are all
+pub counts-all : (kept new : Option ChainValue) (bytes : List ℕ) (rest : List ℕ) (summaries : List Summary) → Counts kept (pieces_at 10 bytes) (pieces_at 10 rest) summaries
+    → ((q : Position) → IsAt kept q → IsOver kept new q rest) → summaries ≡ map summary_of (chains_in bytes)
+counts-all kept new bytes rest summaries c over =
+    let o = over c.now c.at in
+    let none : coming c.now (pieces_at 10 rest) ≡ nothing =
+    ap (λ q. coming q (pieces_at 10 rest)) o.between ∙ ap (λ r. coming (Between (so_far c.now)) (pieces_at 10 r)) o.none in
+    c.are ∙ ap (map summary_of) (sym (c.told ∙ ap (joined c.chains) none ∙ joined-nothing c.chains))

@@ -1,0 +1,94 @@
+//! Settings files.
+use ll_server::Config;
+use std::alloc::{AllocError, Global};
+use std::process::Abort;
+use std::test::Fail;
+
+/// A settings file, an arrow, and what it means: where players come, where publishers come, how many workers there are, the paths of the records and of the
+/// numbers, or `-`, and the names of the channels. ␊ stands for LF, ␍ for CR, CHANNEL for a settings line up to the name, REST for what stands after the name,
+/// TWO for the first two lines, and THREE for the first three.
+const FILES: &str = "THREECHANNEL camREST => 127.0.0.1:8080 127.0.0.1:8081 4 - - cam
+THREECHANNEL camREST␊ => 127.0.0.1:8080 127.0.0.1:8081 4 - - cam
+THREECHANNEL camREST␍␊ => 127.0.0.1:8080 127.0.0.1:8081 4 - - cam
+THREECHANNEL camREST␍ => 127.0.0.1:8080 127.0.0.1:8081 4 - - cam
+THREECHANNEL camREST␍␍␊ => BadLine 4
+THREECHANNEL camREST␊␊ => BadLine 5
+THREECHANNEL camREST␊CHANNEL twoREST␊ => 127.0.0.1:8080 127.0.0.1:8081 4 - - cam two
+THREECHANNEL camREST␊CHANNEL twoREST␊CHANNEL camREST␊ => BadLine 6
+listen 0.0.0.0:0␍␊publish 255.255.255.255:65535␍␊workers 1␍␊CHANNEL camREST => 0.0.0.0:0 255.255.255.255:65535 1 - - cam
+listen 127.0.0.1:00080␊publish 127.0.0.1:1␊workers 1␊CHANNEL camREST => 127.0.0.1:80 127.0.0.1:1 1 - - cam
+listen 127.0.0.01:80␊publish 127.0.0.1:1␊workers 1␊CHANNEL camREST => BadLine 1
+TWOworkers 0␊CHANNEL camREST => BadLine 3
+TWOworkers 4096␊CHANNEL camREST => 127.0.0.1:8080 127.0.0.1:8081 4096 - - cam
+TWOworkers 4097␊CHANNEL camREST => BadLine 3
+TWOworkers 00000000000000004096␊CHANNEL camREST => 127.0.0.1:8080 127.0.0.1:8081 4096 - - cam
+TWOworkers 000000000000000004096␊CHANNEL camREST => BadLine 3
+THREErecord a b␊CHANNEL camREST => 127.0.0.1:8080 127.0.0.1:8081 4 a b - cam
+THREElog /c␊CHANNEL camREST => 127.0.0.1:8080 127.0.0.1:8081 4 - /c cam
+THREErecord a␍␊log c␍␊CHANNEL camREST => 127.0.0.1:8080 127.0.0.1:8081 4 a c cam
+THREErecord ␍␊CHANNEL camREST => BadLine 4
+THREElog c␊record a␊CHANNEL camREST => BadLine 5
+THREErecord log c␊CHANNEL camREST => 127.0.0.1:8080 127.0.0.1:8081 4 log c - cam
+ => BadLine 1
+␊ => BadLine 1
+TWO => BadLine 3
+THREE => BadLine 4
+THREElog c␊ => BadLine 5
+THREErecord a␊log c => BadLine 6";
+
+#[test]
+fn files_have_their_meaning(rt: HostRuntime) -> Result<(), Fail> {
+    for row in FILES.split('\n') {
+        check_row(&rt, rt.alloc(), row)?;
+    }
+    Ok(())
+}
+
+/// What the file before the arrow of a row means stands after it.
+fn check_row(rt: &impl Abort, alloc: Global, row: &str) -> Result<(), AllocError> {
+    let (file, answer) = row.split_once(" => ").unwrap_or((row, "an arrow"));
+    let told = told(alloc, text(alloc, file)?.as_str())?;
+    assert!(rt; told.as_str() == answer, "at {row}: {told}");
+    Ok(())
+}
+
+/// Returns the text of a file, from the words that stand for it in a row.
+fn text(alloc: Global, file: &str) -> Result<String, AllocError> {
+    let mut text = String::from_str(alloc, file)?;
+    for (word, meaning) in [
+        ("THREE", "TWOworkers 4␊"),
+        ("TWO", "listen 127.0.0.1:8080␊publish 127.0.0.1:8081␊"),
+        ("CHANNEL", "channel"),
+        (
+            "REST",
+            " target=4 part=1000000 skip=24 window=36 renditions=hi first=0 start=0",
+        ),
+        ("␊", "\n"),
+        ("␍", "\r"),
+    ] {
+        text = text.as_str().replace(alloc, word, meaning)?;
+    }
+    Ok(text)
+}
+
+/// Returns what a file means, or its fault.
+fn told(alloc: Global, file: &str) -> Result<String, AllocError> {
+    let mut told = String::new(alloc);
+    match Config::read(alloc, file.as_bytes()) {
+        Ok(config) => push_config(&mut told, &config)?,
+        Err(fault) => write!(told, "{fault}")?,
+    }
+    Ok(told)
+}
+
+fn push_config(told: &mut String, config: &Config) -> Result<(), AllocError> {
+    let (players, publishers, count) = (config.players, config.publishers, config.workers.count);
+    let records = config.record.as_ref().map_or("-", |path| path.as_str());
+    let log = config.log.as_ref().map_or("-", |path| path.as_str());
+    write!(told, "{players} {publishers} {count} {records} {log}")?;
+    for channel in &config.channels {
+        told.push(' ')?;
+        told.push_str(channel.channel())?;
+    }
+    Ok(())
+}

@@ -1,0 +1,146 @@
+//! The numbers for an operator.
+use crate::answers::{SHORT, answer};
+use ll_format::UtcTime;
+use ll_item::Settings;
+use ll_publish::Refusal;
+use ll_server::{Gate, Numbers};
+use ll_verdict::PublishFault;
+use std::alloc::{AllocError, Global};
+use std::process::Abort;
+use std::test::Fail;
+
+/// What happens on a channel, an arrow, and the numbers of its line that aren't 0 then: each event, answer and refusal is told under its own name, once.
+const EVENTS: &str = "held => held=1
+freed => 
+item => items=1
+full => full-records=1
+playlist => playlists=1
+update => updates=1
+media => media=1
+NotFound => NotFound=1
+TooFar => TooFar=1
+Busy => Busy=1
+Timeout => Timeout=1
+RecordFull => RecordFull=1
+Memory => Memory=1
+a bad head => 
+no NoRendition => no-NoRendition=1
+no Ended => no-Ended=1
+no BadDuration => no-BadDuration=1
+no TooLong => no-TooLong=1
+no OpenSegment => no-OpenSegment=1
+no CountEnd => no-CountEnd=1
+no TimeEnd => no-TimeEnd=1
+no IdTaken => no-IdTaken=1
+no BadAttribute => no-BadAttribute=1
+no IdUnknown => no-IdUnknown=1
+no RecordFull => no-RecordFull=1
+no Memory => no-Memory=1
+no BadLine => no-BadLine=1
+no NoSegment => no-NoSegment=1
+no TimeBack => no-TimeBack=1
+no UnknownChannel => 
+no LineTooLong => 
+no MediaTooLong => ";
+
+/// Each refusal.
+const REFUSALS: [Refusal; 18] = [
+    Refusal::Rule(PublishFault::NoRendition),
+    Refusal::Rule(PublishFault::Ended),
+    Refusal::Rule(PublishFault::BadDuration),
+    Refusal::Rule(PublishFault::TooLong),
+    Refusal::Rule(PublishFault::OpenSegment),
+    Refusal::Rule(PublishFault::NoSegment),
+    Refusal::Rule(PublishFault::CountEnd),
+    Refusal::Rule(PublishFault::TimeEnd),
+    Refusal::Rule(PublishFault::TimeBack),
+    Refusal::Rule(PublishFault::IdTaken),
+    Refusal::Rule(PublishFault::BadAttribute),
+    Refusal::Rule(PublishFault::IdUnknown),
+    Refusal::Rule(PublishFault::RecordFull),
+    Refusal::Rule(PublishFault::Memory),
+    Refusal::BadLine,
+    Refusal::UnknownChannel,
+    Refusal::LineTooLong,
+    Refusal::MediaTooLong,
+];
+
+#[test]
+fn numbers_have_their_names(rt: HostRuntime) -> Result<(), Fail> {
+    for row in EVENTS.split('\n') {
+        check_row(&rt, rt.alloc(), row)?;
+    }
+    Ok(())
+}
+
+/// The numbers after what stands before the arrow of a row stand after it.
+fn check_row(rt: &impl Abort, alloc: Global, row: &str) -> Result<(), AllocError> {
+    let (event, answer) = row.split_once(" => ").unwrap_or((row, "an arrow"));
+    let told = told(alloc, event)?;
+    assert!(rt; told.as_str() == answer, "at {row}: {told}");
+    Ok(())
+}
+
+/// Returns the numbers that aren't 0 once this has happened on a channel.
+fn told(alloc: Global, event: &str) -> Result<String, AllocError> {
+    let mut told = String::new(alloc);
+    let Ok(settings) = Settings::read(alloc, SHORT) else {
+        return Ok(told);
+    };
+    let channels = vec![in alloc; settings]?;
+    let numbers = Numbers::new(alloc, &channels)?;
+    happen(alloc, &numbers, event)?;
+    push_told(alloc, &numbers, &mut told)?;
+    Ok(told)
+}
+
+/// Makes it happen on the only channel.
+fn happen(alloc: Global, numbers: &Numbers, event: &str) -> Result<(), AllocError> {
+    match event {
+        "held" => numbers.held(0),
+        "freed" => {
+            numbers.held(0);
+            numbers.freed(0);
+        }
+        "item" => numbers.published(0, None),
+        "full" => numbers.filled(0),
+        _ => match refusal(event) {
+            Some(refusal) => numbers.published(0, Some(refusal)),
+            None => {
+                if let Some(answer) = answer(alloc, event)? {
+                    numbers.answered(0, &answer);
+                }
+            }
+        },
+    }
+    Ok(())
+}
+
+/// Returns the refusal whose name stands after `no `.
+fn refusal(event: &str) -> Option<Refusal> {
+    let name = event.strip_prefix("no ")?;
+    for refusal in REFUSALS {
+        if refusal.name() == name {
+            return Some(refusal);
+        }
+    }
+    None
+}
+
+/// Adds the numbers of the only channel that aren't 0.
+fn push_told(alloc: Global, numbers: &Numbers, told: &mut String) -> Result<(), AllocError> {
+    let Some(time) = UtcTime::at(0) else {
+        return Ok(());
+    };
+    let lines = numbers.lines(alloc, time)?;
+    let line = lines.as_str().strip_suffix('\n').unwrap_or("no end");
+    let Some(words) = line.strip_prefix("1970-01-01T00:00:00.000Z cam ") else {
+        return told.push_str(line);
+    };
+    for word in words.split(' ') {
+        if !word.ends_with("=0") {
+            told.push_str(word)?;
+        }
+    }
+    Ok(())
+}
