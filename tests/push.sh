@@ -236,16 +236,18 @@ fills_segment() {
     stopped TERM "$short" 6 "${six[@]}" && again 3 'no 4 TooLong' init0 s0.{0..3} s0=2.000000 s1.{0..3} then s1.4
 }
 
-# After what docs/OPERATING.md says to do by hand it begins a segment of its own, after a break. Players get all of both pushes.
+# After what docs/OPERATING.md says to do by hand, a `finish` and a break with a time, it begins a segment of its own. Players get all of both pushes, and the parts that the
+# `finish` made a segment at once.
 begins_anew_amid() {
-    stopped TERM "$short" 6 "${six[@]}" && publish 'cam break hi' 'no 5 OpenSegment' && publish 'cam part hi 1 f' 'ok 8' && publish 'cam break hi' 'ok 9' &&
-        again 0 '' init0 s0=2.000000 s1.{0..2} s1=1.000001 DISCONTINUITY init1 s2.{0..3} s2=2.000000 s3.{0..3} s3=2.000000 s4.{0,1} s4=1.000000 ENDLIST &&
+    stopped TERM "$short" 6 "${six[@]}" && publish 'cam break hi' 'no 5 OpenSegment' && publish 'cam finish hi' 'ok 8' &&
+        lists init0 s0.{0..3} s0=2.000000 s1.{0,1} s1=1.000000 then s2.0 && publish 'cam break hi 1790000123456' 'ok 9' &&
+        again 0 '' init0 s0=2.000000 s1.{0,1} s1=1.000000 DISCONTINUITY init1 s2.{0..3} s2=2.000000 s3.{0..3} s3=2.000000 s4.{0,1} s4=1.000000 ENDLIST &&
         plays_both 6
 }
 
-# So it does where no segment is open; there the break is accepted at once.
+# So it does where no segment is open; there the `finish` is refused, and the break is accepted at once.
 begins_anew_between() {
-    stopped INT "$short" 4 "${four[@]}" && publish 'cam break hi' 'ok 6' &&
+    stopped INT "$short" 4 "${four[@]}" && publish 'cam finish hi' 'no 17 NoSegment' && publish 'cam break hi' 'ok 6' &&
         again 0 '' init0 s0.{0..3} s0=2.000000 DISCONTINUITY init1 s1.{0..3} s1=2.000000 s2.{0..3} s2=2.000000 s3.{0,1} s3=1.000000 ENDLIST &&
         plays_both 4
 }

@@ -51,21 +51,22 @@ row() {
     follow "$2"
 }
 
-# Two channels, several renditions and a dozen connections, in an order that is the same each time: parts, breaks, ends, plain requests, requests for
-# what is next or a segment ahead, delta updates, targets that are refused, connections that hang up.
+# Two channels, several renditions and a dozen connections, in an order that is the same each time: parts, finishes of open segments and where none is open, breaks, ends, plain
+# requests, requests for what is next or a segment ahead, delta updates, targets that are refused, connections that hang up.
 same_as_replay() {
     local channels=('channel cam target=60 part=60000000 skip=360 window=540 renditions=hi,lo first=5 start=1790000000000'
         'channel two target=60 part=20000000 skip=360 window=540 renditions=hi first=0 start=0')
     start 64 "${channels[@]}" || return 1
     { printf '%s\n' "${channels[@]}"; awk -v seed="$1" '
         function below(n) { seed = (seed * 16807) % 2147483647; return seed % n }
+        function flags(    k) { k = below(6); return k == 0 ? "-" : k == 1 ? "i" : k < 4 ? "f" : "if" }
         function target(    c) {
             c = below(3) ? "cam" : "two"
             t = "/" c "/" (below(4) ? "hi" : "lo") "/live.m3u8"
             k = below(10)
             if (k < 3) return t
             if (k < 5) return t "?_HLS_skip=YES"
-            if (k < 8) return t "?_HLS_msn=" (c == "cam" ? 5 : 0) + int(parts[c] / 2) + below(3) (below(2) ? "" : "&_HLS_part=0")
+            if (k < 8) return t "?_HLS_msn=" (c == "cam" ? 5 : 0) + int(segments[c] / 2) + below(3) (below(2) ? "" : "&_HLS_part=" below(2))
             if (k == 8) return t "?_HLS_msn=" below(1000)
             return t "?_HLS_part=1"
         }
@@ -75,9 +76,11 @@ same_as_replay() {
             for (n = 1; n <= 400; n++) {
                 who = below(12) + 1
                 what = below(20)
-                if (what < 5) { c = below(3) ? "cam" : "two"; parts[c]++; print "pub " c " part " (below(3) ? "hi" : "lo") " " (below(20) + 1) * 1000000 " " (below(3) ? "f" : "if") }
+                c = below(3) ? "cam" : "two"
+                if (what < 5) { f = flags(); segments[c] += f ~ /f/; print "pub " c " part " (below(3) ? "hi" : "lo") " " (below(20) + 1) * 1000000 " " f }
                 else if (what == 5) print "pub cam break " (below(2) ? "hi" : "lo")
-                else if (what == 6) { print "drop " number[who]; number[who] = ++opened }
+                else if (what == 6) { segments[c]++; print "pub " c " finish " (below(3) ? "hi" : "lo") }
+                else if (what == 7) { print "drop " number[who]; number[who] = ++opened }
                 else print "say " number[who] " GET " target() " HTTP/1.1\\r\\nHost: a\\r\\n\\r\\n"
             }
             print "pub cam end hi\npub cam end lo\npub two end hi"

@@ -20,6 +20,10 @@ pub(crate) const CAM: &str =
 pub(crate) const DOOR: &str =
     "channel door target=4 part=1000000 skip=24 window=36 renditions=hi,lo first=0 start=0";
 
+/// A third of the same form.
+const YARD: &str =
+    "channel yard target=4 part=1000000 skip=24 window=36 renditions=hi,lo first=0 start=0";
+
 /// A part that starts a segment, or goes on with one.
 pub(crate) const PART: &str = "part hi 1000000 i";
 
@@ -119,6 +123,18 @@ pub(crate) fn hub_of_two<L: Ledgers>(rt: &impl Abort, alloc: Global, blanks: Bla
     let first = settings(rt, alloc, CAM);
     let second = settings(rt, alloc, DOOR);
     let channels = vec![in alloc; first, second].expect(rt, "channels");
+    Hub::new(alloc, channels, blanks).expect(rt, "a hub")
+}
+
+/// Returns a hub of three channels.
+pub(crate) fn hub_of_three<L: Ledgers>(rt: &impl Abort, alloc: Global, blanks: Blanks) -> Hub<L>
+    requires names { blanks ≡ L.names }
+    requires channels { L.channels ≡ 3 }
+{
+    let first = settings(rt, alloc, CAM);
+    let second = settings(rt, alloc, DOOR);
+    let third = settings(rt, alloc, YARD);
+    let channels = vec![in alloc; first, second, third].expect(rt, "channels");
     Hub::new(alloc, channels, blanks).expect(rt, "a hub")
 }
 

@@ -2,8 +2,8 @@
 ghost use Rattle.std.specs.Prelude.{◌≡◌};
 
 use crate::cases::{
-    FIRST, NOW, SEGMENT, Stopped, asked, awaited, close, fault_name, finished, held, hub_of_one,
-    published, push_finished, seat, take,
+    FIRST, NOW, SEGMENT, Stopped, asked, awaited, close, fault_name, finished, finished_with, held,
+    hub_of_one, hub_of_three, published, push_finished, reply, seat, take,
 };
 use crate::rows::{Row, number, push, push_three, same};
 use ll_hub::{Blanks, Hub, Ledgers, Pass};
@@ -215,4 +215,66 @@ fn take_all<L: Ledgers, R: Wait + Abort>(rt: &R, alloc: Global, blanks: Blanks) 
 fn passes_run_short(rt: HostRuntime) {
     let told = take_all::<Brand, HostRuntime>(&rt, rt.alloc(), Blanks::new());
     same(&rt, "65536 passes", told.as_str(), "Short Short");
+}
+
+/// Returns the totals of a hub of three channels that gave no pass and to which nothing happened.
+fn end_untouched<L: Ledgers>(rt: &impl Abort, alloc: Global, blanks: Blanks) -> String
+    requires names { blanks ≡ L.names }
+    requires channels { L.channels ≡ 3 }
+{
+    let hub: Hub<L> = hub_of_three(rt, alloc, blanks);
+    finished(rt, alloc, hub, Vec::new(alloc))
+}
+
+/// Makes the requests of `row`, each told by its channel's place and its target, and gives up those that are held.
+fn ask_each<L: Ledgers, R: Wait + Abort>(
+    rt: &R,
+    alloc: Global,
+    hub: &Hub<L>,
+    pass: &mut Pass<L>,
+    row: Row<'_>,
+) {
+    for request in row.input().split(" | ") {
+        if let Some((place, target)) = request.split_once(' ') {
+            let place = number(rt, place) as usize;
+            let answer = reply(rt, alloc, hub, &Stopped, pass, place, target);
+            assert!(rt; answer.is_ok());
+        }
+    }
+}
+
+/// Returns the totals of a hub of three channels to which the requests of `row` came, and nothing else.
+fn ask_alone<L: Ledgers, R: Wait + Abort>(
+    rt: &R,
+    alloc: Global,
+    blanks: Blanks,
+    row: Row<'_>,
+) -> String
+    requires names { blanks ≡ L.names }
+    requires channels { L.channels ≡ 3 }
+{
+    let hub: Hub<L> = hub_of_three(rt, alloc, blanks);
+    let mut pass = seat(rt, &hub);
+    ask_each(rt, alloc, &hub, &mut pass, row);
+    finished_with(rt, alloc, hub, pass)
+}
+
+/// Requests of three channels, and the totals if nothing else came: none; one; playlists, and a part that is waited for; what is too far
+/// ahead, and what isn't there.
+const ASKED: &str = " => 0 0 0;0 0 0;0 0 0;
+1 /door/hi/live.m3u8 => 0 0 0;0 1 0;0 0 0;
+0 /cam/hi/live.m3u8 | 2 /yard/hi/live.m3u8?_HLS_skip=YES | 0 /cam/lo/s0.0.m4s => 0 2 0;0 0 0;0 1 0;
+2 /yard/lo/live.m3u8?_HLS_msn=9 | 2 /yard/hi/init0.mp4 | 0 /cam/other/live.m3u8 => 0 1 0;0 0 0;0 2 0;";
+
+/// Finds all totals 0 of a hub to which nothing happened, whether it gave a pass or not; of one to which requests alone came, those of each
+/// channel.
+#[test]
+fn totals_begin_at_zero(rt: HostRuntime) {
+    let told = end_untouched::<Brand>(&rt, rt.alloc(), Blanks::new());
+    same(&rt, "no pass", told.as_str(), "0 0 0;0 0 0;0 0 0;");
+    for line in ASKED.lines() {
+        let row = Row { line };
+        let told = ask_alone::<Brand, HostRuntime>(&rt, rt.alloc(), Blanks::new(), row);
+        row.compare(&rt, told.as_str());
+    }
 }

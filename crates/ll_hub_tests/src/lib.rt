@@ -6,9 +6,13 @@ mod cases;
 #[cfg(test)]
 mod crowd_tests;
 #[cfg(test)]
+mod expected;
+#[cfg(test)]
 mod fault_tests;
 #[cfg(test)]
 mod hub_tests;
+#[cfg(test)]
+mod publish_tests;
 #[cfg(test)]
 mod record_tests;
 #[cfg(test)]
