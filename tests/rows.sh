@@ -77,6 +77,15 @@ expect read_of_a_folder_as_the_base /dev/null 4 'llhls: Read' apply "$here" "$re
 expect read_of_no_delta /dev/null 4 'llhls: Read' apply "$recent/base" "$room/none" </dev/null
 expect read_of_no_delta_after_a_bad_base /dev/null 4 'llhls: Read' apply /dev/null "$room/none" </dev/null
 
+# As many requests as may be held, and one more, which is Busy.
+{
+    printf '%s\n' '#LLHLS-CHUNK 2' 'channel cam target=4 part=1000000 skip=24 window=36 renditions=hi first=0 start=0' 'at 0'
+    awk 'BEGIN { for (n = 1; n <= 65536; n++) print "A " n " hi 0 0 - held"; print "A 65537 hi 0 0 - busy\n#END" }'
+} >"$room/busy"
+printf '%s\n' 'chain 1' 'entries 65537' 'items 0' 'first reading 0' 'last reading 0' 'answered at once 0' 'held and answered 0' 'timed out 0' 'given up 0' \
+    'still held 65536' 'most held 65536' 'too far 0' 'not found 0' 'busy 1' >"$room/busy.stdout"
+expect explain_of_a_busy_answer "$room/busy.stdout" 0 '' explain "$room/busy" </dev/null
+
 # expect_full NAME STATUS FAULT WORD..: the same, where standard output is a full device.
 expect_full() {
     local status

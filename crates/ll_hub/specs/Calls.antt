@@ -8,10 +8,12 @@ use Rattle.ll_room.specs.declared.stamped.Stamp.TheVariants as stamp
 use Rattle.ll_rendition.specs.declared.fault.PublishFault.{PublishFault}
 use Rattle.ll_rendition.specs.declared.fault.PublishFault.TheVariants as refused
 use Rattle.ll_verdict.specs.declared.reply.Reply.{Reply}
+use Rattle.ll_verdict.specs.declared.standing.Standing.{Standing}
 use Rattle.ll_hub.specs.Claim.{ClaimValue}
 use Rattle.ll_hub.specs.Passes.{noted, noted_reply}
-use Rattle.ll_locked.specs.Told.{IsAccepted, IsAnswered, IsAskRefused, IsDecided, IsHandedOut, IsHeld, IsReadingRefused, IsRefused, IsTotal}
+use Rattle.ll_locked.specs.Told.{IsAccepted, IsAnswered, IsAskRefused, IsDecided, IsHandedOut, IsHeld, IsReadingRefused, IsRefused, IsStanding, IsTotal}
 use Rattle.ll_record.specs.Chunk.{ChunkValue}
+use Rattle.ll_record.specs.Taken.{TakenChunk, Takes}
 use Rattle.ll_locked.specs.declared.fault.HubFault.{HubFault}
 use Rattle.ll_locked.specs.declared.fault.HubFault.TheVariants.{UnknownChannel, WentBack, Room, Stranger, Short, Memory}
 use Rattle.ll_locked.specs.declared.fault.RoomFault.TheVariants as room
@@ -76,6 +78,30 @@ IsUnmet hub before place Memory = ⊥
 abbrev pub IsPublishFault : List Configuration → ℕ → Item → List ℕ → HubFault → Type 0
 IsPublishFault hub place item before (Room other (room.Publish fault)) = (other ≡ place) × IsItemRefused hub place item before fault
 IsPublishFault hub place item before fault = IsUnmet hub before place fault
+
+-- ---- standing
+
+-- the channel at this place has no rendition of this index
+pub record HasNone (hub : List Configuration) (place rendition : ℕ) : Type 0 where
+  pub settings : Configuration
+  pub channel : slice_get hub place ≡ Some settings
+  pub none : length settings.renditions ≤ rendition
+
+-- where a rendition of the channel at this place stands
+pub record IsPlace (hub : List Configuration) (place rendition : ℕ) (before after : List ℕ) (s : Standing) : Type 0 where
+  pub settings : Configuration
+  pub seen : ℕ
+  pub known : IsKnown hub before place settings seen
+  pub stands : IsStanding settings rendition seen s
+  pub passed : after ≡ noted before place s.count
+
+abbrev pub IsPlaced : List Configuration → ℕ → ℕ → List ℕ → List ℕ → Option Standing → Type 0
+IsPlaced hub place rendition before after None = HasNone hub place rendition × (after ≡ before)
+IsPlaced hub place rendition before after (Some s) = IsPlace hub place rendition before after s
+
+abbrev pub IsUnplaced : List Configuration → List ℕ → ℕ → HubFault → Type 0
+IsUnplaced hub before place Short = ⊥
+IsUnplaced hub before place fault = IsUnmet hub before place fault
 
 -- ---- ask
 
@@ -153,6 +179,12 @@ pub record IsRotated (hub : List Configuration) (place : ℕ) (chunk : ChunkValu
   pub settings : Configuration
   pub channel : slice_get hub place ≡ Some settings
   pub handed_out : IsHandedOut settings chunk
+
+-- and it was handed to a sink, which has taken it once more than before, and nothing else
+pub record IsHandedTo (hub : List Configuration) (place : ℕ) (before after : Option (List TakenChunk)) : Type 0 where
+  pub chunk : ChunkValue
+  pub rotated : IsRotated hub place chunk
+  pub taken : Takes before after place chunk
 
 -- why a record is not handed out
 abbrev pub IsRotateFault : List Configuration → ℕ → HubFault → Type 0

@@ -1,12 +1,15 @@
--- For private contracts: why a section of a channel refuses a call that is counted.
-use Rattle.std.specs.Prelude.{◌≡◌, ℕ, ⊤}
+-- For private contracts: why a section of a channel refuses a call that is counted, and what it hands to a sink.
+use Rattle.std.specs.Prelude.{◌≡◌, ℕ, ⊤, List, Option}
 use Rattle.ll_item.specs.Settings.{Configuration}
 use Rattle.ll_item.specs.declared.item.Item.{Item}
-use Rattle.ll_record.specs.Recording.{Recording}
+use Rattle.ll_record.specs.Chunk.{ChunkValue, IsChunk, IsFaithful}
+use Rattle.ll_record.specs.Recording.{IsRecorded, Recording}
+use Rattle.ll_record.specs.Taken.{TakenChunk, Takes}
 use Rattle.ll_locked.specs.Section.{IsAskFaultBy, IsPublishFaultBy, IsUnmetBy}
-use Rattle.ll_locked.specs.Told.{IsAskRefused}
+use Rattle.ll_locked.specs.Told.{IsAskRefused, IsHandedOut}
 use Rattle.ll_locked.specs.declared.fault.HubFault.{HubFault}
 use Rattle.ll_locked.specs.declared.fault.HubFault.TheVariants.{Room, Short, Memory}
+use Rattle.ll_verdict.specs.Events.{Event}
 
 -- the channel isn't the one that the caller has met, or as much was counted as is counted
 abbrev pub IsUncountedBy : Recording → ℕ → Configuration → ℕ → HubFault → Type 0
@@ -28,3 +31,11 @@ IsUnaskedBy shows r place c seen fault = IsUncountedBy r place c seen fault
 abbrev pub IsLeftBy : (ℕ → Type 0) → Recording → Recording → ℕ → HubFault → Type 0
 IsLeftBy shows old new place (Room other fault) = IsAskFaultBy shows old new place (Room other fault)
 IsLeftBy shows old new place fault = new ≡ old
+
+-- a sink has taken the record of this channel once more, and nothing else
+pub record IsHandedOver (r : Recording) (place : ℕ) (c : Configuration) (before after : Option (List TakenChunk)) : Type 0 where
+  pub chunk : ChunkValue
+  pub handed_out : IsHandedOut c chunk
+  pub text : IsChunk r chunk
+  pub faithful : (events : List Event) → IsRecorded r events → IsFaithful r events chunk
+  pub taken : Takes before after place chunk

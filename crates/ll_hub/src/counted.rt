@@ -1,15 +1,16 @@
 //! What lies under a channel's lock: the channel, and its shares of what was counted. Each method is one locked section.
-ghost use Rattle.std.specs.Prelude.{◌≡◌, ◌+◌, ◌<◌, ◌++◌, ◌∷◌, [], List, IfErr, IfOk, IsTrue, MatchBool, OnErr, OnOk, filter, length};
+ghost use Rattle.std.specs.Prelude.{◌≡◌, ◌+◌, ◌<◌, ◌≤◌, ◌++◌, ◌∷◌, [], List, IfErr, IfOk, IsTrue, MatchBool, MatchOption, OnErr, OnOk, filter, length};
 ghost use Rattle.ll_verdict.specs.Waiting as waiting;
-ghost use Rattle.ll_hub.specs.Counted.{IsLeftBy, IsUnaskedBy, IsUncountedBy, IsUnpublishedBy};
+ghost use Rattle.ll_hub.specs.Counted.{IsHandedOver, IsLeftBy, IsUnaskedBy, IsUncountedBy, IsUnpublishedBy};
 ghost use Rattle.ll_locked.specs.Ledgers.{blank, with_ask, with_publish};
 ghost use Rattle.ll_locked.specs.Section as spec;
-ghost use Rattle.ll_locked.specs.Told.{IsAccepted, IsHandedOut, IsReadingRefused, IsTotal, IsTotalOf};
+ghost use Rattle.ll_locked.specs.Told.{IsAccepted, IsHandedOut, IsReadingRefused, IsStanding, IsTotal, IsTotalOf};
 ghost use Rattle.ll_record.specs.Chunk.{IsChunk, IsFaithful, emptied};
 ghost use Rattle.ll_record.specs.Recording.{GoesOn, IsRecorded};
 ghost use Rattle.ll_room.specs.RoomValue.{room_value};
 ghost use Rattle.ll_room.specs.declared.stamped.Stamp.TheVariants as stamp;
-ghost use Rattle.ll_verdict.specs.Events.{Event, Clock, Publish};
+ghost use Rattle.ll_verdict.specs.Events.{Event, Clock, Publish, items};
+ghost use Rattle.ll_verdict.specs.Standing as stands;
 ghost use Rattle.ll_verdict.specs.State.{state_of};
 
 use ll_directive::Want;
@@ -18,9 +19,9 @@ use ll_locked::{
     Asks, AtOnce, Channel, ChannelCounts, Clock, HubFault, Known, Ledgers, PassCounts, Publishes,
     Tally, Total, Tried,
 };
-use ll_record::Chunk;
+use ll_record::{Chunk, Sink};
 use ll_room::Stamped;
-use ll_verdict::{ClockFault, Entry};
+use ll_verdict::{ClockFault, Entry, Standing};
 use std::alloc::{AllocError, Global};
 use std::marker::Model;
 use std::sync::ledger::{Ledger, Share};
@@ -73,6 +74,23 @@ impl<L: Ledgers> Counted<L> {
         ensures { IsTrue result → spec.IsMet self.now known.entry.place known.entry.settings.now known.entry.seen }
     {
         self.channel.meet(known).is_ok()
+    }
+
+    /// Returns where the rendition of this index stands, or `None` if the channel has none of that index. Nothing is counted.
+    pub(crate) fn standing(
+        &self,
+        known: Known<'_>,
+        rendition: usize,
+    ) -> Result<Option<Standing>, HubFault>
+        ensures standing { IfOk result (λ s. MatchOption s (length known.entry.settings.now.renditions ≤ rendition) (IsStanding known.entry.settings.now rendition known.entry.seen)) }
+        ensures exact { (events : List Event) → IsRecorded self.now events
+            → IfOk result (λ s. MatchOption s (length self.now.room.settings.renditions ≤ rendition) (λ t. t ≡ stands.standing self.now.room.settings (items self.now.room.settings events) rendition)) }
+        ensures unmet { IfErr result (λ f. spec.IsUnmetBy self.now known.entry.place known.entry.settings.now known.entry.seen f) }
+    {
+        match self.channel.meet(known) {
+            Ok(()) => Ok(self.channel.standing(rendition)),
+            Err(fault) => Err(fault),
+        }
     }
 
     /// Counts an item, and publishes it. An item that is refused isn't counted.
@@ -180,6 +198,28 @@ impl<L: Ledgers> Counted<L> {
         ensures unchanged { OnErr result (self.new ≡ self.old) }
     {
         self.channel.rotate(known)
+    }
+
+    /// Hands the record of the channel to a sink, and begins another.
+    pub(crate) fn rotate_to<K: Sink>(
+        &mut self,
+        known: Known<'_>,
+        sink: &mut K,
+    ) -> Result<(), HubFault>
+        ensures taken { OnOk result (IsHandedOver self.old known.entry.place known.entry.settings.now (K.taken sink.old) (K.taken sink.new)) }
+        ensures known { OnOk result (spec.IsAt self.old known.entry.place known.entry.settings.now) }
+        ensures recorded { (events : List Event) → IsRecorded self.old events → OnOk result (IsRecorded self.new events) }
+        ensures emptied { OnOk result (self.new ≡ emptied self.old) }
+        ensures refused { IfErr result (λ f. spec.IsRotateFault self.old known.entry.place known.entry.settings.now f) }
+        ensures unchanged { OnErr result ((self.new ≡ self.old) × (K.taken sink.new ≡ K.taken sink.old)) }
+    {
+        match self.rotate(known) {
+            Ok(chunk) => {
+                sink.take(known.place, chunk);
+                Ok(())
+            }
+            Err(fault) => Err(fault),
+        }
     }
 
     /// Closes what is held, tells what the channel has come to, and gives its shares.

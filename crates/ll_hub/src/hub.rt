@@ -17,7 +17,7 @@ use ll_locked::{
 };
 use ll_record::{Chunk, Sink};
 use ll_room::Stamped;
-use ll_verdict::Reply;
+use ll_verdict::{Reply, Standing};
 use std::alloc::{AllocError, Global};
 use std::marker::Model;
 use std::sync::{Mutex, Wait};
@@ -155,6 +155,31 @@ impl<L: Ledgers> Hub<L> {
         Ok(count)
     }
 
+    /// Returns where the rendition of this index stands in the channel at this place, or `None` if the channel has none of that index. It is
+    /// no event, and counts for nothing. The first of these that applies refuses it.
+    ///
+    /// 1. There is no channel at that place: UnknownChannel.
+    /// 2. The pass is another hub's: Stranger, or WentBack.
+    pub fn standing<R: Wait>(
+        &self,
+        rt: &R,
+        pass: &mut Pass<L>,
+        channel: usize,
+        rendition: usize,
+    ) -> Result<Option<Standing>, HubFault>
+        ensures standing { IfOk result (λ s. calls.IsPlaced self.now channel rendition pass.old.seen pass.new.seen s) }
+        ensures counts { (pass.new.publishes ≡ pass.old.publishes) × (pass.new.asks ≡ pass.old.asks) }
+        ensures refused { IfErr result (λ f. calls.IsUnplaced self.now pass.old.seen channel f) }
+        ensures unchanged { OnErr result (pass.new ≡ pass.old) }
+    {
+        let (channel_lock, known) = self.locks.reach(channel, pass.seen(channel))?;
+        let standing = channel_lock.lock(rt).standing(known, rendition)?;
+        if let Some(standing) = standing {
+            pass.note(channel, standing.count);
+        }
+        Ok(standing)
+    }
+
     /// Makes a request of the channel at this place, after a reading of the clock that is made while the channel is locked. Its reply
     /// comes at once, or it is held. The pass counts it. The first of these that applies refuses it.
     ///
@@ -286,24 +311,25 @@ impl<L: Ledgers> Hub<L> {
         channel_lock.lock(rt).rotate(known)
     }
 
-    /// Hands the record of the channel at this place to a sink, as [`Hub::rotate`] hands it out. The channel stays locked until the sink
+    /// Hands the record of the channel at this place to a sink, once, as [`Hub::rotate`] hands it out. The channel stays locked until the sink
     /// has taken it.
     pub fn rotate_to<K: Sink, R: Wait>(
         &self,
         rt: &R,
         channel: usize,
-        sink: &K,
+        sink: &mut K,
     ) -> Result<(), HubFault>
-        ensures { IfErr result (λ f. calls.IsRotateFault self.now channel f) }
+        ensures taken { OnOk result (calls.IsHandedTo self.now channel (K.taken sink.old) (K.taken sink.new)) }
+        ensures refused { IfErr result (λ f. calls.IsRotateFault self.now channel f) }
+        ensures untaken { OnErr result (K.taken sink.new ≡ K.taken sink.old) }
     {
         let (channel_lock, known) = self.locks.reach(channel, Some(0))?;
         let mut state = channel_lock.lock(rt);
-        let chunk = state.rotate(known)?;
         channel_lock.set_handing_out(true);
-        sink.take(channel, chunk);
+        let handed = state.rotate_to(known, sink);
         channel_lock.set_handing_out(false);
         drop(state);
-        Ok(())
+        handed
     }
 
     /// Whether a sink is taking the record of the channel at this place. A call on that channel waits until it has.

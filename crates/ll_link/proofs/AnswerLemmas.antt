@@ -1,8 +1,8 @@
 -- Lines of a publisher that are refused before the room of a channel is asked, and what is told of the others.
-use Rattle.std.proofs.Common.{◌≡◌, ◌≢◌, ℕ, inr, List, Option, Some, None, Result, Ok, Err, arith, refl, ap, sym, subst, ◌∙◌}
+use Rattle.std.proofs.Common.{◌≡◌, ◌≢◌, ℕ, inr, List, Option, Some, None, Result, Ok, Err, true, length, nat_le, arith, refl, ap, sym, subst, ◌∙◌}
 use Rattle.std.proofs.lemmas.Option.{same_Some}
 use Rattle.std.specs.Prelude.{slice_get}
-use Rattle.ll_hub.specs.Calls.{IsItemRefused, IsPublishFault}
+use Rattle.ll_hub.specs.Calls.{IsItemRefused, IsPlace, IsPublishFault}
 use Rattle.ll_item.proofs.ChannelLemmas.{named-within}
 use Rattle.ll_item.specs.declared.item.Item.{Item}
 use Rattle.ll_item.specs.declared.item.ItemFault.{ItemFault}
@@ -11,17 +11,22 @@ use Rattle.ll_publish.specs.declared.refusal.Refusal.{Refusal}
 use Rattle.ll_publish.specs.declared.refusal.Refusal.TheVariants as refusal
 use Rattle.ll_rendition.specs.declared.fault.PublishFault.{PublishFault}
 use Rattle.ll_item.specs.Channels.{channel_of_name}
-use Rattle.ll_item.specs.Items.{item_in}
+use Rattle.ll_item.specs.Items.{item_in, named}
 use Rattle.ll_item.specs.Settings.{Configuration}
-use Rattle.ll_locked.specs.Told.{IsRefused}
+use Rattle.ll_locked.specs.Told.{IsRefused, IsStanding}
 use Rattle.ll_locked.specs.declared.fault.HubFault.{HubFault}
 use Rattle.ll_locked.specs.declared.fault.HubFault.TheVariants as hub
 use Rattle.ll_locked.specs.declared.fault.RoomFault.TheVariants as room
 use Rattle.ll_link.specs.declared.fault.LinkFault.TheVariants.{Hub}
 use Rattle.ll_hub.specs.Passes.{PassValue}
 use Rattle.ll_room.specs.StampedValue.{StampedValue}
-use Rattle.ll_link.specs.Heard.{heard_at, heard_in, number_told}
-use Rattle.ll_link.specs.Answers.{IsReason, IsRuledOut, refused_by, refused_in, refused_item}
+use Rattle.ll_link.specs.Heard.{heard_at, heard_in, unstamped}
+use Rattle.ll_link.specs.Answers.{IsAnswerIn, IsPlaceIn, IsReason, IsRuledOut, IsRuledOutIn, refused_before, refused_by, refused_in, refused_item, refused_name, refused_place}
+use Rattle.ll_link.specs.Publishing.{IsReplyTo}
+use Rattle.ll_item.specs.Media.{media_limit}
+use Rattle.ll_publish.specs.Line as says
+use Rattle.ll_publish.specs.declared.success.Success.TheVariants as success
+use Rattle.ll_verdict.specs.declared.standing.Standing.{Standing}
 
 pub refused_item-some : (read : Result Item ItemFault) (reason : Refusal) → refused_item read ≡ Some reason
     → (fault : ItemFault) × (read ≡ Err fault) × (item_refusal fault ≡ reason)
@@ -91,5 +96,63 @@ heard-refused (Some f) reason pass = refl
 
 -- where the first answer is a refusal, the pass is as it was before it
 pub heard-nothing : (place : ℕ) (first : Result (StampedValue ℕ) Refusal) (reason : Refusal) (pass before : PassValue) → first ≡ Err reason
-    → pass ≡ heard_at place (number_told first) before → pass ≡ before
-heard-nothing place first reason pass before is e = e ∙ ap (λ r. heard_at place (number_told r) before) is
+    → pass ≡ heard_at place (unstamped first) before → pass ≡ before
+heard-nothing place first reason pass before is e = e ∙ ap (λ r. heard_at place (unstamped r) before) is
+
+-- ---- what a line may be told
+
+within : (channels : List Configuration) (name text media : List ℕ) → nat_le (length media) media_limit ≡ true
+    → refused_before channels (says.Item name text media) ≡ refused_in (channel_of_name channels 0 name) text media
+within channels name text media small = rw small refl
+
+-- an item with no more bytes than an item may have
+pub item_reply : (channels : List Configuration) (pass : PassValue) (name text media : List ℕ) (answer : Result (StampedValue ℕ) Refusal)
+    → nat_le (length media) media_limit ≡ true
+    → ((reason : Refusal) → refused_in (channel_of_name channels 0 name) text media ≡ Some reason → answer ≡ Err reason)
+    → IsAnswerIn channels pass.seen name text media answer → IsReplyTo channels pass (says.Item name text media) (unstamped answer)
+item_reply channels pass name text media (Ok mark) small refused told = record {
+  refused = λ reason e. let none : Ok mark ≡ Err reason = refused reason (sym (within channels name text media small) ∙ e) in absurd (cc);
+  told = (mark, refl, told);
+  ruled = tt;
+}
+item_reply channels pass name text media (Err reason) small refused told = record {
+  refused = λ other e. ap unstamped (refused other (sym (within channels name text media small) ∙ e));
+  told = tt;
+  ruled = subst (λ before. IsReason before (IsRuledOutIn channels pass.seen name text media) reason) (sym (within channels name text media small)) told;
+}
+
+-- a place
+place_told : (channels : List Configuration) (pass : PassValue) (name rendition : List ℕ) (s : Standing) → IsPlaceIn channels pass.seen name rendition s
+    → IsReplyTo channels pass (says.At name rendition) (Ok (success.Standing s))
+place_told channels pass name rendition s told = record {
+  refused = λ reason e. let none : None ≡ Some reason = sym (ap refused_name told.named) ∙ sym (ap (λ found. refused_place found rendition) told.known) ∙ e in absurd (cc);
+  told = told;
+  ruled = tt;
+}
+
+-- the place that the hub tells of the channel that the name finds
+pub place_found : (channels : List Configuration) (pass : PassValue) (name rendition after : List ℕ) (place : ℕ) (c : Configuration) (index : ℕ) (s : Standing)
+    → channel_of_name channels 0 name ≡ Some (place, c) → named c rendition ≡ Ok index → IsPlace channels place index pass.seen after s
+    → IsReplyTo channels pass (says.At name rendition) (Ok (success.Standing s))
+place_found channels pass name rendition after place c index s known is p =
+    let same = same_Some p.settings c (sym p.known.channel ∙ named-at channels name place c known) in
+    place_told channels pass name rendition s
+    (record {
+      place = place;
+      settings = c;
+      known = known;
+      index = index;
+      named = is;
+      seen = p.seen;
+      pass = p.known.pass;
+      stands = subst (λ k. IsStanding k index p.seen s) same p.stands;
+    })
+
+-- a line that is refused before any room is asked
+pub place_refused : (channels : List Configuration) (pass : PassValue) (name rendition : List ℕ) (reason : Refusal)
+    → refused_place (channel_of_name channels 0 name) rendition ≡ Some reason → IsReplyTo channels pass (says.At name rendition) (Err reason)
+place_refused channels pass name rendition reason before = record {
+  refused = λ other e. ap Err (same_Some reason other (sym before ∙ e));
+  told = tt;
+  ruled = before;
+}

@@ -16,6 +16,7 @@ use Rattle.ll_publish.specs.Lines.{FeedValue, fresh, front, lines, lines_in, wit
 use Rattle.ll_publish.specs.Past.{Call, Take, Next, and_line, before_any, called, past}
 use Rattle.ll_publish.specs.Refusals.{reply_line}
 use Rattle.ll_publish.specs.declared.refusal.Refusal.{Refusal}
+use Rattle.ll_publish.specs.declared.success.Success.{Success}
 use Rattle.ll_link.proofs.ReadLemmas.{read-no_more, read-then}
 use Rattle.ll_link.specs.Heard.{heard}
 use Rattle.ll_link.specs.Publishing.{AreRight, Exchange, IsCutOff, IsReplyTo, IsServed, after_exchange, heard_all, lines_of, replies_of}
@@ -26,23 +27,23 @@ past-more : (calls : List Call) (call : Call) → past (calls ++ call ∷ []) �
 past-more calls call = fold-append called before_any calls (call ∷ [])
 
 -- one exchange more
-abbrev exchange : Line → Result ℕ Refusal → Exchange
+abbrev exchange : Line → Result Success Refusal → Exchange
 exchange line reply = record { line = line; reply = reply }
 
-replies-more : (es : List Exchange) (line : Line) (reply : Result ℕ Refusal) → replies_of (es ++ exchange line reply ∷ []) ≡ replies_of es ++ reply_line reply
+replies-more : (es : List Exchange) (line : Line) (reply : Result Success Refusal) → replies_of (es ++ exchange line reply ∷ []) ≡ replies_of es ++ reply_line reply
 replies-more es line reply =
     flat_map-append (λ (e : Exchange). reply_line e.reply) es (exchange line reply ∷ []) ∙ ap (λ text. replies_of es ++ text) (append-nil (reply_line reply))
 
-lines-more : (es : List Exchange) (line : Line) (reply : Result ℕ Refusal) → lines_of (es ++ exchange line reply ∷ []) ≡ lines_of es ++ line ∷ []
+lines-more : (es : List Exchange) (line : Line) (reply : Result Success Refusal) → lines_of (es ++ exchange line reply ∷ []) ≡ lines_of es ++ line ∷ []
 lines-more es line reply = map-append (λ (e : Exchange). e.line) es (exchange line reply ∷ [])
 
 -- the pass has heard one exchange more
-heard-more : (channels : List Configuration) (start : PassValue) (es : List Exchange) (line : Line) (reply : Result ℕ Refusal)
+heard-more : (channels : List Configuration) (start : PassValue) (es : List Exchange) (line : Line) (reply : Result Success Refusal)
     → heard_all channels start (es ++ exchange line reply ∷ []) ≡ heard channels line reply (heard_all channels start es)
 heard-more channels start es line reply = fold-append (after_exchange channels) start es (exchange line reply ∷ [])
 
 -- a line that may be told this after the others
-right-more : (channels : List Configuration) (start : PassValue) (es : List Exchange) (line : Line) (reply : Result ℕ Refusal)
+right-more : (channels : List Configuration) (start : PassValue) (es : List Exchange) (line : Line) (reply : Result Success Refusal)
     → AreRight channels start es → IsReplyTo channels (heard_all channels start es) line reply → AreRight channels start (es ++ exchange line reply ∷ [])
 right-more channels start [] line reply all one = (one, tt)
 right-more channels start (e ∷ more) line reply all one = (all.0, right-more channels (after_exchange channels start e) more line reply all.1 one)
@@ -63,7 +64,7 @@ serving-none channels feed start base e = record {
 
 -- a line is told something
 pub serving-more : (channels : List Configuration) (taken : List ℕ) (feed after : FeedValue) (start pass now : PassValue) (base mid written : Option (List ℕ)) (line : Line)
-    (reply : Result ℕ Refusal)
+    (reply : Result Success Refusal)
     → IsServing channels taken feed start pass base mid → (front feed).0 ≡ Some line → after ≡ (front feed).1 → IsReplyTo channels pass line reply
     → now ≡ heard channels line reply pass → Appends mid written (reply_line reply) → IsServing channels taken after start now base written
 serving-more channels taken feed after start pass now base mid written line reply s told rest right passed sent =
@@ -99,7 +100,7 @@ broken-untold channels taken feed start pass now base written line s told same =
 
 -- a line of which the first bytes are told
 pub broken-told : (channels : List Configuration) (taken : List ℕ) (feed : FeedValue) (start pass now : PassValue) (base mid written : Option (List ℕ)) (line : Line)
-    (reply : Result ℕ Refusal)
+    (reply : Result Success Refusal)
     → IsServing channels taken feed start pass base mid → (front feed).0 ≡ Some line → IsReplyTo channels pass line reply → now ≡ heard channels line reply pass
     → AppendsPrefix mid written (reply_line reply) → IsBroken channels taken start now base written
 broken-told channels taken feed start pass now base mid written line reply s told right passed sent =

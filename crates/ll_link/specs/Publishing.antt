@@ -9,22 +9,23 @@ use Rattle.ll_publish.specs.Line.{Line}
 use Rattle.ll_publish.specs.Lines.{lines}
 use Rattle.ll_publish.specs.Refusals.{reply_line}
 use Rattle.ll_publish.specs.declared.refusal.Refusal.{Refusal}
-use Rattle.ll_room.specs.StampedValue.{StampedValue}
-use Rattle.ll_link.specs.Answers.{IsAnnounced, IsOverruled, IsReason, refused_before}
+use Rattle.ll_publish.specs.declared.success.Success.{Success}
+use Rattle.ll_link.specs.Answers.{IsLineReason, IsSuccess, refused_before}
 use Rattle.ll_link.specs.Heard.{heard}
 
--- What a line may be told: that it is refused, for the first reason that is told before any room is asked, where there is one; a number, where the channel of
--- its name accepted its item as the one of that number, which is more than the pass had seen of that channel; or the first rule of that channel that refuses it,
--- where it has as many items as the pass had seen. Memory may be told of an item in place of either.
-pub record IsReplyTo (channels : List Configuration) (pass : PassValue) (line : Line) (reply : Result ℕ Refusal) : Type 0 where
+-- What a line may be told: that it is refused, for the first reason that is told before any room is asked, if there is one; a number, if the channel of its
+-- name accepted its item as the one of that number, which is more than the pass had seen of that channel; the place that it asks for, if that channel has no
+-- fewer items than the pass had seen; or the first rule of that channel that refuses its item, if it has as many items as the pass had seen. Memory may be
+-- told of an item in place of either.
+pub record IsReplyTo (channels : List Configuration) (pass : PassValue) (line : Line) (reply : Result Success Refusal) : Type 0 where
   pub refused : (reason : Refusal) → refused_before channels line ≡ Some reason → reply ≡ Err reason
-  pub accepted : IfOk reply (λ count. (mark : StampedValue ℕ) × (mark.value ≡ count) × IsAnnounced channels pass.seen line mark)
-  pub ruled : IfErr reply (IsReason (refused_before channels line) (IsOverruled channels pass.seen line))
+  pub told : IfOk reply (IsSuccess channels pass.seen line)
+  pub ruled : IfErr reply (IsLineReason channels pass.seen line)
 
 -- a line, and what it was told
 pub record Exchange : Type 0 where
   pub line : Line
-  pub reply : Result ℕ Refusal
+  pub reply : Result Success Refusal
 
 abbrev pub lines_of : List Exchange → List Line
 lines_of exchanges = map (λ e. e.line) exchanges

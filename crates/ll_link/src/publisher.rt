@@ -4,13 +4,14 @@ ghost use Rattle.std.specs.Prelude.{◌≡◌, ◌≢◌, ℕ, Err, IfErr, IfOk,
 ghost use Rattle.std.specs.Io.KnownBytes.{Appends};
 ghost use Rattle.ll_device.specs.Written.{AppendsPrefix};
 ghost use Rattle.ll_item.specs.Items.{item_in};
+ghost use Rattle.ll_publish.specs.Line as says;
 ghost use Rattle.ll_publish.specs.Meaning.{meant};
 ghost use Rattle.ll_publish.specs.Refusals.{item_refusal, reply_line};
 ghost use Rattle.ll_item.specs.Channels.{channel_of_name};
-ghost use Rattle.ll_link.specs.Answers.{IsAnswerAt, IsAnswerIn, IsAnswerTo, refused_before, refused_by, refused_in};
+ghost use Rattle.ll_link.specs.Answers.{IsAnswerAt, IsAnswerIn, refused_by, refused_in};
 ghost use Rattle.ll_hub.specs.Passes.{PassValue};
 ghost use Rattle.ll_link.specs.Faults.{IsOwn, IsTrue};
-ghost use Rattle.ll_link.specs.Heard.{heard, heard_at, heard_in, number_told};
+ghost use Rattle.ll_link.specs.Heard.{heard, heard_at, heard_in, unstamped};
 ghost use Rattle.ll_link.specs.Publishing.{IsCutOff, IsReplyTo, IsServed};
 ghost use Rattle.ll_link.specs.Reads.{IsReadThrough, IsReadWithin};
 ghost use Rattle.ll_link.specs.Serving.{IsBroken, IsDrained, IsServing};
@@ -20,14 +21,17 @@ use crate::service::{HandedOut, Service};
 use ll_device::{Link, write_all};
 use ll_hub::{HubFault, Ledgers, Pass, RoomFault, Sink};
 use ll_item::{Item, ItemFault, Payload, Settings};
-use ll_publish::{Feed, Line, Refusal, reply_text};
+use ll_publish::{Feed, Line, Refusal, Success, reply_text};
 use ll_room::Stamped;
 use ll_server::Gate;
 use ll_verdict::PublishFault;
 use std::sync::Wait;
 
-/// What a publisher's line comes to: how many items its channel has accepted with it, or why it is refused.
+/// What an item is told: how many items its channel has accepted with it, or why it is refused.
 type Published = Result<Stamped<u64>, Refusal>;
+
+/// What a publisher's line is told.
+type Told = Result<Success, Refusal>;
 
 /// How many bytes a read takes at most.
 const PIECE: usize = 65_536;
@@ -90,12 +94,12 @@ fn answer<L: Ledgers, P: Link, C, G: Gate, K: Sink, R: Wait>(
     unreachable!()
 }
 
-/// An answer without its stamp: how many items the channel has accepted with it, or why it is refused.
-fn counted(answer: Published) -> Result<u64, Refusal>
-    ensures { MatchResult answer (λ mark. result ≡ Ok mark.value) (λ reason. result ≡ Err reason) }
+/// Returns what an item is told, without its stamp.
+fn without_stamp(answer: Published) -> Told
+    ensures { result ≡ unstamped answer }
 {
     match answer {
-        Ok(count) => Ok(count.into_inner()),
+        Ok(count) => Ok(Success::Accepted(count.into_inner())),
         Err(reason) => Err(reason),
     }
 }
@@ -104,7 +108,7 @@ fn counted(answer: Published) -> Result<u64, Refusal>
 fn tell<L: Ledgers, P: Link, C, G, K, R>(
     service: &Service<'_, L, C, G, K, R>,
     link: &mut P,
-    reply: &Result<u64, Refusal>,
+    reply: &Told,
 ) -> Result<(), LinkFault>
     ensures faults { IsTrue result (P.failures link.old) (P.failures link.new) }
     ensures unread { P.inward link.new ≡ P.inward link.old }
@@ -119,40 +123,69 @@ fn tell<L: Ledgers, P: Link, C, G, K, R>(
     }
 }
 
-/// Publishes what a line announces: how many items its channel has accepted with it, or why it is refused.
+/// Publishes what a line announces, or looks where it asks, and returns what the line is told.
 fn publish<L: Ledgers, C, G: Gate, K: Sink, R: Wait>(
     service: &Service<'_, L, C, G, K, R>,
     pass: &mut Pass<L>,
     line: Line<'_>,
-) -> Result<Result<u64, Refusal>, LinkFault>
+) -> Result<Told, LinkFault>
     ensures own { IsOwn result }
     ensures right { IfOk result (IsReplyTo service.now.hub.now pass.old (meant line.entry)) }
-    ensures passed { IfOk result (λ reply. pass.new ≡ heard service.now.hub.now (meant line.entry) reply pass.old) }
-    ensures unchanged { OnErr result (pass.new ≡ pass.old) }
-{
-    Ok(counted(publish_line(service, pass, line)?))
-}
-
-/// The same, with the stamp of an item that is accepted.
-fn publish_line<L: Ledgers, C, G: Gate, K: Sink, R: Wait>(
-    service: &Service<'_, L, C, G, K, R>,
-    pass: &mut Pass<L>,
-    line: Line<'_>,
-) -> Result<Published, LinkFault>
-    ensures own { IsOwn result }
-    ensures refused { (reason : Refusal) → refused_before service.now.hub.now (meant line.entry) ≡ Some reason → result ≡ Ok (Err reason) }
-    ensures told { IfOk result (IsAnswerTo service.now.hub.now pass.old.seen (meant line.entry)) }
-    ensures passed { IfOk result (λ answer. pass.new ≡ heard service.now.hub.now (meant line.entry) (number_told answer) pass.old) }
+    ensures passed { IfOk result (λ told. pass.new ≡ heard service.now.hub.now (meant line.entry) told pass.old) }
     ensures unchanged { OnErr result (pass.new ≡ pass.old) }
 {
     match line {
-        Line::Item(name, text, bytes) => match Payload::of_bytes(bytes) {
-            Some(payload) => publish_item(service, pass, name, text, &payload),
-            None => Ok(Err(Refusal::MediaTooLong)),
-        },
+        Line::Item(name, text, bytes) => publish_bytes(service, pass, name, text, bytes),
+        Line::At(name, rendition) => place(service, pass, name, rendition),
         Line::Bad => Ok(Err(Refusal::BadLine)),
         Line::TooLong => Ok(Err(Refusal::LineTooLong)),
         Line::MediaTooLong => Ok(Err(Refusal::MediaTooLong)),
+    }
+}
+
+/// Looks where a rendition stands in the channel of this name, and returns that, or why the line is refused.
+#[tactic(auto, using(crate::proofs::AnswerLemmas::place_found, crate::proofs::AnswerLemmas::place_refused))]
+fn place<L: Ledgers, C, G, K, R: Wait>(
+    service: &Service<'_, L, C, G, K, R>,
+    pass: &mut Pass<L>,
+    name: &str,
+    rendition: &str,
+) -> Result<Told, LinkFault>
+    ensures own { IsOwn result }
+    ensures right { IfOk result (IsReplyTo service.now.hub.now pass.old (says.At name.now rendition.now)) }
+    ensures passed { IfOk result (λ told. pass.new ≡ heard_in (channel_of_name service.now.hub.now 0 name.now) told pass.old) }
+    ensures unchanged { OnErr result (pass.new ≡ pass.old) }
+{
+    match service.hub.find(name) {
+        Some((channel, settings)) => match settings.named(rendition) {
+            Ok(index) => match service.hub.standing(service.rt, pass, channel, index) {
+                Ok(Some(standing)) => Ok(Ok(Success::Standing(standing))),
+                Ok(None) | Err(_) => Err(LinkFault::Hub),
+            },
+            Err(fault) => Ok(Err(Refusal::from(fault))),
+        },
+        None => Ok(Err(Refusal::UnknownChannel)),
+    }
+}
+
+/// Publishes an item that is spelled so and has these bytes, in the channel of this name, unless they are more than an item may have. Returns what its line is
+/// told.
+#[tactic(auto, using(crate::proofs::AnswerLemmas::item_reply))]
+fn publish_bytes<L: Ledgers, C, G: Gate, K: Sink, R: Wait>(
+    service: &Service<'_, L, C, G, K, R>,
+    pass: &mut Pass<L>,
+    name: &str,
+    text: &str,
+    bytes: &[u8],
+) -> Result<Told, LinkFault>
+    ensures own { IsOwn result }
+    ensures right { IfOk result (IsReplyTo service.now.hub.now pass.old (says.Item name.now text.now bytes.now)) }
+    ensures passed { IfOk result (λ told. pass.new ≡ heard_in (channel_of_name service.now.hub.now 0 name.now) told pass.old) }
+    ensures unchanged { OnErr result (pass.new ≡ pass.old) }
+{
+    match Payload::of_bytes(bytes) {
+        Some(payload) => Ok(without_stamp(publish_item(service, pass, name, text, &payload)?)),
+        None => Ok(Err(Refusal::MediaTooLong)),
     }
 }
 
@@ -168,7 +201,7 @@ fn publish_item<L: Ledgers, C, G: Gate, K: Sink, R: Wait>(
     ensures own { IsOwn result }
     ensures refused { (reason : Refusal) → refused_in (channel_of_name service.now.hub.now 0 name.now) text.now payload.now ≡ Some reason → result ≡ Ok (Err reason) }
     ensures told { IfOk result (IsAnswerIn service.now.hub.now pass.old.seen name.now text.now payload.now) }
-    ensures passed { IfOk result (λ answer. pass.new ≡ heard_in (channel_of_name service.now.hub.now 0 name.now) (number_told answer) pass.old) }
+    ensures passed { IfOk result (λ answer. pass.new ≡ heard_in (channel_of_name service.now.hub.now 0 name.now) (unstamped answer) pass.old) }
     ensures unchanged { OnErr result (pass.new ≡ pass.old) }
 {
     let Some((channel, settings)) = service.hub.find(name) else {
@@ -198,7 +231,7 @@ fn publish_to<L: Ledgers, C, G: Gate, K: Sink, R: Wait>(
     ensures refused { (fault : ItemFault) → item_in settings.now text.now payload.now ≡ Err fault → result ≡ Ok (Err (item_refusal fault), None) }
     ensures full { IfOk result (λ told. told.0 ≡ Err (Refusal.Rule PublishFault.RecordFull) → told.1 ≡ Some channel) }
     ensures told { IfOk result (λ told. IsAnswerAt settings.now channel pass.old.seen text.now payload.now told.0) }
-    ensures passed { IfOk result (λ told. pass.new ≡ heard_at channel (number_told told.0) pass.old) }
+    ensures passed { IfOk result (λ told. pass.new ≡ heard_at channel (unstamped told.0) pass.old) }
     ensures unchanged { OnErr result (pass.new ≡ pass.old) }
 {
     let first = publish_once(service, pass, channel, settings, text, payload)?;
@@ -219,11 +252,11 @@ fn publish_again<L: Ledgers, C, G: Gate, K: Sink, R: Wait>(
     ensures own { IsOwn result }
     ensures kept { first ≢ Err (Refusal.Rule PublishFault.RecordFull) → result ≡ Ok (first, None) }
     ensures full { IfOk result (λ told. told.0 ≡ Err (Refusal.Rule PublishFault.RecordFull) → told.1 ≡ Some channel) }
-    ensures told { (before : PassValue) → pass.old ≡ heard_at channel (number_told first) before → IsAnswerAt settings.now channel before.seen text.now payload.now first
+    ensures told { (before : PassValue) → pass.old ≡ heard_at channel (unstamped first) before → IsAnswerAt settings.now channel before.seen text.now payload.now first
         → IfOk result (λ told. IsAnswerAt settings.now channel before.seen text.now payload.now told.0) }
-    ensures passed { (before : PassValue) → pass.old ≡ heard_at channel (number_told first) before
-        → IfOk result (λ told. pass.new ≡ heard_at channel (number_told told.0) before) }
-    ensures unchanged { (before : PassValue) → pass.old ≡ heard_at channel (number_told first) before → OnErr result (pass.new ≡ before) }
+    ensures passed { (before : PassValue) → pass.old ≡ heard_at channel (unstamped first) before
+        → IfOk result (λ told. pass.new ≡ heard_at channel (unstamped told.0) before) }
+    ensures unchanged { (before : PassValue) → pass.old ≡ heard_at channel (unstamped first) before → OnErr result (pass.new ≡ before) }
 {
     if !is_full(&first) {
         return Ok((first, None));
@@ -264,7 +297,7 @@ fn publish_once<L: Ledgers, C, G, K, R: Wait>(
     ensures own { IsOwn result }
     ensures refused { (fault : ItemFault) → item_in settings.now text.now payload.now ≡ Err fault → result ≡ Ok (Err (item_refusal fault)) }
     ensures told { IfOk result (IsAnswerAt settings.now channel pass.old.seen text.now payload.now) }
-    ensures passed { IfOk result (λ answer. pass.new ≡ heard_at channel (number_told answer) pass.old) }
+    ensures passed { IfOk result (λ answer. pass.new ≡ heard_at channel (unstamped answer) pass.old) }
     ensures unchanged { OnErr result (pass.new ≡ pass.old) }
 {
     let item = match Item::read(service.alloc, settings, text, payload) {

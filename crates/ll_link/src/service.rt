@@ -41,7 +41,8 @@ impl<L: Ledgers, C, G: Gate, K: Sink, R: Wait> Service<'_, L, C, G, K, R> {
         ensures place { IfOk result (λ handed. handed ≡ channel) }
     {
         self.gate.filled(channel);
-        match self.hub.rotate_to(self.rt, channel, self.sink) {
+        let mut sink = *self.sink;
+        match self.hub.rotate_to(self.rt, channel, &mut sink) {
             Ok(()) => Ok(HandedOut { channel }),
             Err(_) => Err(LinkFault::Hub),
         }

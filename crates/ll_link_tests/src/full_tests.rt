@@ -39,9 +39,9 @@ impl<'a, R: Wait> Kept<'a, R> {
     }
 }
 
-impl<R: Wait> Sink for Kept<'_, R> {
+impl<R: Wait> Sink for &Kept<'_, R> {
     /// Where no memory is found, the bytes lack the chunk.
-    fn take(&self, _channel: usize, chunk: Chunk) {
+    fn take(&mut self, _channel: usize, chunk: Chunk) {
         let _ = self.bytes.lock(self.rt).extend_from_slice(chunk.bytes());
         add_one(&self.chunks);
     }
@@ -54,8 +54,8 @@ fn entries<R: Wait>(rt: &R, alloc: Global, sink: &Kept<'_, R>) -> u64 {
 }
 
 /// Hands the record of a hub's first channel to a sink.
-fn hand_out<L: Ledgers, R: Wait + Abort>(rt: &R, hub: &Hub<L>, sink: &Kept<'_, R>) {
-    hub.rotate_to(rt, 0, sink).expect(rt, "a chunk");
+fn hand_out<L: Ledgers, R: Wait + Abort>(rt: &R, hub: &Hub<L>, mut sink: &Kept<'_, R>) {
+    hub.rotate_to(rt, 0, &mut sink).expect(rt, "a chunk");
 }
 
 /// Tells a hub so many readings of the clock.
@@ -79,7 +79,9 @@ fn serve_one<L: Ledgers, R: Wait + Clock + Abort>(
         Role::Publisher => (LINE, "ok 2\n"),
     };
     let mut wire = Wire::new(alloc, bytes, SOUND);
-    let _ = serve_link(rt, alloc, role, &mut wire, &Stopped, &Open, sink, hub, pass);
+    let _ = serve_link(
+        rt, alloc, role, &mut wire, &Stopped, &Open, &sink, hub, pass,
+    );
     same(rt, "the answer", text_of(&wire.into_sent()), answer);
 }
 

@@ -10,6 +10,10 @@ mod hubs;
 #[cfg(test)]
 mod link_tests;
 #[cfg(test)]
+mod media_tests;
+#[cfg(test)]
+mod place_tests;
+#[cfg(test)]
 mod players_tests;
 #[cfg(test)]
 mod rows;

@@ -171,8 +171,8 @@ struct Slow {
     met: AtomicU64,
 }
 
-impl Sink for Slow {
-    fn take(&self, _channel: usize, _chunk: Chunk) {
+impl Sink for &Slow {
+    fn take(&mut self, _channel: usize, _chunk: Chunk) {
         add_one(&self.taking);
         if comes_to(&self.answered, 1) {
             add_one(&self.met);
@@ -228,7 +228,7 @@ fn serve_beside_a_record<
     };
     let (handed, ((), mut passes)) = thread::join(
         rt,
-        || hub.rotate_to(rt, 0, &slow),
+        || hub.rotate_to(rt, 0, &mut &slow),
         || {
             thread::join(
                 rt,

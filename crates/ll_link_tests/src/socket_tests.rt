@@ -2,6 +2,7 @@
 ghost use Rattle.std.specs.Prelude.{◌≡◌};
 
 use crate::hubs::{Stopped, finished, hub_of_one};
+use crate::media_tests::{GETS, GOT, LINES, TAKEN};
 use crate::rows::same;
 use crate::wires::{ANSWER, Dropped, GET, LINE, Open, text_of};
 use ll_device::{Door, Socket};
@@ -101,7 +102,8 @@ pub(crate) fn check_exchange<R: Net<Listener = TcpListener, Stream = TcpStream> 
     same(rt, "an exchange", text_of(&found), answer);
 }
 
-/// A publisher announces a segment, and then a player asks: each of them gets its answer.
+/// A publisher announces a segment, and then a player asks; another one announces media, and then a player asks for it. Each of them gets its
+/// answers.
 fn talk<R: Net<Listener = TcpListener, Stream = TcpStream> + Abort>(
     rt: &R,
     alloc: Global,
@@ -110,6 +112,8 @@ fn talk<R: Net<Listener = TcpListener, Stream = TcpStream> + Abort>(
 ) {
     check_exchange(rt, alloc, publishers, LINE, "ok 1\n");
     check_exchange(rt, alloc, players, GET, ANSWER);
+    check_exchange(rt, alloc, publishers, LINES, TAKEN);
+    check_exchange(rt, alloc, players, GETS, GOT);
 }
 
 /// Serves those who come in by a door with one worker: its pass, where memory was found.
@@ -123,7 +127,7 @@ fn admit<
     }
 }
 
-/// Serves one publisher and one player: the workers' passes.
+/// Serves publishers and players, one of each at a time: the workers' passes.
 fn serve_both<
     L: Ledgers + Send + Sync,
     R: Net<Listener = TcpListener, Stream = TcpStream>
@@ -151,7 +155,7 @@ fn serve_both<
     passes
 }
 
-/// Serves one publisher and one player, while they talk: the totals.
+/// Serves two publishers and two players, while they talk: the totals.
 fn serve_sockets<
     L: Ledgers + Send + Sync,
     R: Net<Listener = TcpListener, Stream = TcpStream>
@@ -165,8 +169,8 @@ fn serve_sockets<
     requires names { blanks ≡ L.names }
     requires channels { L.channels ≡ 1 }
 {
-    let mut publishers = Few::open(rt, Role::Publisher, 1);
-    let mut players = Few::open(rt, Role::Player, 1);
+    let mut publishers = Few::open(rt, Role::Publisher, 2);
+    let mut players = Few::open(rt, Role::Player, 2);
     let (lines, requests) = (publishers.address(rt), players.address(rt));
     let hub: Hub<L> = hub_of_one(rt, alloc, blanks);
     let ((), passes) = thread::join(
@@ -181,5 +185,5 @@ fn serve_sockets<
 #[test]
 fn sockets_are_served(rt: HostRuntime) {
     let totals = serve_sockets::<Brand, HostRuntime>(&rt, rt.alloc(), Blanks::new());
-    same(&rt, "the totals", totals.as_str(), "1 1 0;");
+    same(&rt, "the totals", totals.as_str(), "7 9 0;");
 }

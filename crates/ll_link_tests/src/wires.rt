@@ -47,7 +47,7 @@ impl Gate for Open {
 pub(crate) struct Dropped;
 
 impl Sink for Dropped {
-    fn take(&self, _channel: usize, _chunk: Chunk) {}
+    fn take(&mut self, _channel: usize, _chunk: Chunk) {}
 }
 
 /// How a connection gives and takes its bytes.

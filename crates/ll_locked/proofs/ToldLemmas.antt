@@ -1,5 +1,5 @@
 -- What a room's answers say of the events that it stands for.
-use Rattle.std.proofs.Common.{◌≡◌, ℕ, ◌+◌, ◌*◌, ◌≤◌, ◌==◌, ◌&&◌, ◌||◌, List, [], ◌∷◌, ◌++◌, Bool, true, false, not, cond, Option, Some, None, is_some, refl, ap, ap₂, ◌∙◌, sym, subst, filter, find, length, map, option_and_then, option_map, slice_get, suc, arith}
+use Rattle.std.proofs.Common.{◌≡◌, ℕ, ◌+◌, ◌*◌, ◌≤◌, ◌<◌, ◌==◌, ◌&&◌, ◌||◌, List, [], ◌∷◌, ◌++◌, Bool, true, false, not, cond, Option, Some, None, MatchOption, is_some, refl, ap, ap₂, ◌∙◌, sym, subst, filter, find, length, map, option_and_then, option_map, slice_get, suc, arith}
 use Rattle.std.proofs.lemmas.Bool.Decides.{nat_tests}
 use Rattle.std.proofs.lemmas.List.{append_cancel_right, map-append}
 use Rattle.std.specs.List.{list_any}
@@ -20,7 +20,8 @@ use Rattle.ll_room.specs.declared.asked.Closed.TheVariants as given_up
 use Rattle.ll_room.specs.declared.asked.Collected.TheVariants.{Got}
 use Rattle.ll_room.specs.declared.stamped.Stamp.TheVariants as stamp
 use Rattle.ll_verdict.proofs.StateLemmas.{state-snoc, at_once-is}
-use Rattle.ll_verdict.specs.Events.{Event, Ask}
+use Rattle.ll_verdict.specs.Events.{Event, Ask, items}
+use Rattle.ll_verdict.specs.Standing.{standing}
 use Rattle.ll_verdict.specs.State.{State, answer_of, gone, new_slots, settle, stays, waiting_in, open_requests, slot_by, slot_of, state_of}
 use Rattle.ll_verdict.specs.Verdict as verdict
 use Rattle.ll_verdict.specs.Verdict.{at_once, held, reply_of, wanted_of}
@@ -29,11 +30,12 @@ use Rattle.ll_verdict.specs.declared.entry.Slot.{Slot}
 use Rattle.ll_verdict.specs.declared.reply.Reply.{Reply}
 use Rattle.ll_verdict.specs.declared.reply.Reply.TheVariants.{NotFound}
 use Rattle.ll_verdict.specs.declared.reply.Settled.{Settled}
+use Rattle.ll_verdict.specs.declared.standing.Standing.{Standing}
 use Rattle.ll_verdict.specs.declared.wanted.Wanted.{Wanted}
 use Rattle.ll_locked.proofs.CountLemmas.{asks-is, count-is, none_before}
 use Rattle.ll_locked.specs.Channel.{IsChannel, parked_for, ticket_at}
 use Rattle.ll_locked.specs.Section.{IsAsCounted, IsMet, IsToldAfter}
-use Rattle.ll_locked.specs.Told.{HasToWait, IsAccepted, IsAnswered, IsDecidedIn, IsHeld}
+use Rattle.ll_locked.specs.Told.{HasToWait, IsAccepted, IsAnswered, IsDecidedIn, IsHeld, IsStanding}
 use Rattle.ll_locked.specs.declared.channel.AtOnce.TheVariants as told
 
 -- ---- items
@@ -46,6 +48,48 @@ accepted r es i seen n recorded free later is = record {
   counted = is ∙ ap (λ k. k + 1) (count-is r.room es recorded.stands);
   later = omega (arith, later, is);
 }
+
+-- ---- places
+
+-- what a room says of a rendition's place, after some events
+abbrev pub Places : RoomValue → List Event → ℕ → Option Standing → Type 0
+Places h es rendition o =
+    MatchOption o (length h.settings.renditions ≤ rendition) (λ s. (rendition < length h.settings.renditions) × (s ≡ standing h.settings (items h.settings es) rendition))
+
+placed : (r : Recording) (es : List Event) (rendition : ℕ) (o : Option Standing) → IsRecorded r es → Places r.room es rendition o
+    → MatchOption o (length r.room.settings.renditions ≤ rendition) (IsStanding r.room.settings rendition r.room.count)
+placed r es rendition None recorded none = none
+placed r es rendition (Some s) recorded told =
+    let count = count-is r.room es recorded.stands in
+    let same = ap (λ (x : Standing). x.count) told.1 in
+    let later : r.room.count ≤ s.count = omega (arith, count, same) in
+    record { events = es; there = told.0; stands = told.1; later = later }
+
+only-place : (h : RoomValue) (es : List Event) (rendition : ℕ) (o : Option Standing) → Places h es rendition o
+    → MatchOption o (length h.settings.renditions ≤ rendition) (λ s. s ≡ standing h.settings (items h.settings es) rendition)
+only-place h es rendition None none = none
+only-place h es rendition (Some s) told = told.1
+
+-- where a rendition stands after the events that are recorded, as the recorder's room says
+pub stands-there : (r : Recording) (h : RoomValue) (es : List Event) (rendition : ℕ) (o : Option Standing) → h ≡ r.room → IsRecorded r es
+    → (Stands h es → Places h es rendition o) → MatchOption o (length r.room.settings.renditions ≤ rendition) (IsStanding r.room.settings rendition r.room.count)
+stands-there r h es rendition o at recorded told =
+    placed r es rendition o recorded (subst (λ k. Stands k es → Places k es rendition o) at told recorded.stands)
+
+pub stands-exactly : (r : Recording) (h : RoomValue) (es : List Event) (rendition : ℕ) (o : Option Standing) → h ≡ r.room → IsRecorded r es
+    → (Stands h es → Places h es rendition o)
+    → MatchOption o (length r.room.settings.renditions ≤ rendition) (λ s. s ≡ standing r.room.settings (items r.room.settings es) rendition)
+stands-exactly r h es rendition o at recorded told =
+    only-place r.room es rendition o (subst (λ k. Stands k es → Places k es rendition o) at told recorded.stands)
+
+-- the same in the room that the caller has met
+pub met-stands : (r : Recording) (place : ℕ) (c : Configuration) (seen rendition : ℕ) (o : Option Standing) → IsMet r place c seen
+    → MatchOption o (length r.room.settings.renditions ≤ rendition) (IsStanding r.room.settings rendition r.room.count)
+    → MatchOption o (length c.renditions ≤ rendition) (IsStanding c rendition seen)
+met-stands r place c seen rendition None met none = subst (λ (s : Configuration). length s.renditions ≤ rendition) met.settings none
+met-stands r place c seen rendition (Some s) met there =
+    let later : seen ≤ s.count = omega (arith, met.later, there.later) in
+    subst (λ k. IsStanding k rendition seen s) met.settings (record { events = there.events; there = there.there; stands = there.stands; later = later })
 
 -- ---- requests
 

@@ -10,6 +10,7 @@ use Rattle.ll_verdict.specs.declared.fault.ClockFault.TheVariants as reading
 use Rattle.ll_verdict.specs.declared.fault.AskFault.TheVariants as unasked
 use Rattle.ll_verdict.specs.Full.{is_full, refusal_after}
 use Rattle.ll_verdict.specs.Events.{Event, asks, items, time}
+use Rattle.ll_verdict.specs.Standing.{standing}
 use Rattle.ll_verdict.specs.State.{open_requests, slot_of}
 use Rattle.ll_verdict.specs.Verdict as verdict
 use Rattle.ll_verdict.specs.Verdict.{Request, at_once, held, reply_of, wanted_of}
@@ -17,6 +18,7 @@ use Rattle.ll_verdict.specs.declared.entry.Entry.{Entry}
 use Rattle.ll_rendition.specs.declared.fault.PublishFault.{PublishFault}
 use Rattle.ll_verdict.specs.declared.reply.Reply.{Reply}
 use Rattle.ll_verdict.specs.declared.reply.Settled.{Settled}
+use Rattle.ll_verdict.specs.declared.standing.Standing.{Standing}
 use Rattle.ll_locked.specs.declared.fault.HubFault.{HubFault}
 use Rattle.ll_locked.specs.declared.fault.HubFault.TheVariants.{Room, Memory}
 use Rattle.ll_locked.specs.declared.fault.RoomFault.TheVariants as room
@@ -37,6 +39,13 @@ pub record IsRefused (c : Configuration) (item : Item) (seen : ℕ) (fault : Pub
   pub recorded : IsRecorded recording events
   pub refused : record_refusal recording events item ≡ Some fault
   pub later : seen ≤ length (items c events)
+
+-- a rendition stands here after some events, of which the caller had seen no more items than there are
+pub record IsStanding (c : Configuration) (rendition seen : ℕ) (s : Standing) : Type 0 where
+  pub events : List Event
+  pub there : rendition < length c.renditions
+  pub stands : s ≡ standing c (items c events) rendition
+  pub later : seen ≤ s.count
 
 -- whether no request and no reading is taken any more: the record holds as much as a record holds, or the channel has taken as many events as it takes
 abbrev pub is_filled : Recording → Bool

@@ -1,17 +1,18 @@
 //! What lies under a channel's lock. Each method is one locked section.
-ghost use Rattle.std.specs.Prelude.{◌≡◌, ◌≢◌, ◌+◌, ◌<◌, ◌++◌, ◌∷◌, [], ℕ, List, IfErr, IfOk, MatchBool, None, Some, OnErr, OnOk, filter, length, position, if◌then◌else◌};
+ghost use Rattle.std.specs.Prelude.{◌≡◌, ◌≢◌, ◌+◌, ◌<◌, ◌≤◌, ◌++◌, ◌∷◌, [], ℕ, List, IfErr, IfOk, MatchBool, MatchOption, None, Some, OnErr, OnOk, filter, length, position, if◌then◌else◌};
 ghost use Rattle.std.specs.Bool.{Decides};
 ghost use Rattle.std.specs.VecDeque.{deque_capacity, deque_len};
 ghost use Rattle.ll_verdict.specs.Waiting as waiting;
 ghost use Rattle.ll_verdict.specs.Waiting.{found};
 ghost use Rattle.ll_locked.specs.Channel.{IsChannel, is_of, parked_for, ticket_at};
 ghost use Rattle.ll_locked.specs.Section as spec;
-ghost use Rattle.ll_locked.specs.Told.{IsAccepted, IsAskRefused, IsHandedOut, IsReadingRefused, IsTotal, IsTotalOf};
+ghost use Rattle.ll_locked.specs.Told.{IsAccepted, IsAskRefused, IsHandedOut, IsReadingRefused, IsStanding, IsTotal, IsTotalOf};
 ghost use Rattle.ll_record.specs.Chunk.{IsChunk, IsFaithful, emptied};
 ghost use Rattle.ll_record.specs.Recording.{GoesOn, IsRecorded};
 ghost use Rattle.ll_room.specs.RoomValue.{among, room_value, less, tickets};
 ghost use Rattle.ll_room.specs.declared.stamped.Stamp.TheVariants as stamp;
-ghost use Rattle.ll_verdict.specs.Events.{Event, Clock, Publish};
+ghost use Rattle.ll_verdict.specs.Events.{Event, Clock, Publish, items};
+ghost use Rattle.ll_verdict.specs.Standing.{standing};
 ghost use Rattle.ll_verdict.specs.State.{state_of};
 
 use crate::clock::Clock;
@@ -22,7 +23,7 @@ use ll_directive::Want;
 use ll_item::{Item, Settings};
 use ll_record::{Chunk, Recorder};
 use ll_room::{Asked, Closed, Collected, Parked, Stamped, Stored};
-use ll_verdict::{ClockFault, Entry, Reply};
+use ll_verdict::{ClockFault, Entry, Reply, Standing};
 use std::alloc::{AllocError, Global};
 use std::collections::VecDeque;
 use std::marker::Model;
@@ -108,6 +109,15 @@ impl Channel {
             });
         }
         Ok(())
+    }
+
+    /// Returns where the rendition of this index stands, or `None` if the channel has none of that index. It is no event.
+    pub fn standing(&self, rendition: usize) -> Option<Standing>
+        ensures some { MatchOption result (length self.now.room.settings.renditions ≤ rendition) (IsStanding self.now.room.settings rendition self.now.room.count) }
+        ensures exact { (events : List Event) → IsRecorded self.now events
+            → MatchOption result (length self.now.room.settings.renditions ≤ rendition) (λ s. s ≡ standing self.now.room.settings (items self.now.room.settings events) rendition) }
+    {
+        self.recorder.room().standing(rendition)
     }
 
     /// Publishes an item in the channel, which the caller has met.

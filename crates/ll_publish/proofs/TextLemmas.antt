@@ -7,7 +7,7 @@ use Rattle.std.proofs.lemmas.Str.{IsUtf8-from_is_utf8, is_utf8-from_IsUtf8}
 use Rattle.std.proofs.lemmas.Str.Pattern.{IsSplitOnceResult, split_once_first}
 use Rattle.std.specs.List.{list_any, position_or_len}
 use Rattle.std.specs.Str.{IsUtf8, is_utf8}
-use Rattle.ll_publish.specs.Lines.{parts}
+use Rattle.ll_publish.specs.Lines.{parts, word_alone}
 
 abbrev is_space : ℕ → Bool
 is_space b = b == 32
@@ -40,3 +40,9 @@ of-cut text (Some x) u h =
     let cut = split_once_first 32 text (Some x) h (lit< tt) in
     let yes = has-space text cut.0 in
     rw (utf8, yes) (ap₂ (λ a b. Some (a, b)) (sym cut.1) (sym cut.2))
+
+-- a text is one word if no space was found in it
+pub one-word : (text : List ℕ) (r : Option (Bor (List ℕ) × Bor (List ℕ))) → IsSplitOnceResult 32 text r
+    → MatchOption r (word_alone (Some text) ≡ Some text) (λ x. word_alone (Some text) ≡ None)
+one-word text None h = rw (has-none text (split_once_first 32 text None h (lit< tt))) refl
+one-word text (Some x) h = rw (has-space text (split_once_first 32 text (Some x) h (lit< tt)).0) refl

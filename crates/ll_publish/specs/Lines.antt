@@ -1,12 +1,12 @@
 -- The lines of a publisher's stream, some of which an item's bytes follow.
-use Rattle.std.specs.Prelude.{ℕ, zero, suc, ◌+◌, ◌-◌, ◌==◌, ◌&&◌, Bool, List, [], ◌∷◌, ◌++◌, Option, Some, None, take, drop, length, nat_lt, slice_index, if◌then◌else◌}
+use Rattle.std.specs.Prelude.{ℕ, zero, suc, ◌+◌, ◌-◌, ◌==◌, ◌&&◌, Bool, List, [], ◌∷◌, ◌++◌, Option, Some, None, take, drop, length, nat_lt, slice_index, codes, if◌then◌else◌}
 use Rattle.std.specs.List.{list_any, before_first, after_first}
 use Rattle.std.specs.Str.{is_utf8}
 use Rattle.std.specs.Str.Lines.{strip_carriage_return}
-use Rattle.ll_attr.specs.Words.{words}
+use Rattle.ll_attr.specs.Words.{after, words}
 use Rattle.ll_item.specs.Announced.{announced, lacks_length}
 use Rattle.ll_item.specs.Media.{media_limit}
-use Rattle.ll_publish.specs.Line.{Line, Item, Bad, TooLong, MediaTooLong}
+use Rattle.ll_publish.specs.Line.{Line, Item, At, Bad, TooLong, MediaTooLong}
 
 -- the longest line of a publisher, in bytes, without its end
 abbrev pub line_limit : ℕ
@@ -21,9 +21,21 @@ parts text =
     then Some (before_first (λ b. b == 32) text, after_first (λ b. b == 32) text)
     else None
 
--- the line of an item after which no bytes stand: that of an initialization section tells their number
+-- the name of the rendition whose place is asked for, if a text is `at` and, after a space, one word
+abbrev pub word_alone : Option (List ℕ) → Option (List ℕ)
+word_alone None = None
+word_alone (Some name) = if list_any (λ b. b == 32) name then None else Some name
+
+abbrev pub asked_in : List ℕ → Option (List ℕ)
+asked_in text = word_alone (after (codes "at ") text)
+
+abbrev pub asking : Option (List ℕ) → List ℕ → List ℕ → Line
+asking None channel item = Item channel item []
+asking (Some rendition) channel item = At channel rendition
+
+-- a line after which no bytes stand: a question, or an item; that of an initialization section tells the number of its bytes
 abbrev pub line_alone : List ℕ → List ℕ → Line
-line_alone channel item = if lacks_length (words item) then Bad else Item channel item []
+line_alone channel item = if lacks_length (words item) then Bad else asking (asked_in item) channel item
 
 abbrev pub line_by : Option (List ℕ × List ℕ) → Line
 line_by None = Bad

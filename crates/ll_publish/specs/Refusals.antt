@@ -1,11 +1,14 @@
 -- Why a publisher's line is refused, and the lines that answer a publisher.
-use Rattle.std.specs.Prelude.{ℕ, List, ◌++◌, Result, Ok, Err, codes, decimal}
+use Rattle.std.specs.Prelude.{ℕ, Bool, true, false, List, [], ◌++◌, Result, Ok, Err, codes, decimal}
 use Rattle.ll_item.specs.declared.item.ItemFault.{ItemFault}
 use Rattle.ll_item.specs.declared.item.ItemFault.TheVariants as item
 use Rattle.ll_rendition.specs.declared.fault.PublishFault.{PublishFault}
 use Rattle.ll_rendition.specs.declared.fault.PublishFault.TheVariants as fault
 use Rattle.ll_publish.specs.declared.refusal.Refusal.{Refusal}
 use Rattle.ll_publish.specs.declared.refusal.Refusal.TheVariants.{Rule, BadLine, UnknownChannel, LineTooLong, MediaTooLong}
+use Rattle.ll_publish.specs.declared.success.Success.{Success}
+use Rattle.ll_publish.specs.declared.success.Success.TheVariants.{Accepted, Standing}
+use Rattle.ll_verdict.specs.declared.standing.Standing as verdict
 
 abbrev pub out_of_memory : Refusal
 out_of_memory = Rule fault.Memory
@@ -75,7 +78,19 @@ ok_line count = codes "ok " ++ (decimal count ++ codes "\n")
 abbrev pub no_line : Refusal → List ℕ
 no_line r = refusal_line (refusal_code r) (refusal_name r)
 
+-- after the end of a rendition its place is told so
+abbrev pub ended_word : Bool → List ℕ
+ended_word false = []
+ended_word true = codes " ended"
+
+-- where a rendition stands
+unfoldable pub at_line : verdict.Standing → List ℕ
+at_line s =
+    codes "at " ++ (decimal s.count ++ (codes " " ++ (decimal s.number ++ (codes " " ++ (decimal s.index
+    ++ (codes " " ++ (decimal s.end_time ++ (codes " " ++ (decimal s.time ++ (ended_word s.ended ++ codes "\n"))))))))))
+
 -- the line that answers a publisher's line
-abbrev pub reply_line : Result ℕ Refusal → List ℕ
-reply_line (Ok count) = ok_line count
+abbrev pub reply_line : Result Success Refusal → List ℕ
+reply_line (Ok (Accepted count)) = ok_line count
+reply_line (Ok (Standing standing)) = at_line standing
 reply_line (Err reason) = no_line reason

@@ -3,17 +3,37 @@ ghost use Rattle.std.specs.Prelude.{◌≡◌, IfOk, string_bytes};
 ghost use Rattle.ll_publish.specs.Refusals as spec;
 
 use crate::refusal::Refusal;
+use crate::success::Success;
 use itoa::Buffer;
+use ll_verdict::Standing;
 use std::alloc::{AllocError, Global};
 
-/// The line that answers a publisher's line: its item is accepted, with which the channel has so many, or it is refused.
-pub fn reply_text(alloc: Global, reply: &Result<u64, Refusal>) -> Result<String, AllocError>
+/// Returns the line that answers a publisher's line: what it is told, or why it is refused.
+pub fn reply_text(alloc: Global, reply: &Result<Success, Refusal>) -> Result<String, AllocError>
     ensures { IfOk result (λ t. string_bytes t ≡ spec.reply_line reply.now) }
 {
     match reply {
-        Ok(count) => ok_line(alloc, *count),
+        Ok(Success::Accepted(count)) => ok_line(alloc, *count),
+        Ok(Success::Standing(standing)) => at_line(alloc, standing),
         Err(reason) => no_line(alloc, *reason),
     }
+}
+
+/// Returns the line that tells where a rendition stands.
+#[tactic(auto, unfolding(crate::specs::Refusals::at_line))]
+pub fn at_line(alloc: Global, standing: &Standing) -> Result<String, AllocError>
+    ensures { IfOk result (λ t. string_bytes t ≡ spec.at_line standing.now) }
+{
+    let Standing {
+        count,
+        number,
+        index,
+        end_time,
+        time,
+        ended,
+    } = *standing;
+    let last = if ended { " ended" } else { "" };
+    format!(in alloc; "at {count} {number} {index} {end_time} {time}{last}\n")
 }
 
 /// An item is accepted, with which the channel has so many.

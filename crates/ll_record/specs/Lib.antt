@@ -1,3 +1,4 @@
 pub mod Chunk
 pub mod Kept
 pub mod Recording
+pub mod Taken

@@ -1,6 +1,6 @@
 -- What an act said, and where it may have made replies due.
 use Rattle.std.proofs.Common.{◌≡◌, ℕ, List, [], ◌++◌, Bool, true, false, Option, None, refl, ap, sym, ◌∙◌, subst}
-use Rattle.std.specs.Prelude.{if◌then◌else◌}
+use Rattle.std.specs.Prelude.{Err, IfOk, Ok, Result, if◌then◌else◌}
 use Rattle.std.specs.Io.KnownBytes.{Appends}
 use Rattle.std.specs.declared.alloc.Global.{Global}
 use Rattle.std.specs.declared.vec.Vec.{Vec}
@@ -9,11 +9,13 @@ use Rattle.ll_device.specs.Written.{AppendsPrefix}
 use Rattle.ll_directive.specs.Targets.{WantValue}
 use Rattle.ll_script.specs.Lines.{starved}
 use Rattle.ll_script.specs.declared.act.Act.{Act}
-use Rattle.ll_script.specs.declared.act.Act.TheVariants.{Ask, Bytes}
+use Rattle.ll_script.specs.declared.act.Act.TheVariants.{Ask, At, Bytes}
 use Rattle.ll_rooms.specs.Kept as rooms
+use Rattle.ll_rooms.specs.World as world
+use Rattle.ll_verdict.specs.declared.standing.Standing.{Standing}
 use Rattle.ll_replay.specs.Cuts.{IsCutBetween}
 use Rattle.ll_replay.specs.Kept.{IsDone, Keeps, Kept, Says, Stands, met, told}
-use Rattle.ll_replay.specs.Script.{Lot, Script, act, makes_due, plain, says}
+use Rattle.ll_replay.specs.Script.{Lot, Script, act, makes_due, plain, says, standing_text}
 use Rattle.ll_replay.specs.declared.driver.Done.{Done}
 use Rattle.ll_replay.specs.declared.outcome.RunFault.{RunFault}
 use Rattle.ll_replay.specs.declared.outcome.RunFault.TheVariants as fault
@@ -32,6 +34,15 @@ done-is new d answer due a w lot is at same s = record {
 -- a line is written, and nothing else happens
 pub line-says : (k : Kept) (w : Script) (t : Option (Vec ℕ Global)) (text : List ℕ) → Keeps k w → told t ≡ text → Says k t w (says w text)
 line-says k w t text keeps e = record { keeps = record { stands = keeps.stands; silent = keeps.silent }; text = ap (λ more. w.text ++ more) (sym e) }
+
+-- where a rendition stands is told, and nothing else happens
+pub told-says : {E : Type 0} (r : Result (Option (Vec ℕ Global)) E) (old now : Kept) (place rendition : ℕ) (s : Option Standing) → old ≡ now
+    → ((v : world.World) → old.rooms ≡ rooms.kept_world v → s ≡ world.standing place rendition v) → IfOk r (λ t. told t ≡ standing_text s)
+    → (w : Script) → Keeps now w → IfOk r (λ t. Says now t w (act [] w (At place rendition)))
+told-says (Err e) old now place rendition s same stands is w k = tt
+told-says (Ok t) old now place rendition s same stands is w k =
+    line-says now w t (standing_text (world.standing place rendition w.rooms)) k
+    (is ∙ ap standing_text (stands w.rooms (ap (λ (q : Kept). q.rooms) same ∙ ap (λ (q : Kept). q.rooms) k.stands)))
 
 -- where the rooms stay as they are, the driver keeps the same
 pub unchanged-keeps : (old now : Kept) (held : rooms.Kept) (w : Script) → old ≡ now → held ≡ old.rooms → Keeps now w → Keeps (record old { rooms = held }) w

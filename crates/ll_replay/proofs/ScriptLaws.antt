@@ -11,14 +11,14 @@ use Rattle.ll_publish.specs.Refusals.{no_line}
 use Rattle.ll_script.specs.Answers.{clock_line, fault_line}
 use Rattle.ll_script.specs.Lines.{acts}
 use Rattle.ll_script.specs.declared.act.Act.{Act}
-use Rattle.ll_script.specs.declared.act.Act.TheVariants.{Declare, Offer, Refuse, Ask, Answer, Close, Clock, RefuseClock, Bytes, Drop}
+use Rattle.ll_script.specs.declared.act.Act.TheVariants.{Declare, Offer, At, Refuse, Ask, Answer, Close, Clock, RefuseClock, Bytes, Drop}
 use Rattle.ll_verdict.specs.declared.fault.ClockFault.TheVariants as refused
 use Rattle.ll_verdict.specs.declared.reply.Reply.{Reply}
 use Rattle.ll_rooms.specs.World as rooms
 use Rattle.ll_rooms.specs.declared.answer.ActAnswer as answer
 use Rattle.ll_rooms.specs.declared.answer.ActAnswer.TheVariants as said
 use Rattle.ll_replay.specs.Kept.{met}
-use Rattle.ll_replay.specs.Script.{Script, Ending, LineTooLong, Lot, Marked, act, acted, counted, done, heard, line, line_by, makes_due, passed_on, passed_to, read_by, rest, rest_at, so_many, spelled, next_reply, turned, with_lots}
+use Rattle.ll_replay.specs.Script.{Script, Ending, LineTooLong, Lot, Marked, act, acted, counted, done, heard, line, line_by, makes_due, passed_on, passed_to, read_by, rest, rest_at, so_many, spelled, standing_text, next_reply, turned, with_lots}
 
 -- a world that says more and ends as the first
 abbrev pub Follows : Script → Script → Type 0
@@ -41,6 +41,7 @@ turned-follows w t = (t.text, refl, refl)
 pub act-follows : (lucks : List Luck) (w : Script) (a : Act) → Follows w (act lucks w a)
 act-follows lucks w (Declare settings) = heard-follows w (rooms.declare settings w.rooms)
 act-follows lucks w (Offer place item) = heard-follows w (rooms.offer place item w.rooms)
+act-follows lucks w (At place rendition) = (standing_text (rooms.standing place rendition w.rooms), refl, refl)
 act-follows lucks w (Refuse reason) = (no_line reason, refl, refl)
 act-follows lucks w (Ask id place want) = (flat_map spelled (rooms.ask (Get id) place want w.rooms).answers, refl, refl)
 act-follows lucks w (Answer id reason) = (fault_line id reason, refl, refl)

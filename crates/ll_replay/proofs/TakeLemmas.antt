@@ -33,6 +33,7 @@ refused (lot ∷ lots) (a ∷ list) = without_memory lot ∷ refused lots list
 starved-twice : (a : Act) → starved (starved a) ≡ starved a
 starved-twice (act.Declare settings) = refl
 starved-twice (act.Offer place item) = refl
+starved-twice (act.At place rendition) = refl
 starved-twice (act.Refuse reason) = refl
 starved-twice (act.Ask id place want) = refl
 starved-twice (act.Answer id fault) = refl

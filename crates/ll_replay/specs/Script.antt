@@ -4,14 +4,15 @@ use Rattle.ll_connection.specs.Turn as connection
 use Rattle.ll_connection.specs.Visit.{Luck}
 use Rattle.ll_rooms.specs.declared.owner.Owner.{Owner}
 use Rattle.ll_rooms.specs.declared.owner.Owner.TheVariants.{Get, Connection}
-use Rattle.ll_publish.specs.Refusals.{no_line, ok_line}
+use Rattle.ll_publish.specs.Refusals.{at_line, no_line, ok_line}
 use Rattle.ll_publish.specs.declared.refusal.Refusal.TheVariants.{Rule}
 use Rattle.ll_script.specs.Answers.{clock_line, fault_line, reply_lines, unasked_line}
 use Rattle.ll_script.specs.Lines.{acts, starved}
 use Rattle.ll_script.specs.declared.act.Act.{Act}
-use Rattle.ll_script.specs.declared.act.Act.TheVariants.{Declare, Offer, Refuse, Ask, Answer, Close, Clock, RefuseClock, Bytes, Drop}
+use Rattle.ll_script.specs.declared.act.Act.TheVariants.{Declare, Offer, At, Refuse, Ask, Answer, Close, Clock, RefuseClock, Bytes, Drop}
 use Rattle.ll_verdict.specs.declared.fault.AskFault.TheVariants as unasked
 use Rattle.ll_verdict.specs.declared.fault.ClockFault.TheVariants as refused
+use Rattle.ll_verdict.specs.declared.standing.Standing.{Standing}
 use Rattle.ll_rooms.specs.World as rooms
 use Rattle.ll_verdict.specs.declared.reply.Reply.{Reply}
 use Rattle.ll_rooms.specs.World.{all_settings, silent}
@@ -83,6 +84,11 @@ spelled (said.ClockRefused reason) = clock_line reason
 spelled (said.Replied owner reply) = reply_text owner reply
 spelled (said.Unavailable owner) = unavailable_text owner
 
+-- the line that tells where a rendition stands, if it was found
+abbrev pub standing_text : Option Standing → List ℕ
+standing_text None = []
+standing_text (Some s) = at_line s
+
 abbrev pub is_get : Owner → Bool
 is_get (Get id) = true
 is_get (Connection n) = false
@@ -121,6 +127,7 @@ turned w t = record w { rooms = silent t.rooms; connections = t.connections; rep
 abbrev pub act : List Luck → Script → Act → Script
 act lucks w (Declare settings) = heard w (rooms.declare settings w.rooms)
 act lucks w (Offer place item) = heard w (rooms.offer place item w.rooms)
+act lucks w (At place rendition) = says w (standing_text (rooms.standing place rendition w.rooms))
 act lucks w (Refuse reason) = says w (no_line reason)
 act lucks w (Ask id place want) = asked_under (heard w (rooms.ask (Get id) place want w.rooms)) id
 act lucks w (Answer id reason) = replied w id (fault_line id reason)
@@ -163,6 +170,7 @@ rest_at replies place w = fold (next_reply place) w (so_many (length w.rooms.wai
 abbrev pub makes_due : Act → Option ℕ
 makes_due (Declare settings) = None
 makes_due (Offer place item) = Some place
+makes_due (At place rendition) = None
 makes_due (Refuse reason) = None
 makes_due (Ask id place want) = None
 makes_due (Answer id reason) = None

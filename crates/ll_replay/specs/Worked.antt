@@ -142,6 +142,30 @@ media_text =
     ++ codes "reply 2 200 2\n00ff\n"
     ++ codes "reply 3 404 NotFound\n"
 
+-- where a rendition stands before any part, amid a segment, after it, and after the end; and one that the channel hasn't
+abbrev pub asking_lines : List ℕ
+asking_lines =
+    channel_line
+    ++ codes "pub cam at hi\n"
+    ++ codes "pub cam part hi 600001 i\n"
+    ++ codes "pub cam at hi\n"
+    ++ codes "pub cam finish hi\n"
+    ++ codes "pub cam at hi\n"
+    ++ codes "pub cam end hi\n"
+    ++ codes "pub cam at hi\n"
+    ++ codes "pub cam at lo\n"
+
+abbrev pub asking_text : List ℕ
+asking_text =
+    codes "at 0 0 0 0 0\n"
+    ++ codes "ok 1\n"
+    ++ codes "at 1 0 1 600001 601\n"
+    ++ codes "ok 2\n"
+    ++ codes "at 2 1 0 600001 601\n"
+    ++ codes "ok 3\n"
+    ++ codes "at 3 1 0 600001 601 ended\n"
+    ++ codes "no 1 NoRendition\n"
+
 -- the second number of a request does not rise
 abbrev pub same_number : List ℕ
 same_number = asked_at_once ++ codes "get 1 /cam/hi/live.m3u8\n" ++ codes "pub cam part hi 1000000 if\n"
@@ -171,5 +195,6 @@ pub record WorkedScript : Type 0 where
   pub last_refusals_told : script last_lines ≡ last_refusals
   pub waiting : script waiting_lines ≡ waiting_text
   pub media : script media_lines ≡ media_text
+  pub asking : script asking_lines ≡ asking_text
   pub same_text : script same_number ≡ codes "reply 1 200 304\n" ++ empty_playlist
   pub same_ending : (world_of same_number).ending ≡ Some (BadLine 3)

@@ -11,10 +11,10 @@ ghost use Rattle.ll_replay.specs.Script as script;
 
 use crate::outcome::RunFault;
 use ll_device::{Failed, Writer, write_all};
-use ll_publish::{Refusal, no_line, ok_line};
+use ll_publish::{Refusal, at_line, no_line, ok_line};
 use ll_rooms::{ActAnswer, Owner};
 use ll_script::{clock_line, reply_lines, unasked_line};
-use ll_verdict::{AskFault, Reply};
+use ll_verdict::{AskFault, Reply, Standing};
 use std::alloc::{AllocError, Global};
 
 /// The reply that goes to a connection, and the connection's number; any other answer is handed back.
@@ -44,6 +44,16 @@ pub(crate) fn refuse(alloc: Global, reason: Refusal) -> Result<Option<Vec<u8>>, 
 {
     let line = no_line(alloc, reason)?;
     Ok(Some(line.into_bytes()))
+}
+
+/// Returns the line that tells where a rendition stands, if `standing` is known.
+pub(crate) fn tell(alloc: Global, standing: Option<Standing>) -> Result<Option<Vec<u8>>, AllocError>
+    ensures { IfOk result (λ t. told t ≡ script.standing_text standing) }
+{
+    match standing {
+        None => Ok(None),
+        Some(standing) => Ok(Some(at_line(alloc, &standing)?.into_bytes())),
+    }
 }
 
 /// The lines of what was answered, where something was.

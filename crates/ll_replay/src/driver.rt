@@ -10,7 +10,7 @@ ghost use Rattle.ll_replay.specs.Script as script;
 ghost use Rattle.ll_replay.specs.Kept.{IsDone, Keeps, Says, Stands, met};
 ghost use Rattle.ll_replay.specs.Cuts.{IsCutBetween};
 
-use crate::answers::{refuse, replies_in, say, spell, to_connection};
+use crate::answers::{refuse, replies_in, say, spell, tell, to_connection};
 use crate::outcome::{RunFault, Summary};
 use ll_connection::{Connections, Sent};
 use ll_device::Writer;
@@ -252,6 +252,10 @@ impl Driver {
                 Ok(Done::quiet(declared))
             }
             Act::Offer { place, item } => self.offer(place, item),
+            Act::At { place, rendition } => {
+                let told = self.standing(place, rendition)?;
+                Ok(Done::quiet(told))
+            }
             Act::Refuse(reason) => {
                 let refused = refuse(self.alloc, reason)?;
                 Ok(Done::quiet(refused))
@@ -308,6 +312,13 @@ impl Driver {
                 Ok(Done::quiet(answer))
             }
         }
+    }
+
+    /// Returns the line that tells where a rendition of the channel at `place` stands. Nothing changes.
+    fn standing(&self, place: usize, rendition: usize) -> Result<Option<Vec<u8>>, AllocError>
+        ensures { (w : Script) → Keeps self.now w → IfOk result (λ a. Says self.now a w (script.act [] w (Act.At place rendition))) }
+    {
+        tell(self.alloc, self.rooms.standing(place, rendition))
     }
 
     /// What a request to the channel at this place is answered at once, where it need not wait; where no memory is found for it, it is

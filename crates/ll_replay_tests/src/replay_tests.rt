@@ -31,6 +31,13 @@ const ITEMS_TEXT: &[u8] =
     b"ok 1\nok 2\nno 5 OpenSegment\nno 1 NoRendition\nno 9 BadAttribute\nno 1 NoRendition\n\
 no 13 BadLine\nok 3\nno 2 Ended\n";
 
+/// Questions where a rendition stands, which are no events and no replies, and two items.
+const QUESTIONS: &[u8] = b"pub cam at hi\npub cam part hi 600001 i\npub cam at hi\npub cam at lo\n\
+pub cam end hi\npub cam at hi\n";
+
+const QUESTIONS_TEXT: &[u8] =
+    b"at 0 0 0 0 0\nok 1\nat 1 0 1 600001 601\nno 1 NoRendition\nok 2\nat 2 1 0 600001 601 ended\n";
+
 /// All bytes at once.
 const WHOLE: Device = Device {
     step: 100_000,
@@ -175,10 +182,11 @@ fn after_channel(alloc: Global, lines: &[u8]) -> Result<Vec<u8>, AllocError> {
 
 #[test]
 fn answers_come_in_any_pieces(rt: HostRuntime) -> Result<(), AllocError> {
-    let cases: [(&[u8], u64, u64, &[u8]); 3] = [
+    let cases: [(&[u8], u64, u64, &[u8]); 4] = [
         (b"", 0, 0, b""),
         (ONE_SEGMENT, 2, 1, ONE_SEGMENT_TEXT),
         (ITEMS, 3, 0, ITEMS_TEXT),
+        (QUESTIONS, 2, 0, QUESTIONS_TEXT),
     ];
     for (lines, events, replies, text) in cases {
         let script = after_channel(rt.alloc(), lines)?;

@@ -9,5 +9,6 @@ pub mod SettingsLaws
 pub mod ShelfLemmas
 pub mod SpotLemmas
 pub mod StandLemmas
+pub mod StandingLemmas
 pub mod TieLemmas
 pub mod WaitLemmas

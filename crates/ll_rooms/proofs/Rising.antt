@@ -3,7 +3,7 @@ use Rattle.std.proofs.Common.{◌≡◌, ℕ, ◌<◌, ◌==◌, ◌&&◌, List,
 use Rattle.std.proofs.lemmas.Bool.Decides.{nat_tests}
 use Rattle.ll_verdict.specs.declared.entry.Entry.{Entry}
 use Rattle.ll_verdict.specs.declared.entry.Slot.{Slot}
-use Rattle.ll_verdict.specs.Waiting.{AreBelow, IsRising, has_ticket, is_ready_at, reply_at, settled_in, without, without_ready}
+use Rattle.ll_verdict.specs.Waiting.{AreBelow, IsRising, is_ready_at, reply_at, settled_in, without, without_ready}
 
 lower : (low high : ℕ) (ss : List Slot) → low < high → IsRising high ss → IsRising low ss
 lower low high [] h r = tt

@@ -1,5 +1,5 @@
 -- What the acts of a script come to in its channels, act by act.
-use Rattle.std.specs.Prelude.{ℕ, zero, suc, ◌+◌, ◌-◌, ◌^◌, ◌&&◌, List, [], ◌∷◌, ◌++◌, Bool, true, false, not, Option, Some, None, is_some, length, filter, find, fold, map, min, nat_le, slice_get, slice_set, sum_by, if◌then◌else◌}
+use Rattle.std.specs.Prelude.{ℕ, zero, suc, ◌+◌, ◌-◌, ◌^◌, ◌&&◌, List, [], ◌∷◌, ◌++◌, Bool, true, false, not, Option, Some, None, is_some, length, filter, find, fold, map, min, nat_le, nat_lt, slice_get, slice_set, sum_by, if◌then◌else◌}
 use Rattle.ll_directive.specs.Targets.{WantValue}
 use Rattle.ll_item.specs.Settings.{Configuration}
 use Rattle.ll_item.specs.declared.item.Item.{Item}
@@ -10,6 +10,8 @@ use Rattle.ll_rendition.specs.declared.fault.PublishFault.{PublishFault}
 use Rattle.ll_verdict.specs.declared.reply.Reply.{Reply}
 use Rattle.ll_verdict.specs.declared.reply.Settled.{Settled}
 use Rattle.ll_verdict.specs.Full.{is_full, refusal_after}
+use Rattle.ll_verdict.specs.Standing as verdict
+use Rattle.ll_verdict.specs.declared.standing.Standing.{Standing}
 use Rattle.ll_verdict.specs.declared.fault.ClockFault.{ClockFault}
 use Rattle.ll_verdict.specs.declared.fault.ClockFault.TheVariants.{ClockRange, RecordFull}
 use Rattle.ll_rooms.specs.Waits.{under, wait_of, without}
@@ -73,6 +75,23 @@ offer_at w place item (Some channel) = offered w place channel item (refusal_aft
 -- an item is offered to the channel at this place
 abbrev pub offer : ℕ → Item → World → World
 offer place item w = offer_at w place item (slice_get w.channels place)
+
+-- where a rendition stands, which is no event
+
+-- where the rendition of this index stands, if the channel has it
+abbrev pub standing_in : ℕ → Channel → Option Standing
+standing_in rendition channel =
+    if nat_lt rendition (length channel.settings.renditions)
+    then Some (verdict.standing channel.settings (items channel.settings channel.events) rendition)
+    else None
+
+abbrev pub standing_at : ℕ → Option Channel → Option Standing
+standing_at rendition None = None
+standing_at rendition (Some channel) = standing_in rendition channel
+
+-- where a rendition of the channel at this place stands, after all items of the channel
+abbrev pub standing : ℕ → ℕ → World → Option Standing
+standing place rendition w = standing_at rendition (slice_get w.channels place)
 
 -- a request is answered at once, or it waits
 

@@ -12,7 +12,7 @@ use crate::wait::Wait;
 use ll_directive::Want;
 use ll_item::{Item, Settings};
 use ll_room::{AskFault, Asked, Closed, Collected, Room};
-use ll_verdict::PublishFault;
+use ll_verdict::{PublishFault, Standing};
 use std::alloc::{AllocError, Global};
 use std::marker::Model;
 
@@ -103,6 +103,15 @@ impl Rooms {
         };
         self.events = self.events.saturating_add(1);
         Ok(Some(ActAnswer::Accepted(count)))
+    }
+
+    /// Returns where the rendition of index `rendition` of the channel at `place` stands, or `None` if there is no such channel or rendition. It is
+    /// no event.
+    pub fn standing(&self, place: usize, rendition: usize) -> Option<Standing>
+        ensures { (w : World) → self.now ≡ kept_world w → result ≡ world.standing place rendition w }
+    {
+        let room = self.rooms.get(place)?;
+        room.standing(rendition)
     }
 
     /// Makes a request of the channel at this place, whose reply is told to this owner: now, or once it is due.

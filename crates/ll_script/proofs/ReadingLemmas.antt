@@ -10,11 +10,16 @@ use Rattle.ll_item.specs.Channels.{channel_of_name}
 use Rattle.ll_directive.specs.Targets.{WantValue}
 use Rattle.ll_directive.specs.declared.fault.TargetFault.{TargetFault}
 use Rattle.ll_directive.specs.declared.fault.TargetFault.TheVariants as target
+use Rattle.ll_item.specs.Items.{named}
 use Rattle.ll_item.specs.Settings.{Configuration, settings_in}
+use Rattle.ll_item.specs.declared.item.ItemFault.{ItemFault}
+use Rattle.ll_item.specs.declared.item.ItemFault.TheVariants as fault
+use Rattle.ll_publish.specs.Refusals.{item_refusal}
 use Rattle.ll_script.specs.Hex.{bytes_in_hex}
-use Rattle.ll_script.specs.declared.act.Act.TheVariants.{Answer}
+use Rattle.ll_script.specs.declared.act.Act.{Act}
+use Rattle.ll_script.specs.declared.act.Act.TheVariants.{Answer, Refuse}
 use Rattle.ll_script.specs.declared.act.Acts.TheVariants as list
-use Rattle.ll_script.specs.Lines.{AreRead, acts, alone, ask, ask_in, begun, bytes_by, bytes_of, declaration, get_of, is_passed_over, kinds}
+use Rattle.ll_script.specs.Lines.{AreRead, acts, alone, at_by, at_in, ask, ask_in, begun, bytes_by, bytes_of, declaration, get_of, is_passed_over, kinds}
 
 -- a text has at least one part
 some-part : (c : ℕ) (text : List ℕ) → pieces_at c text ≢ []
@@ -98,3 +103,22 @@ unread-ask channels id (Ok want) f ok is =
     by_channel : (o : Option (ℕ × Configuration)) → AreRead channels (Some (ask_in id want o ∷ [])) (list.One (Answer id (if is_some o then target.Memory else target.NotFound)))
     by_channel None = refl
     by_channel (Some c) = refl
+
+-- a question needs no memory
+pub asks-read : (channels : List Configuration) (o : Option (ℕ × Configuration)) (rendition : List ℕ) (a : Act) → a ≡ at_in o rendition
+    → AreRead channels (Some (at_in o rendition ∷ [])) (list.One a)
+asks-read channels o rendition a is = subst (λ b. AreRead channels (Some (at_in o rendition ∷ [])) (list.One b)) (sym is) (by_channel o)
+  where
+    by_fault : (f : ItemFault) → AreRead channels (Some (Refuse (item_refusal f) ∷ [])) (list.One (Refuse (item_refusal f)))
+    by_fault fault.BadLine = refl
+    by_fault fault.NoRendition = refl
+    by_fault fault.BadAttribute = refl
+    by_fault fault.Memory = refl
+
+    by_name : (place : ℕ) (r : Result ℕ ItemFault) → AreRead channels (Some (at_by place r ∷ [])) (list.One (at_by place r))
+    by_name place (Ok rendition) = refl
+    by_name place (Err f) = by_fault f
+
+    by_channel : (o : Option (ℕ × Configuration)) → AreRead channels (Some (at_in o rendition ∷ [])) (list.One (at_in o rendition))
+    by_channel None = refl
+    by_channel (Some c) = by_name c.0 (named c.1 rendition)

@@ -6,9 +6,9 @@ use Rattle.std.specs.Str.{is_utf8, chars}
 use Rattle.form_urlencoded.specs.Form.{raw_pairs, split}
 use Rattle.percent_encoding.specs.Percent.{percent_decode}
 use Rattle.ll_item.specs.Settings.{configuration_of}
-use Rattle.ll_publish.specs.Refusals.{ok_line, refusal_line}
+use Rattle.ll_publish.specs.Refusals.{at_line, ok_line, refusal_line}
 use Rattle.hex.specs.Hex.{encode_with}
-use Rattle.ll_wire.specs.Response.{first_lines, is_media_response, last_lines}
+use Rattle.ll_wire.specs.Response.{first_lines, is_media_response, last_lines, reason}
 use Rattle.ll_script.specs.Answers.{named_reply, sent_line, shut_line, text_reply}
 use Rattle.ll_script.specs.Worked.{WorkedAnswers, WorkedLines}
 
@@ -33,6 +33,12 @@ lines = record {
   too_late = refl;
   unknown = refl;
   with_bytes = refl;
+  asks = refl;
+  asks_unknown = refl;
+  asks_no_rendition = refl;
+  asks_no_name = refl;
+  asks_nothing = refl;
+  asks_with_bytes = refl;
   came = refl;
   zeros_in_front = refl;
   capital = refl;
@@ -47,10 +53,12 @@ lines = record {
 }
 
 pub answers : WorkedAnswers
-unfolding digits ok_line refusal_line named_reply text_reply sent_line shut_line encode_with first_lines last_lines is_media_response
+unfolding digits at_line ok_line refusal_line named_reply text_reply sent_line shut_line encode_with first_lines last_lines is_media_response reason
 answers = record {
   accepted = refl;
   refused = refl;
+  stands = refl;
+  ended = refl;
   late = refl;
   busy = refl;
   media = refl;

@@ -7,7 +7,7 @@ use Rattle.ll_item.specs.Channels.{channel_of_name}
 use Rattle.ll_directive.specs.Targets.{WantValue, want_in}
 use Rattle.ll_directive.specs.declared.fault.TargetFault.{TargetFault}
 use Rattle.ll_directive.specs.declared.fault.TargetFault.TheVariants as target
-use Rattle.ll_item.specs.Items.{item_in}
+use Rattle.ll_item.specs.Items.{item_in, named}
 use Rattle.ll_item.specs.Media.{media_limit}
 use Rattle.ll_item.specs.Settings.{Configuration, settings_in}
 use Rattle.ll_item.specs.declared.item.Item.{Item}
@@ -23,7 +23,7 @@ use Rattle.ll_publish.specs.declared.refusal.Refusal.TheVariants as refused
 use Rattle.ll_rendition.specs.declared.fault.PublishFault.TheVariants as rule
 use Rattle.ll_script.specs.Hex.{bytes_in_hex}
 use Rattle.ll_script.specs.declared.act.Act.{Act}
-use Rattle.ll_script.specs.declared.act.Act.TheVariants.{Declare, Offer, Refuse, Ask, Answer, Close, Clock, RefuseClock, Bytes, Drop}
+use Rattle.ll_script.specs.declared.act.Act.TheVariants.{Declare, Offer, At, Refuse, Ask, Answer, Close, Clock, RefuseClock, Bytes, Drop}
 use Rattle.ll_script.specs.declared.act.Acts.{Acts}
 use Rattle.ll_script.specs.declared.act.Acts.TheVariants as list
 
@@ -64,8 +64,18 @@ item_before (Some (item, word)) line = item_with (bytes_spelled word) item line
 abbrev pub without_bytes : List ℕ → List ℕ × List ℕ
 without_bytes line = item_before (told_bytes line) line
 
+abbrev pub at_by : ℕ → Result ℕ ItemFault → Act
+at_by place (Ok rendition) = At place rendition
+at_by place (Err fault) = Refuse (item_refusal fault)
+
+-- a question where the rendition of this name stands, in a channel of this place and these settings, if there is one
+abbrev pub at_in : Option (ℕ × Configuration) → List ℕ → Act
+at_in None rendition = Refuse refused.UnknownChannel
+at_in (Some channel) rendition = at_by channel.0 (named channel.1 rendition)
+
 abbrev pub offer_by : List Configuration → Line → Act
 offer_by channels (said.Item name line media) = offer_within (channel_of_name channels 0 name) (without_bytes line)
+offer_by channels (said.At name rendition) = at_in (channel_of_name channels 0 name) rendition
 offer_by channels said.Bad = Refuse refused.BadLine
 offer_by channels said.TooLong = Refuse refused.LineTooLong
 offer_by channels said.MediaTooLong = Refuse refused.MediaTooLong

@@ -1,22 +1,23 @@
 -- The definitions at worked lines: what each means, and how answers are spelled.
-use Rattle.std.specs.Prelude.{◌≡◌, ◌++◌, List, ℕ, [], ◌∷◌, Some, None, codes, true}
+use Rattle.std.specs.Prelude.{◌≡◌, ◌++◌, List, ℕ, [], ◌∷◌, Some, None, codes, Bool, true, false}
 use Rattle.ll_directive.specs.Targets.{WantValue, media_want}
 use Rattle.ll_directive.specs.declared.fault.TargetFault.TheVariants as target
 use Rattle.ll_directive.specs.declared.want.Awaited.{Awaited}
 use Rattle.ll_directive.specs.declared.want.Awaited.TheVariants as awaited
 use Rattle.ll_item.specs.Settings.{Configuration}
 use Rattle.ll_item.specs.declared.item.Item.TheVariants.{Init}
-use Rattle.ll_publish.specs.Refusals.{no_line, ok_line}
+use Rattle.ll_publish.specs.Refusals.{at_line, no_line, ok_line}
 use Rattle.ll_publish.specs.declared.refusal.Refusal.TheVariants as refused
 use Rattle.ll_rendition.specs.declared.fault.PublishFault.TheVariants as rule
 use Rattle.ll_script.specs.Answers.{clock_line, fault_line, reply_lines, sent_line, shut_line}
 use Rattle.ll_script.specs.Lines.{acts}
-use Rattle.ll_script.specs.declared.act.Act.TheVariants.{Offer, Refuse, Ask, Answer, Close, Clock, RefuseClock, Bytes, Drop}
+use Rattle.ll_script.specs.declared.act.Act.TheVariants.{Offer, At, Refuse, Ask, Answer, Close, Clock, RefuseClock, Bytes, Drop}
 use Rattle.ll_verdict.specs.declared.fault.ClockFault.TheVariants as clock
 use Rattle.ll_item.specs.declared.what.What.{What}
 use Rattle.ll_item.specs.declared.what.What.TheVariants as what
 use Rattle.ll_verdict.specs.declared.piece.Piece.{Piece}
 use Rattle.ll_verdict.specs.declared.reply.Reply.TheVariants as reply
+use Rattle.ll_verdict.specs.declared.standing.Standing.{Standing}
 use Rattle.ll_wire.specs.Response.{media_message}
 
 abbrev pub named : List ℕ → Configuration
@@ -37,6 +38,10 @@ media_of_two what = media_want (codes "two") (codes "hi") what
 -- media of these bytes
 abbrev pub piece : List ℕ → Piece
 piece bytes = record { bytes = bytes; number = 1; rendition = 0; what = what.Init 0 }
+
+-- a rendition that has two and a half seconds of parts, and has ended or not
+abbrev pub standing : Bool → Standing
+standing ended = record { count = 3; number = 12; index = 0; end_time = 2500001; time = 2501; ended = ended }
 
 -- what lines mean after the request 6
 pub record WorkedLines : Type 0 where
@@ -60,6 +65,12 @@ pub record WorkedLines : Type 0 where
   pub unknown : acts both (Some 6) (codes "pub three end hi") ≡ Some (Refuse refused.UnknownChannel ∷ [])
   -- two digits for each byte, in the place of their number
   pub with_bytes : acts both (Some 6) (codes "pub two init hi 6162") ≡ Some (Offer 1 (Init 0 (97 ∷ 98 ∷ [])) ∷ [])
+  pub asks : acts both (Some 6) (codes "pub two at hi") ≡ Some (At 1 0 ∷ [])
+  pub asks_unknown : acts both (Some 6) (codes "pub three at hi") ≡ Some (Refuse refused.UnknownChannel ∷ [])
+  pub asks_no_rendition : acts both (Some 6) (codes "pub two at lo") ≡ Some (Refuse (refused.Rule rule.NoRendition) ∷ [])
+  pub asks_no_name : acts both (Some 6) (codes "pub two at Lo") ≡ Some (Refuse refused.BadLine ∷ [])
+  pub asks_nothing : acts both (Some 6) (codes "pub two at") ≡ Some (Refuse refused.BadLine ∷ [])
+  pub asks_with_bytes : acts both (Some 6) (codes "pub two at hi 6162") ≡ Some (Refuse refused.BadLine ∷ [])
   pub came : acts both (Some 6) (codes "bytes 1 474554") ≡ Some (Bytes 1 (codes "GET") ∷ [])
   pub zeros_in_front : acts both (Some 6) (codes "bytes 01 0a") ≡ Some (Bytes 1 (10 ∷ []) ∷ [])
   pub capital : acts both (Some 6) (codes "bytes 1 0A") ≡ None
@@ -75,6 +86,8 @@ pub record WorkedLines : Type 0 where
 pub record WorkedAnswers : Type 0 where
   pub accepted : ok_line 12 ≡ codes "ok 12\n"
   pub refused : no_line (refused.Rule rule.TooLong) ≡ codes "no 4 TooLong\n"
+  pub stands : at_line (standing false) ≡ codes "at 3 12 0 2500001 2501\n"
+  pub ended : at_line (standing true) ≡ codes "at 3 12 0 2500001 2501 ended\n"
   pub late : clock_line clock.ClockRange ≡ codes "no 1 ClockRange\n"
   pub busy : reply_lines 7 reply.Busy ≡ codes "reply 7 503 Busy\n"
   pub media : reply_lines 7 (reply.Media (piece (1 ∷ 255 ∷ []))) ≡ codes "reply 7 200 2\n01ff\n"

@@ -10,7 +10,9 @@ pub enum Act {
     Declare(Settings),
     /// An item for a channel.
     Offer { place: usize, item: Item },
-    /// A publisher's line that names no item of a channel. No line of a script is `LineTooLong`: a publisher's line is as long as any other.
+    /// A publisher's question where a rendition of a channel stands, by its index. It is no event.
+    At { place: usize, rendition: usize },
+    /// A publisher's line that is neither an item for a channel nor a question where a rendition of one stands. No line of a script is `LineTooLong`: a publisher's line is as long as any other.
     Refuse(Refusal),
     /// A request, with its number, to a channel. Whether the channel has the rendition that is wanted isn't looked at.
     Ask { id: u64, place: usize, want: Want },

@@ -38,8 +38,8 @@ pub enum LineFault {
 }
 
 /// What a line without its end makes happen, where these channels are declared and the last request had this number: a new channel, an
-/// item, a request, the end of one, readings of the clock, bytes on a connection, or the end of one; a comment or an empty line,
-/// nothing. Where no memory is found for an item or a request, that is what happens: it is refused so. Memory is answered only for another
+/// item, a question where a rendition stands, a request, the end of one, readings of the clock, bytes on a connection, or the end of one; a
+/// comment or an empty line, nothing. Where no memory is found for an item or a request, that is what happens: it is refused so. Memory is answered only for another
 /// line that has its place.
 pub fn read_line(
     alloc: Global,
@@ -130,9 +130,23 @@ fn read_offer(alloc: Global, declared: &Channels, text: &[u8]) -> Result<Acts, L
 {
     match Line::of(text) {
         Line::Item(name, line, _) => read_announced(alloc, declared, name, line),
+        Line::At(name, rendition) => Ok(Acts::One(read_at(declared, name, rendition))),
         Line::Bad => Ok(Acts::One(Act::Refuse(Refusal::BadLine))),
         Line::TooLong => Ok(Acts::One(Act::Refuse(Refusal::LineTooLong))),
         Line::MediaTooLong => Ok(Acts::One(Act::Refuse(Refusal::MediaTooLong))),
+    }
+}
+
+/// Returns what the question makes happen where the rendition of this name stands, in the channel named `name`.
+fn read_at(declared: &Channels, name: &str, rendition: &str) -> Act
+    ensures { result ≡ spec.at_in (channel_of_name declared.now 0 name.now) rendition.now }
+{
+    let Some((place, settings)) = declared.find(name) else {
+        return Act::Refuse(Refusal::UnknownChannel);
+    };
+    match settings.named(rendition) {
+        Ok(rendition) => Act::At { place, rendition },
+        Err(fault) => Act::Refuse(Refusal::from(fault)),
     }
 }
 

@@ -6,7 +6,7 @@ use Rattle.ll_rooms.specs.declared.owner.Owner.TheVariants.{Get, Connection}
 use Rattle.ll_item.specs.Settings.{Configuration, IsWithin}
 use Rattle.ll_script.specs.Lines.{acts, starved}
 use Rattle.ll_script.specs.declared.act.Act.{Act}
-use Rattle.ll_script.specs.declared.act.Act.TheVariants.{Declare, Offer, Refuse, Ask, Answer, Close, Clock, RefuseClock, Bytes, Drop}
+use Rattle.ll_script.specs.declared.act.Act.TheVariants.{Declare, Offer, At, Refuse, Ask, Answer, Close, Clock, RefuseClock, Bytes, Drop}
 use Rattle.ll_verdict.specs.Events as event
 use Rattle.ll_verdict.proofs.ListLemmas.{Each, each-append, each-at}
 use Rattle.ll_connection.proofs.RoomsLaws.{bytes-keeps, end-keeps, reply-keeps}
@@ -63,6 +63,7 @@ closes-kept w owner k = events.close-keeps (Each IsKept) IsHeard one-kept w owne
 act-kept : (lucks : List Luck) (w : Script) (a : Act) → AreKept w.rooms → IsSound a → AreKept (act lucks w a).rooms
 act-kept lucks w (Declare settings) k s = declare-kept w.rooms settings k s
 act-kept lucks w (Offer place item) k s = events.offer-keeps (Each IsKept) IsHeard one-kept w.rooms place item s k
+act-kept lucks w (At place rendition) k s = k
 act-kept lucks w (Refuse reason) k s = k
 act-kept lucks w (Ask id place want) k s = events.ask-keeps (Each IsKept) IsHeard one-kept w.rooms (Get id) place want tt k
 act-kept lucks w (Answer id reason) k s = k

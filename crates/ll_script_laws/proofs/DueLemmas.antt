@@ -12,7 +12,7 @@ use Rattle.ll_rooms.specs.declared.owner.Owner.{Owner}
 use Rattle.ll_rooms.specs.declared.owner.Owner.TheVariants.{Get, Connection}
 use Rattle.ll_rooms.specs.declared.wait.Wait.{Wait}
 use Rattle.ll_script.specs.declared.act.Act.{Act}
-use Rattle.ll_script.specs.declared.act.Act.TheVariants.{Declare, Offer, Refuse, Ask, Answer, Close, Clock, RefuseClock, Bytes, Drop}
+use Rattle.ll_script.specs.declared.act.Act.TheVariants.{Declare, Offer, At, Refuse, Ask, Answer, Close, Clock, RefuseClock, Bytes, Drop}
 use Rattle.ll_verdict.specs.Events.{Collect, asks}
 use Rattle.ll_verdict.specs.Verdict.{Request, reply, reply_of, at_once, held}
 use Rattle.ll_verdict.specs.declared.reply.Reply.{Reply}
@@ -119,6 +119,7 @@ pub act-holds : (lucks : List Luck) (w : Script) (a : Act) → Holds w → Holds
 act-holds lucks w (Declare c) h = rooms-hold w (act lucks w (Declare c)) (rooms.declare c w.rooms) refl refl h (declare-open w.rooms c h.met.rooms) (λ m. refl)
 act-holds lucks w (Offer i item) h =
     rooms-hold w (act lucks w (Offer i item)) (rooms.offer i item w.rooms) refl refl h (offer-open w.rooms i item h.met.rooms) (λ m. ap (waiting_of m) (offer-same w.rooms i item))
+act-holds lucks w (At i r) h = record { met = h.met; quiet = h.quiet }
 act-holds lucks w (Refuse reason) h = record { met = h.met; quiet = h.quiet }
 act-holds lucks w (Ask id i want) h =
     rooms-hold w (act lucks w (Ask id i want)) (rooms.ask (Get id) i want w.rooms) refl refl h (ask-open w.rooms (Get id) i want h.met.rooms) (ask-same w.rooms id i want)

@@ -14,7 +14,7 @@ use Rattle.ll_verdict.specs.declared.fault.ClockFault.{ClockFault}
 use Rattle.ll_room.proofs.KeptLemmas.{short-filter}
 use Rattle.ll_script.specs.Lines.{acts, starved}
 use Rattle.ll_script.specs.declared.act.Act.{Act}
-use Rattle.ll_script.specs.declared.act.Act.TheVariants.{Declare, Offer, Refuse, Ask, Answer, Close, Clock, RefuseClock, Bytes, Drop}
+use Rattle.ll_script.specs.declared.act.Act.TheVariants.{Declare, Offer, At, Refuse, Ask, Answer, Close, Clock, RefuseClock, Bytes, Drop}
 use Rattle.ll_verdict.specs.Events as event
 use Rattle.ll_verdict.specs.Verdict.{reply_of}
 use Rattle.ll_verdict.specs.State.{state_of}
@@ -213,6 +213,7 @@ as-calm lot w (Offer place item) met s h =
     let v = act lot.requests w (Offer place item) in
     let m = due.act-holds lot.requests w (Offer place item) met in
     all-told lot.replies place v m (offer-calm w.rooms place item m.met.rooms h)
+as-calm lot w (At place rendition) met s h = h
 as-calm lot w (Refuse reason) met s h = h
 as-calm lot w (Ask id place want) met s h = events.ask-keeps (AreCalm none_there) IsSilent (silent-event none_there) w.rooms (Get id) place want tt h
 as-calm lot w (Answer id reason) met s h = h

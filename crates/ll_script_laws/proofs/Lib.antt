@@ -8,11 +8,14 @@ pub mod IdleLemmas
 pub mod ItemTexts
 pub mod LawProofs
 pub mod LeftLemmas
+pub mod LineLemmas
 pub mod OrderLemmas
 pub mod PartLemmas
 pub mod PieceLemmas
 pub mod ReplyLemmas
 pub mod ScriptLemmas
 pub mod ServeLemmas
+pub mod ShiftLemmas
+pub mod StandingLemmas
 pub mod TalkLaws
 pub mod TalkLemmas

@@ -1,5 +1,5 @@
 -- Two scripts of which one brings in one line what the other brings in two.
-use Rattle.std.proofs.Common.{◌≡◌, ℕ, ◌+◌, ◌≤◌, ◌⊎◌, inl, inr, List, [], ◌∷◌, ◌++◌, Bool, true, false, Option, Some, None, refl, ap, ap₂, sym, ◌∙◌, subst, append_assoc, arith, fold, length, nat_lt, slice_get, if◌then◌else◌}
+use Rattle.std.proofs.Common.{◌≡◌, ℕ, ◌+◌, ◌≤◌, List, [], ◌∷◌, ◌++◌, Bool, true, false, Option, Some, None, refl, ap, ap₂, sym, ◌∙◌, append_assoc, arith, fold, length, nat_lt, slice_get, option_map, if◌then◌else◌}
 use Rattle.std.proofs.lemmas.List.Sums.{fold-append}
 use Rattle.ll_connection.specs.Laws.{both}
 use Rattle.ll_connection.specs.Turn.{Turn, bytes}
@@ -12,7 +12,7 @@ use Rattle.ll_rooms.specs.declared.owner.Owner.TheVariants.{Get, Connection}
 use Rattle.ll_rooms.specs.declared.wait.Wait.{Wait}
 use Rattle.ll_script.specs.Lines.{acts, starved}
 use Rattle.ll_script.specs.declared.act.Act.{Act}
-use Rattle.ll_script.specs.declared.act.Act.TheVariants.{Declare, Offer, Refuse, Ask, Answer, Close, Clock, RefuseClock, Bytes, Drop}
+use Rattle.ll_script.specs.declared.act.Act.TheVariants.{Declare, Offer, At, Refuse, Ask, Answer, Close, Clock, RefuseClock, Bytes, Drop}
 use Rattle.ll_rooms.specs.World as rooms
 use Rattle.ll_rooms.specs.World.{all_settings, silent}
 use Rattle.ll_rooms.specs.declared.answer.ActAnswer as answer
@@ -20,6 +20,7 @@ use Rattle.ll_rooms.specs.declared.answer.ActAnswer.TheVariants as said
 use Rattle.ll_replay.specs.Stream.{come_to}
 use Rattle.ll_replay.specs.Script.{Ending, Lot, Marked, Script, act, acted, counted, done, done_as, heard, line, line_by, makes_due, passed_on, read_by, rest, so_many, start, next_reply, turned, unmarked, with_lots}
 use Rattle.ll_replay.proofs.ScriptLaws.{line-ended, line-means}
+use Rattle.ll_script_laws.proofs.ShiftLemmas.{later_by, lines-shifted, shifted}
 use Rattle.ll_script_laws.specs.Laws.{Brings}
 
 -- ---- what is answered is heard
@@ -30,6 +31,7 @@ IsQuiet w = w.rooms.answers ≡ []
 act-quiet : (lucks : List Luck) (w : Script) (a : Act) → IsQuiet w → IsQuiet (act lucks w a)
 act-quiet lucks w (Declare settings) q = refl
 act-quiet lucks w (Offer place item) q = refl
+act-quiet lucks w (At place rendition) q = q
 act-quiet lucks w (Refuse reason) q = q
 act-quiet lucks w (Ask id place want) q = refl
 act-quiet lucks w (Answer id reason) q = q
@@ -105,103 +107,6 @@ bytes-quiet n piece w q =
     ap (λ list. record t { answers = list })
     (sym (laws.bytes-keeps (λ v. v.answers ≡ []) (λ v o place want h. refl) (λ v o h. close-quiet v o h) [] n piece w.connections w.rooms q))
 
--- ---- the number of a line counts for its fault alone
-
-abbrev numbered : ℕ → Script → Script
-numbered m w = record w { lines = m }
-
-act-numbered : (m : ℕ) (lucks : List Luck) (w : Script) (a : Act) → act lucks (numbered m w) a ≡ numbered m (act lucks w a)
-act-numbered m lucks w (Declare settings) = refl
-act-numbered m lucks w (Offer place item) = refl
-act-numbered m lucks w (Refuse reason) = refl
-act-numbered m lucks w (Ask id place want) = refl
-act-numbered m lucks w (Answer id reason) = refl
-act-numbered m lucks w (Close id) = refl
-act-numbered m lucks w (Clock place ms) = refl
-act-numbered m lucks w RefuseClock = refl
-act-numbered m lucks w (Bytes n piece) = refl
-act-numbered m lucks w (Drop n) = refl
-
-passed_on-numbered : (m : ℕ) (lucks : List Luck) (w : Script) (a : answer.ActAnswer) → passed_on lucks (numbered m w) a ≡ numbered m (passed_on lucks w a)
-passed_on-numbered m lucks w (said.Accepted count) = refl
-passed_on-numbered m lucks w (said.Refused reason) = refl
-passed_on-numbered m lucks w (said.ClockRefused reason) = refl
-passed_on-numbered m lucks w (said.Replied (Get id) r) = refl
-passed_on-numbered m lucks w (said.Replied (Connection n) r) = refl
-passed_on-numbered m lucks w (said.Unavailable owner) = refl
-
-all-numbered : (m : ℕ) (lucks : List Luck) (w : Script) (answers : List answer.ActAnswer)
-    → fold (passed_on lucks) (numbered m w) answers ≡ numbered m (fold (passed_on lucks) w answers)
-all-numbered m lucks w [] = refl
-all-numbered m lucks w (a ∷ answers) =
-    ap (λ v. fold (passed_on lucks) v answers) (passed_on-numbered m lucks w a) ∙ all-numbered m lucks (passed_on lucks w a) answers
-
-next_reply-numbered : (m place : ℕ) (w : Script) (lucks : List Luck) → next_reply place (numbered m w) lucks ≡ numbered m (next_reply place w lucks)
-next_reply-numbered m place w lucks = let u = rooms.next_reply place w.rooms in all-numbered m lucks (heard w u) u.answers
-
-ticks-numbered : (m place : ℕ) (replies : List (List Luck)) (w : Script) → fold (next_reply place) (numbered m w) replies ≡ numbered m (fold (next_reply place) w replies)
-ticks-numbered m place [] w = refl
-ticks-numbered m place (lucks ∷ replies) w =
-    ap (λ v. fold (next_reply place) v replies) (next_reply-numbered m place w lucks) ∙ ticks-numbered m place replies (next_reply place w lucks)
-
-rest-numbered : (m : ℕ) (replies : List (List Luck)) (place : Option ℕ) (w : Script) → rest replies place (numbered m w) ≡ numbered m (rest replies place w)
-rest-numbered m replies None w = refl
-rest-numbered m replies (Some place) w = ticks-numbered m place (so_many (length w.rooms.waits) replies) w
-
-as-numbered : (m : ℕ) (lot : Lot) (w : Script) (a : Act) → done_as lot (numbered m w) a ≡ numbered m (done_as lot w a)
-as-numbered m lot w a =
-    ap (rest lot.replies (makes_due a)) (act-numbered m lot.requests w a) ∙ rest-numbered m lot.replies (makes_due a) (act lot.requests w a)
-
-done-numbered : (m : ℕ) (w : Script) (a : Lot × Act) → done (numbered m w) a ≡ numbered m (done w a)
-done-numbered m w a = as-numbered m a.0 w (if a.0.refused then starved a.1 else a.1)
-
-acted-numbered : (m : ℕ) (w : Script) (list : List (Lot × Act)) → fold done (numbered m w) list ≡ numbered m (fold done w list)
-acted-numbered m w [] = refl
-acted-numbered m w (a ∷ list) = ap (λ v. fold done v list) (done-numbered m w a) ∙ acted-numbered m (done w a) list
-
-abbrev HasEnded : Option Ending → Type 0
-HasEnded None = ⊥
-HasEnded (Some ending) = Unit
-
--- they wrote the same, and go on alike but for the numbers of their lines, or have both ended
-abbrev Alike : Script → Script → Type 0
-Alike w v = (v.text ≡ w.text) × (((m : ℕ) × (v ≡ numbered m w)) ⊎ (HasEnded w.ending × HasEnded v.ending))
-
-acted_by-alike : (lots : List Lot) (o : Option (List Act)) (m : ℕ) (w : Script) → Alike (acted lots (counted w) o) (acted lots (counted (numbered m w)) o)
-acted_by-alike lots None m w = (refl, inr (tt, tt))
-acted_by-alike lots (Some list) m w =
-    let all = with_lots lots list in
-    let same : fold done (counted (numbered m w)) all ≡ numbered (m + 1) (fold done (counted w) all) = acted-numbered (m + 1) (counted w) all in
-    (ap (λ (v : Script). v.text) same, inl (m + 1, same))
-
-read_by-alike : (long : Bool) (m : ℕ) (w : Script) (l : Marked) → Alike (read_by long w l) (read_by long (numbered m w) l)
-read_by-alike true m w l = (refl, inr (tt, tt))
-read_by-alike false m w l = acted_by-alike l.lots (acts (all_settings w.rooms) w.last_id l.text) m w
-
-line_by-alike : (o : Option Ending) (m : ℕ) (w : Script) (l : Marked) → Alike (line_by o w l) (line_by o (numbered m w) l)
-line_by-alike (Some e) m w l = (refl, inl (m, refl))
-line_by-alike None m w l = read_by-alike (nat_lt 65536 (length l.text)) m w l
-
-line-numbered : (m : ℕ) (w : Script) (l : Marked) → Alike (line w l) (line (numbered m w) l)
-unfolding line
-line-numbered m w l = line_by-alike w.ending m w l
-
-some_ending : (w : Script) (l : Marked) (o : Option Ending) → w.ending ≡ o → HasEnded o → line w l ≡ w
-some_ending w l None e some = absurd some
-some_ending w l (Some ending) e some = line-ended w l ending e
-
-line-alike : (w v : Script) (l : Marked) → Alike w v → Alike (line w l) (line v l)
-line-alike w v l a =
-    elim a.1 [
-      | inl same ↦ subst (λ u. Alike (line w l) (line u l)) (sym same.1) (line-numbered same.0 w l)
-      | inr ended ↦
-          subst (λ u. Alike u (line v l)) (sym (some_ending w l w.ending refl ended.0)) (subst (Alike w) (sym (some_ending v l v.ending refl ended.1)) a)
-    ]
-
-lines-alike : (ls : List Marked) (w v : Script) → Alike w v → Alike (fold line w ls) (fold line v ls)
-lines-alike [] w v a = a
-lines-alike (l ∷ ls) w v a = lines-alike ls (line w l) (line v l) (line-alike w v l a)
-
 -- ---- one line, and two
 
 module _ (n : ℕ) (a b first second whole : List ℕ) (is_first : Brings n a first) (is_second : Brings n b second) (is_whole : Brings n (a ++ b) whole)
@@ -221,35 +126,38 @@ module _ (n : ℕ) (a b first second whole : List ℕ) (is_first : Brings n a fi
       → line w (unmarked text) ≡ turned (counted w) (bytes [] n piece w.connections w.rooms)
   brings piece text is fits w goes_on = line-means w (unmarked text) (Some (Bytes n piece ∷ [])) goes_on fits (is (all_settings w.rooms) w.last_id)
 
-  two_turns : (w : Script) (t u : Turn) (m : ℕ)
-      → turned (counted (turned (counted w) t)) u ≡ numbered (w.lines + 1 + 1) (turned (counted w) (both t u))
-  two_turns w t u m =
+  same_end : (w : Script) → w.ending ≡ None → w.ending ≡ option_map (later_by 1) w.ending
+  same_end w goes_on = goes_on ∙ sym (ap (option_map (later_by 1)) goes_on)
+
+  two_turns : (w : Script) (t u : Turn) → w.ending ≡ None → turned (counted (turned (counted w) t)) u ≡ shifted 1 [] (turned (counted w) (both t u))
+  two_turns w t u goes_on =
       ap₂ (λ r text. record (turned (counted (turned (counted w) t)) u) { replies = r; text = text }) (plus w.replies t.replies u.replies) (append_assoc w.text t.text u.text)
+      ∙ ap (λ o. record (turned (counted w) (both t u)) { lines = w.lines + 1 + 1; ending = o }) (same_end w goes_on)
     where
       plus : (x y z : ℕ) → x + y + z ≡ x + (y + z)
       plus x y z = omega arith
 
-  going_on : (w : Script) → IsQuiet w → w.ending ≡ None → line (line w one) two ≡ numbered (w.lines + 1 + 1) (line w all_of)
+  going_on : (w : Script) → IsQuiet w → w.ending ≡ None → line (line w one) two ≡ shifted 1 [] (line w all_of)
   going_on w quiet goes_on =
       let t = bytes [] n a w.connections w.rooms in
       ap (λ v. line v two) (brings a first is_first fits_first w goes_on)
       ∙ brings b second is_second fits_second (turned (counted w) t) goes_on
       ∙ ap (λ r. turned (counted (turned (counted w) t)) (bytes [] n b t.connections r)) (bytes-quiet n a w quiet)
-      ∙ two_turns w t (bytes [] n b t.connections t.rooms) 0
-      ∙ ap (λ u. numbered (w.lines + 1 + 1) (turned (counted w) u)) (turns n w.connections w.rooms a b)
-      ∙ ap (numbered (w.lines + 1 + 1)) (sym (brings (a ++ b) whole is_whole fits_whole w goes_on))
+      ∙ two_turns w t (bytes [] n b t.connections t.rooms) goes_on
+      ∙ ap (λ u. shifted 1 [] (turned (counted w) u)) (turns n w.connections w.rooms a b)
+      ∙ ap (shifted 1 []) (sym (brings (a ++ b) whole is_whole fits_whole w goes_on))
 
-  by_ending : (w : Script) (o : Option Ending) → w.ending ≡ o → IsQuiet w → Alike (line w all_of) (line (line w one) two)
-  by_ending w None e quiet =
-      let same = going_on w quiet e in
-      (ap (λ (v : Script). v.text) same, inl (w.lines + 1 + 1, same))
-  by_ending w (Some ending) e quiet =
-      subst (λ u. Alike u (line (line w one) two)) (sym (line-ended w all_of ending e))
-      (subst (Alike w) (sym (ap (λ v. line v two) (line-ended w one ending e) ∙ line-ended w two ending e)) (refl, inl (w.lines, refl)))
+  by_ending : (w : Script) (later : List Marked) (o : Option Ending) → w.ending ≡ o → IsQuiet w
+      → (fold line (line w all_of) later).text ≡ (fold line (line (line w one) two) later).text
+  by_ending w later None e quiet =
+      sym (ap (λ (v : Script). v.text) (ap (λ v. fold line v later) (going_on w quiet e) ∙ lines-shifted 1 [] (line w all_of) later))
+  by_ending w later (Some ending) e quiet =
+      ap (λ v. (fold line v later).text)
+      (line-ended w all_of ending e ∙ sym (ap (λ v. line v two) (line-ended w one ending e) ∙ line-ended w two ending e))
 
   pub pieces_same : (before later : List Marked) → (come_to (before ++ all_of ∷ later)).text ≡ (come_to (before ++ one ∷ two ∷ later)).text
   pieces_same before later =
       let w = come_to before in
       ap (λ (v : Script). v.text) (fold-append line start before (all_of ∷ later))
-      ∙ sym ((lines-alike later (line w all_of) (line (line w one) two) (by_ending w w.ending refl (lines-quiet before start refl))).0)
+      ∙ by_ending w later w.ending refl (lines-quiet before start refl)
       ∙ sym (ap (λ (v : Script). v.text) (fold-append line start before (one ∷ two ∷ later)))

@@ -1,5 +1,5 @@
 -- Each act keeps what holds of the connections of a script, and so they hold after all its lines.
-use Rattle.std.proofs.Common.{◌≡◌, ℕ, List, [], ◌∷◌, ◌++◌, Option, refl, ap, ap₂, sym, ◌∙◌, subst, map, append-nil, arith}
+use Rattle.std.proofs.Common.{◌≡◌, ℕ, List, [], ◌∷◌, ◌++◌, Option, None, Some, refl, ap, ap₂, sym, ◌∙◌, subst, map, append-nil, arith}
 use Rattle.std.specs.Prelude.{flat_map}
 use Rattle.std.specs.List.{concat}
 use Rattle.std.proofs.lemmas.Grind.{flat_map-append}
@@ -8,12 +8,13 @@ use Rattle.ll_directive.specs.Targets.{WantValue}
 use Rattle.ll_rooms.specs.declared.owner.Owner.TheVariants.{Get}
 use Rattle.ll_script.specs.Lines.{starved}
 use Rattle.ll_script.specs.declared.act.Act.{Act}
-use Rattle.ll_script.specs.declared.act.Act.TheVariants.{Declare, Offer, Refuse, Ask, Answer, Close, Clock, RefuseClock, Bytes, Drop}
+use Rattle.ll_script.specs.declared.act.Act.TheVariants.{Declare, Offer, At, Refuse, Ask, Answer, Close, Clock, RefuseClock, Bytes, Drop}
 use Rattle.ll_session.proofs.PastLemmas.{is_talk}
 use Rattle.ll_session.specs.Past.{conversation, past}
+use Rattle.ll_verdict.specs.declared.standing.Standing.{Standing}
 use Rattle.ll_rooms.specs.World as rooms
 use Rattle.ll_rooms.specs.World.{World}
-use Rattle.ll_replay.specs.Script.{Ending, Script, act, heard, start, next_reply}
+use Rattle.ll_replay.specs.Script.{Ending, Script, act, heard, standing_text, start, next_reply}
 use Rattle.ll_script_laws.proofs.AskLemmas.{AreAsked, ask-asked, asked-closes, asked-stays}
 use Rattle.ll_script_laws.proofs.DueLemmas as due
 use Rattle.ll_script_laws.proofs.GrowLemmas.{Grows, declare-grows, grows-same}
@@ -21,7 +22,7 @@ use Rattle.ll_script_laws.proofs.PartLemmas.{said-sent, said-text}
 use Rattle.ll_script_laws.proofs.ScriptLemmas.{done-keeps, lines-keep}
 use Rattle.ll_script_laws.proofs.ServeLemmas.{ask-grows, close-grows, clock-grows, offer-grows}
 use Rattle.ll_script_laws.proofs.TalkLemmas.{Holds, HoldsSome, adds, bytes-holds, end-holds, heard-holds, nothing_more, says-holds, next_reply-holds}
-use Rattle.ll_script_laws.specs.Talks.{AnswersLaw, Late, Faulty, Refused, Said, TalksLaw, brought_by, sent_by}
+use Rattle.ll_script_laws.specs.Talks.{AnswersLaw, Late, Faulty, Refused, Said, Stands, TalksLaw, brought_by, sent_by}
 
 -- ---- acts
 
@@ -35,6 +36,13 @@ module _ (came : ℕ → List ℕ) (un : ℕ → List WantValue) (lucks : List L
   same_waits : (v : World) → v.waits ≡ w.rooms.waits → Grows w.rooms.channels v.channels → AreAsked un v.channels v.waits
   same_waits v same g = subst (AreAsked un v.channels) (sym same) (asked-stays un w.rooms.channels v.channels w.rooms.waits g h.asked)
 
+  -- where a rendition stands is told, if it was found
+  told : (o : Option Standing) (v : Script) → v.connections ≡ w.connections → v.rooms ≡ w.rooms → v.text ≡ w.text ++ standing_text o → Holds came un v
+  told None v same rooms text =
+      adds came un w v [] h same text (λ m. refl) (subst (λ (r : World). Grows w.rooms.channels r.channels) (sym rooms) (grows-same w.rooms.channels))
+      (subst (λ (r : World). AreAsked un r.channels r.waits) (sym rooms) h.asked)
+  told (Some s) v same rooms text = says-holds came un w v (Stands s) h same rooms text (λ m. refl)
+
   act-holds : (a : Act) → HoldsSome (after_act a came) (act lucks w a)
   act-holds (Declare c) =
       let v = rooms.declare c w.rooms in
@@ -44,6 +52,7 @@ module _ (came : ℕ → List ℕ) (un : ℕ → List WantValue) (lucks : List L
       let v = rooms.offer i item w.rooms in
       let g = offer-grows w.rooms.channels w.rooms i item (grows-same w.rooms.channels) in
       quiet (Offer i item) (heard w v) (λ m. refl) (heard-holds came un w v h g (same_waits v (due.offer-same w.rooms i item) g))
+  act-holds (At i r) = quiet (At i r) (act lucks w (At i r)) (λ m. refl) (told (rooms.standing i r w.rooms) (act lucks w (At i r)) refl refl refl)
   act-holds (Refuse reason) = quiet (Refuse reason) (act lucks w (Refuse reason)) (λ m. refl) (says-holds came un w (act lucks w (Refuse reason)) (Refused reason) h refl refl refl (λ m. refl))
   act-holds (Ask id i want) =
       let v = rooms.ask (Get id) i want w.rooms in
@@ -85,6 +94,7 @@ one_more list lucks w a h =
 brings_same : (n : ℕ) (a : Act) → brought_by n a ≡ brought_by n (starved a)
 brings_same n (Declare settings) = refl
 brings_same n (Offer place item) = refl
+brings_same n (At place rendition) = refl
 brings_same n (Refuse reason) = refl
 brings_same n (Ask id place want) = refl
 brings_same n (Answer id reason) = refl

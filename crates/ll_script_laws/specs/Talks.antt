@@ -5,7 +5,7 @@ use Rattle.ll_connection.specs.Met.{outs}
 use Rattle.ll_connection.specs.Turn.{session_of}
 use Rattle.ll_directive.specs.Targets.{WantValue}
 use Rattle.ll_directive.specs.declared.fault.TargetFault.{TargetFault}
-use Rattle.ll_publish.specs.Refusals.{no_line}
+use Rattle.ll_publish.specs.Refusals.{at_line, no_line}
 use Rattle.ll_publish.specs.declared.refusal.Refusal.{Refusal}
 use Rattle.ll_replay.specs.Script.{Marked, Script, line, longest_line, spelled, start}
 use Rattle.ll_replay.specs.Stream.{come_to}
@@ -14,6 +14,7 @@ use Rattle.ll_script.specs.Lines.{acts}
 use Rattle.ll_script.specs.declared.act.Act.{Act}
 use Rattle.ll_script.specs.declared.act.Act.TheVariants.{Bytes}
 use Rattle.ll_verdict.specs.declared.fault.ClockFault.TheVariants as refused
+use Rattle.ll_verdict.specs.declared.standing.Standing.{Standing}
 use Rattle.ll_session.specs.Past.{Call, Past, conversation, past}
 use Rattle.ll_session.specs.Requests.{Entry, requests}
 use Rattle.ll_session.specs.Talk.{SessionValue, fresh}
@@ -30,7 +31,9 @@ pub data Part : Type 0 where
   Shut : ℕ → Part
   -- what the rooms answer to anything else
   Said : rooms.ActAnswer → Part
-  -- a publisher's line is no item
+  -- where a rendition stands
+  Stands : Standing → Part
+  -- a publisher's line is refused before it comes to a channel
   Refused : Refusal → Part
   -- the target of a `get` line of this number wants nothing
   Faulty : ℕ → TargetFault → Part
@@ -41,6 +44,7 @@ abbrev pub part_text : Part → List ℕ
 part_text (Sent n bytes) = sent_line n bytes
 part_text (Shut n) = shut_line n
 part_text (Said a) = spelled a
+part_text (Stands s) = at_line s
 part_text (Refused reason) = no_line reason
 part_text (Faulty id fault) = fault_line id fault
 part_text Late = clock_line refused.ClockRange

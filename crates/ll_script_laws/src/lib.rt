@@ -5,6 +5,7 @@
 #![tactic(auto)]
 
 ghost use Rattle.ll_script_laws.specs.Laws.{AtOnceLaw, DueLaw, LaterLaw, LeastReadyLaw, NoneLeftLaw, OpenOrderLaw, PiecesLaw, PlayersLaw, PublishedLaw, VerdictLaw, WaitsLaw};
+ghost use Rattle.ll_script_laws.specs.Standing.{StandingLaw};
 ghost use Rattle.ll_script_laws.specs.Talks.{AnswersLaw, IdleLaw, TalksLaw};
 
 /// For every input of `ll_replay::run`, whatever memory is found for its lines, at each moment of each of its channels: the settings are
@@ -30,6 +31,13 @@ pub fn replies_law()
     ensures at_once { AtOnceLaw }
     ensures later { LaterLaw }
     ensures verdicts { VerdictLaw }
+{}
+
+/// A line that asks where a rendition stands is told it, by all items that the channel has accepted, and nothing else comes of it: with the line, a
+/// script comes to the same channels, the same waiting requests, connections and replies as without it, and writes the same but for the answer.
+/// What memory is found for the other lines is the same in both scripts.
+pub fn standing_law()
+    ensures { StandingLaw }
 {}
 
 /// Scripts that differ only in how the bytes of neighbouring `bytes` lines of one connection are cut give the same text: two such

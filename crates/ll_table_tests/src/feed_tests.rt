@@ -2,8 +2,8 @@ ghost use Rattle.std.specs.Prelude.{◌<◌};
 
 use crate::rows::{bytes, column, number};
 use ll_item::ItemFault;
-use ll_publish::{Feed, Line, Refusal, reply_text};
-use ll_verdict::PublishFault;
+use ll_publish::{Feed, Line, Refusal, Success, reply_text};
+use ll_verdict::{PublishFault, Standing};
 use std::alloc::{AllocError, Global};
 use std::test::Fail;
 
@@ -44,6 +44,7 @@ fn note_line(alloc: Global, line: Line<'_>, notes: &mut String) -> Result<(), Al
                 None => format!(in alloc; "{channel} {length} {text}; ")?,
             }
         }
+        Line::At(channel, rendition) => format!(in alloc; "at {channel} {rendition}; ")?,
         Line::Bad => String::from_str(alloc, "Bad; ")?,
         Line::TooLong => String::from_str(alloc, "TooLong; ")?,
         Line::MediaTooLong => String::from_str(alloc, "MediaTooLong; ")?,
@@ -100,6 +101,9 @@ cam part hi 1000000 f 3x␊x y␊ => cam 20 part hi 1000; x 1 y;
 cam part hi 1000000 f ␊x y␊ => cam 18 part hi 1000; x 1 y; 
 cam part hi 1 f 2 3␊x y␊ => cam 15 part hi 1 f ; x 1 y; 
 cam init hi a 3␊x y␊ => cam 11 init hi a 3; x 1 y; 
+cam at hi␊cam at hi\r␊ at x␊ => at cam hi; at cam hi; at  x; 
+cam at␊cam at ␊cam at hi lo␊cam att hi␊cam  at hi␊ => cam 2 at; at cam ; cam 8 at hi lo; cam 6 att hi; cam 6  at hi; 
+cam at hi 3␊abc␊ => cam 7 at hi 3; Bad; 
 cam end hi 3␊x y␊ => cam 8 end hi 3; x 1 y; 
 part hi 1 f 3␊x y␊ => part 8 hi 1 f 3; x 1 y; 
 cam part \u{ff} 1 f 3␊x y␊ => Bad; x 1 y; ";
@@ -187,7 +191,9 @@ pub(crate) const REPLIES: &str = "feed: reply
 too long a line => no 15 LineTooLong␊
 a bad line => no 13 BadLine␊
 too long a part => no 4 TooLong␊
-too many bytes => no 16 MediaTooLong␊";
+too many bytes => no 16 MediaTooLong␊
+place of 17 => at 17 61 2 123456789 1700000123457␊
+last place of 18446744073709551615 => at 18446744073709551615 61 2 123456789 1700000123457 ended␊";
 
 /// Each refusal's code and name, as a publisher reads them.
 const CODES: [(Refusal, &str); 18] = [
@@ -235,13 +241,31 @@ fn refusals_have_codes_and_names(rt: HostRuntime) -> Result<(), Fail> {
     Ok(())
 }
 
-fn reply(name: &str) -> Result<u64, Refusal> {
+fn reply(name: &str) -> Result<Success, Refusal> {
+    if let Some(count) = name.strip_prefix("place of ") {
+        return Ok(Success::Standing(standing(count, false)));
+    }
+    if let Some(count) = name.strip_prefix("last place of ") {
+        return Ok(Success::Standing(standing(count, true)));
+    }
     match name {
         "too long a line" => Err(Refusal::LineTooLong),
         "too many bytes" => Err(Refusal::MediaTooLong),
         "a bad line" => Err(Refusal::from(ItemFault::BadLine)),
         "too long a part" => Err(Refusal::from(PublishFault::TooLong)),
-        _ => Ok(name.parse::<u64>().unwrap_or(999)),
+        _ => Ok(Success::Accepted(name.parse::<u64>().unwrap_or(999))),
+    }
+}
+
+/// Returns a place in a channel of this many items.
+fn standing(count: &str, ended: bool) -> Standing {
+    Standing {
+        count: count.parse::<u64>().unwrap_or(999),
+        number: 61,
+        index: 2,
+        end_time: 123_456_789,
+        time: 1_700_000_123_457,
+        ended,
     }
 }
 

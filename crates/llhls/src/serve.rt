@@ -215,7 +215,7 @@ impl<
                 workers,
                 &self.watch,
                 &self.numbers,
-                &self.records,
+                &&self.records,
                 hub,
             ),
             Role::Publisher => serve_links(
@@ -226,7 +226,7 @@ impl<
                 workers,
                 &self.watch,
                 &self.numbers,
-                &self.records,
+                &&self.records,
                 hub,
             ),
         };
@@ -291,7 +291,9 @@ impl<
             let Err(HubFault::Room { channel, .. }) = hub.tick_from(self.rt, first, ms) else {
                 return;
             };
-            if again != Some(channel) && hub.rotate_to(self.rt, channel, &self.records).is_ok() {
+            if again != Some(channel)
+                && hub.rotate_to(self.rt, channel, &mut &self.records).is_ok()
+            {
                 again = Some(channel);
                 first = channel;
             } else {
@@ -303,7 +305,7 @@ impl<
     /// Hands out the record of each channel that has one.
     fn hand_out<L: Ledgers>(&self, hub: &Hub<L>) {
         for channel in 0..self.records.len() {
-            let _ = hub.rotate_to(self.rt, channel, &self.records);
+            let _ = hub.rotate_to(self.rt, channel, &mut &self.records);
         }
     }
 }

@@ -1,6 +1,5 @@
-use Rattle.std.proofs.Common.{◌∙◌, ap, Some, position}
+use Rattle.std.proofs.Common.{◌∙◌, ap, Some}
 use Rattle.ll_room.specs.RoomValue.{tickets}
-use Rattle.ll_locked.specs.Channel.{is_of}
 use Rattle.ll_locked.proofs.ParkedLemmas.{none-left, none-taken, one-left, one-taken}
 use Rattle.ll_locked.proofs.channel.take.Goals as goal
 

@@ -2,7 +2,7 @@
 use Rattle.std.proofs.Common.{Global, None, Some, Vec, ap, refl, subst, sym, ℕ, ◌∙◌}
 use Rattle.ll_publish.specs.Refusals.{no_line}
 use Rattle.ll_script.specs.Answers.{clock_line}
-use Rattle.ll_script.specs.declared.act.Act.TheVariants.{Declare, Refuse, Answer, Close, RefuseClock, Drop}
+use Rattle.ll_script.specs.declared.act.Act.TheVariants.{Declare, At, Refuse, Answer, Close, RefuseClock, Drop}
 use Rattle.ll_verdict.specs.declared.fault.ClockFault.TheVariants as late
 use Rattle.ll_replay.specs.Kept.{IsDone}
 use Rattle.ll_replay.specs.Script.{plain}
@@ -13,6 +13,11 @@ pub returns-in_ok-declared-in-Declare-clause-done : goal.returns-in_ok-declared-
 returns-in_ok-declared-in-Declare-clause-done c w k =
     subst (λ a. IsDone c.declare.new.self c.quiet.result a w) (sym c.in-Declare.is)
     (done-is c.declare.new.self c.quiet.result c.in_ok-declared-in-Declare.declared None (Declare c.in-Declare.settings) w plain c.quiet.ensures.answer c.quiet.ensures.due refl (c.in_ok-declared-in-Declare.ensures.says w k))
+
+pub returns-in_ok-told-in-At-clause-done : goal.returns-in_ok-told-in-At-clause-done
+returns-in_ok-told-in-At-clause-done c w k =
+    subst (λ a. IsDone c.args.self.now c.quiet-in-At.result a w) (sym c.in-At.is)
+    (done-is c.args.self.now c.quiet-in-At.result c.in_ok-told-in-At.told None (At c.in-At.place c.in-At.rendition) w plain c.quiet-in-At.ensures.answer c.quiet-in-At.ensures.due refl (c.in_ok-told-in-At.ensures w k))
 
 pub returns-in_ok-refused-in-Refuse-clause-done : goal.returns-in_ok-refused-in-Refuse-clause-done
 returns-in_ok-refused-in-Refuse-clause-done c w k =

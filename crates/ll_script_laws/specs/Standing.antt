@@ -1,0 +1,33 @@
+-- A question where a rendition stands: its answer, and that nothing else comes of it.
+use Rattle.std.specs.Prelude.{◌≡◌, ◌<◌, ℕ, ◌+◌, List, [], ◌∷◌, ◌++◌, Some, length, option_map, slice_get}
+use Rattle.ll_publish.specs.Refusals.{at_line}
+use Rattle.ll_replay.specs.Script.{Ending, BadLine, LineTooLong, Marked, Script}
+use Rattle.ll_replay.specs.Stream.{come_to}
+use Rattle.ll_rooms.specs.World.{Channel}
+use Rattle.ll_script.specs.declared.act.Act.TheVariants.{At}
+use Rattle.ll_script_laws.specs.Talks.{acts_in}
+use Rattle.ll_verdict.specs.Events.{items}
+use Rattle.ll_verdict.specs.Standing.{standing}
+
+-- the answer tells where a rendition of the channel at this place stands, after all items that the channel has accepted
+pub record IsTold (w : Script) (place rendition : ℕ) (answer : List ℕ) : Type 0 where
+  pub channel : Channel
+  pub there : slice_get w.rooms.channels place ≡ Some channel
+  pub has : rendition < length channel.settings.renditions
+  pub is : answer ≡ at_line (standing channel.settings (items channel.settings channel.events) rendition)
+
+abbrev pub one_later : Ending → Ending
+one_later (BadLine n) = BadLine (n + 1)
+one_later (LineTooLong n) = LineTooLong (n + 1)
+
+-- what a script comes to that has one line more, and writes this
+abbrev pub with_line : Script → List ℕ → Script
+with_line w text = record w { lines = w.lines + 1; text = text; ending = option_map one_later w.ending }
+
+-- A line asks where a rendition stands. With it, a script comes to what it comes to without it, but for the count of its lines: the channels with all
+-- their events, the requests that wait, the connections and the replies are the same, and so is the text but for the answer.
+abbrev pub StandingLaw : Type 0
+StandingLaw = (before later : List Marked) (l : Marked) (place rendition : ℕ) → acts_in (come_to before) l ≡ At place rendition ∷ []
+    → (answer : List ℕ) × (rest : List ℕ) × IsTold (come_to before) place rendition answer
+    × ((come_to (before ++ later)).text ≡ (come_to before).text ++ rest)
+    × (come_to (before ++ l ∷ later) ≡ with_line (come_to (before ++ later)) ((come_to before).text ++ (answer ++ rest)))
