@@ -8,7 +8,7 @@ take_program "$1"
 most=1000
 served=0
 refused=0
-RANDOM=1
+RANDOM=2
 
 heads=()
 while read -r _ _ hex; do
