@@ -1,12 +1,12 @@
 -- What the program's words ask it to do.
-use Rattle.std.specs.Prelude.{ℕ, ◌&&◌, List, [], ◌∷◌, Option, Some, None, Result, Ok, Err, bytes_eq, codes, option_and_then, if◌then◌else◌}
+use Rattle.std.specs.Prelude.{ℕ, ◌+◌, ◌-◌, ◌/◌, ◌^◌, ◌&&◌, Bool, true, false, max, min, nat_le, List, [], ◌∷◌, Option, Some, None, Result, Ok, Err, bytes_eq, codes, option_and_then, if◌then◌else◌}
 use Rattle.ll_attr.specs.Words.{after}
 use Rattle.ll_command.specs.declared.command.Command.{Command}
 use Rattle.ll_command.specs.declared.command.Command.TheVariants as command
 use Rattle.ll_command.specs.declared.fault.Fault.{Fault}
 use Rattle.ll_entry.specs.Replies.{count}
 use Rattle.ll_item.specs.Names.{is_name}
-use Rattle.ll_mp4.specs.declared.pace.Pace.{Pace}
+use Rattle.ll_command.specs.declared.plan.Plan.{Plan}
 use Rattle.ll_command.specs.declared.fault.Fault.TheVariants.{Usage}
 
 pub data Call : Type 0 where
@@ -25,7 +25,7 @@ pub data Call : Type 0 where
   -- serve the channels that a settings file tells
   Serve : List ℕ → Call
   -- publish at an address, in a channel and a rendition, what an encoder writes to standard input
-  Push : List ℕ → List ℕ → List ℕ → Pace → Call
+  Push : List ℕ → List ℕ → List ℕ → Plan → Call
 
 -- the command of this name that names no file
 abbrev pub alone : List ℕ → Result Call Fault
@@ -55,33 +55,59 @@ with_two name file other =
 abbrev pub setting : List ℕ → List ℕ → Option ℕ
 setting key word = option_and_then count.read (after key word)
 
-abbrev pub pace_by : Option ℕ → Option ℕ → Option Pace
-pace_by (Some part) (Some segment) = Some (record { part = part; segment = segment })
-pace_by (Some part) None = None
-pace_by None segment = None
+-- where nothing else is said a segment is at most half as long again as it is to be, and a part may be one
+abbrev pub usual_most : ℕ → ℕ → ℕ
+usual_most part segment = max part (min (segment + segment / 2) (2 ^ 64 - 1))
 
-abbrev pub push_by : List ℕ → List ℕ → List ℕ → Option Pace → Result Call Fault
-push_by address channel rendition (Some pace) = Ok (Push address channel rendition pace)
+-- whether the rendition is ended after the input, as the last words say
+abbrev pub ends_by : List (List ℕ) → Option Bool
+ends_by [] = Some false
+ends_by (word ∷ []) = if bytes_eq word (codes "end") then Some true else None
+ends_by (word ∷ other ∷ words) = None
+
+-- no segment is shorter than a part
+abbrev pub plan_by : ℕ → ℕ → ℕ → Option Bool → Option Plan
+plan_by part segment most None = None
+plan_by part segment most (Some ends) =
+    if nat_le part most then Some (record { lengths = record { part = part; segment = segment; most = most }; ends = ends }) else None
+
+abbrev pub plan_most : ℕ → ℕ → List ℕ → List (List ℕ) → Option ℕ → Option Plan
+plan_most part segment word words (Some most) = plan_by part segment most (ends_by words)
+plan_most part segment word words None = plan_by part segment (usual_most part segment) (ends_by (word ∷ words))
+
+-- with the words after these two numbers
+abbrev pub plan_with : ℕ → ℕ → List (List ℕ) → Option Plan
+plan_with part segment [] = plan_by part segment (usual_most part segment) (ends_by [])
+plan_with part segment (word ∷ words) = plan_most part segment word words (setting (codes "most=") word)
+
+abbrev pub plan_of : Option ℕ → Option ℕ → List (List ℕ) → Option Plan
+plan_of (Some part) (Some segment) words = plan_with part segment words
+plan_of (Some part) None words = None
+plan_of None segment words = None
+
+-- how an input is published, as words say: `part=` and `segment=`, then perhaps `most=`, then perhaps `end`
+abbrev pub plan : List ℕ → List ℕ → List (List ℕ) → Option Plan
+plan part segment words = plan_of (setting (codes "part=") part) (setting (codes "segment=") segment) words
+
+abbrev pub push_by : List ℕ → List ℕ → List ℕ → Option Plan → Result Call Fault
+push_by address channel rendition (Some plan) = Ok (Push address channel rendition plan)
 push_by address channel rendition None = Err Usage
 
 -- publishing at an address, where the channel and the rendition are names
-abbrev pub push : List ℕ → List ℕ → List ℕ → Option Pace → Result Call Fault
-push address channel rendition pace =
-    if is_name channel && is_name rendition then push_by address channel rendition pace else Err Usage
+abbrev pub push : List ℕ → List ℕ → List ℕ → Option Plan → Result Call Fault
+push address channel rendition plan =
+    if is_name channel && is_name rendition then push_by address channel rendition plan else Err Usage
 
--- the command of this name that names an address, a channel and a rendition, and how long parts and segments are
-abbrev pub with_five : List ℕ → List ℕ → List ℕ → List ℕ → List ℕ → List ℕ → Result Call Fault
-with_five name address channel rendition part segment =
-    if bytes_eq name (codes "push")
-    then push address channel rendition (pace_by (setting (codes "part=") part) (setting (codes "segment=") segment))
-    else Err Usage
+-- the command of this name that names an address, a channel and a rendition, and how an input is published there
+abbrev pub with_plan : List ℕ → List ℕ → List ℕ → List ℕ → Option Plan → Result Call Fault
+with_plan name address channel rendition plan = if bytes_eq name (codes "push") then push address channel rendition plan else Err Usage
 
 -- the first word names the program; words of no such form are wrong usage
 abbrev pub command_of : List (List ℕ) → Result Call Fault
 command_of (program ∷ name ∷ []) = alone name
 command_of (program ∷ name ∷ file ∷ []) = with_file name file
 command_of (program ∷ name ∷ file ∷ other ∷ []) = with_two name file other
-command_of (program ∷ name ∷ address ∷ channel ∷ rendition ∷ part ∷ segment ∷ []) = with_five name address channel rendition part segment
+command_of (program ∷ name ∷ address ∷ channel ∷ rendition ∷ part ∷ segment ∷ words) = with_plan name address channel rendition (plan part segment words)
 command_of other = Err Usage
 
 abbrev pub call_of : Command → Call
@@ -92,4 +118,4 @@ call_of (command.Upgrade chunks) = Upgrade chunks.now
 call_of (command.Summarize chunks) = Summarize chunks.now
 call_of (command.Explain chunks entry) = Explain chunks.now entry
 call_of (command.Serve settings) = Serve settings.now
-call_of (command.Push address channel rendition pace) = Push address.now channel.now rendition.now pace
+call_of (command.Push address channel rendition plan) = Push address.now channel.now rendition.now plan

@@ -1,13 +1,13 @@
 //! The commands that the program obeys.
-ghost use Rattle.std.specs.Prelude.{◌≡◌, MatchResult, Ok, Err, codes};
+ghost use Rattle.std.specs.Prelude.{◌≡◌, MatchResult, Ok, Err};
 ghost use Rattle.ll_command.specs.Commands as spec;
 ghost use Rattle.ll_command.specs.Commands.{call_of, command_of};
 
 use crate::fault::Fault;
-use ll_attr::{Text, after};
+use crate::plan::Plan;
+use ll_attr::Text;
 use ll_format::number;
 use ll_item::is_name;
-use ll_mp4::Pace;
 
 /// What the program was called to do.
 pub enum Command<'a> {
@@ -43,8 +43,8 @@ pub enum Command<'a> {
         channel: &'a Text,
         /// The name of one of its renditions.
         rendition: &'a Text,
-        /// How long parts and segments are.
-        pace: Pace,
+        /// How it is published.
+        plan: Plan,
     },
 }
 
@@ -57,26 +57,35 @@ impl<'a> Command<'a> {
             [_program, name] => Command::alone(name),
             [_program, name, file] => Command::with_file(name, file),
             [_program, name, file, other] => Command::with_two(name, file, other),
-            [_program, name, address, channel, rendition, part, segment] => {
-                Command::with_five(name, address, channel, rendition, part, segment)
+            [
+                _program,
+                name,
+                address,
+                channel,
+                rendition,
+                part,
+                segment,
+                words @ ..,
+            ] => {
+                let plan = Plan::of(part, segment, words);
+                Command::with_plan(name, address, channel, rendition, plan)
             }
             _ => Err(Fault::Usage),
         }
     }
 
-    /// The command of this name that names an address, a channel and a rendition, and how long parts and segments are.
-    fn with_five(
+    /// Returns the command of this `name` that names an address, a channel and a rendition, and how an input is published there.
+    fn with_plan(
         name: &Text,
         address: &'a Text,
         channel: &'a Text,
         rendition: &'a Text,
-        part: &Text,
-        segment: &Text,
+        plan: Option<Plan>,
     ) -> Result<Command<'a>, Fault>
-        ensures { MatchResult result (λ c. spec.with_five name.now address.now channel.now rendition.now part.now segment.now ≡ Ok (call_of c)) (λ f. spec.with_five name.now address.now channel.now rendition.now part.now segment.now ≡ Err f) }
+        ensures { MatchResult result (λ c. spec.with_plan name.now address.now channel.now rendition.now plan ≡ Ok (call_of c)) (λ f. spec.with_plan name.now address.now channel.now rendition.now plan ≡ Err f) }
     {
         if name.as_str() == "push" {
-            Command::push(address, channel, rendition, pace(part, segment))
+            Command::push(address, channel, rendition, plan)
         } else {
             Err(Fault::Usage)
         }
@@ -87,19 +96,19 @@ impl<'a> Command<'a> {
         address: &'a Text,
         channel: &'a Text,
         rendition: &'a Text,
-        pace: Option<Pace>,
+        plan: Option<Plan>,
     ) -> Result<Command<'a>, Fault>
-        ensures { MatchResult result (λ c. spec.push address.now channel.now rendition.now pace ≡ Ok (call_of c)) (λ f. spec.push address.now channel.now rendition.now pace ≡ Err f) }
+        ensures { MatchResult result (λ c. spec.push address.now channel.now rendition.now plan ≡ Ok (call_of c)) (λ f. spec.push address.now channel.now rendition.now plan ≡ Err f) }
     {
         if !is_name(channel.as_str()) || !is_name(rendition.as_str()) {
             return Err(Fault::Usage);
         }
-        match pace {
-            Some(pace) => Ok(Command::Push {
+        match plan {
+            Some(plan) => Ok(Command::Push {
                 address,
                 channel,
                 rendition,
-                pace,
+                plan,
             }),
             None => Err(Fault::Usage),
         }
@@ -154,20 +163,4 @@ impl<'a> Command<'a> {
             None => Err(Fault::Usage),
         }
     }
-}
-
-/// How long parts and segments are, as two words say.
-fn pace(part: &Text, segment: &Text) -> Option<Pace>
-    ensures { result ≡ spec.pace_by (spec.setting (codes "part=") part.now) (spec.setting (codes "segment=") segment.now) }
-{
-    let part = setting("part=", part.as_str())?;
-    let segment = setting("segment=", segment.as_str())?;
-    Some(Pace { part, segment })
-}
-
-/// The number that stands in a word after this key.
-fn setting(key: &str, word: &str) -> Option<u64>
-    ensures { result ≡ spec.setting key.now word.now }
-{
-    number(after(word, key)?, u64::MAX)
 }

@@ -12,7 +12,6 @@ pub mod MapLemmas
 pub mod MergeLemmas
 pub mod OwnSegmentProof
 pub mod PageLemmas
-pub mod PieceBounds
 pub mod PlaylistLemmas
 pub mod PushedProof
 pub mod RangeItems

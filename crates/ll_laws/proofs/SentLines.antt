@@ -18,7 +18,7 @@ use Rattle.ll_format.proofs.FormatLaws.{inside_both, lacks}
 use Rattle.ll_format.proofs.WordLaws.{lacks_from}
 use Rattle.ll_item.specs.Announced.{announced, announced_by, cut_by, has_bytes, lacks_length, split_last, told_by}
 use Rattle.ll_item.specs.Items.{flags_text}
-use Rattle.ll_item.specs.ItemLines.{counted_line, end_line, init_line, part_line}
+use Rattle.ll_item.specs.ItemLines.{break_line, counted_line, end_line, init_line, part_line}
 use Rattle.ll_item.specs.Media.{media_limit}
 use Rattle.ll_item.specs.Names.{is_name, is_name_byte}
 use Rattle.ll_item.proofs.LastWord.{cut-is, told-has, words-more}
@@ -162,6 +162,18 @@ end-bare name h =
     let is = words_back (codes "end") (name ∷ []) all in
     record {
       plain = plain-more 36 61 (codes "end " ++ name) (omega arith) (plain-both 4 32 (codes "end ") name (record { ascii = refl; one_line = refl; few = omega arith }) (plain-name name h));
+      none = ap (λ ws. announced_by (told_by (cut_by (split_last ws)))) is;
+      lacks_none = ap lacks_length is;
+      asks_none = refl;
+    }
+
+pub break-bare : (name : List ℕ) → is_name name ≡ true → IsBare (break_line name)
+unfolding break_line
+break-bare name h =
+    let all : AreWords (codes "break" ∷ name ∷ []) = also (record { spaceless = refl; one_line = refl }) (also (name-word name h) no_more) in
+    let is = words_back (codes "break") (name ∷ []) all in
+    record {
+      plain = plain-more 38 61 (codes "break " ++ name) (omega arith) (plain-both 6 32 (codes "break ") name (record { ascii = refl; one_line = refl; few = omega arith }) (plain-name name h));
       none = ap (λ ws. announced_by (told_by (cut_by (split_last ws)))) is;
       lacks_none = ap lacks_length is;
       asks_none = refl;

@@ -1,5 +1,5 @@
 -- What `llhls push` sends, as an origin reads it, and what an origin answers, as `llhls push` reads that.
-use Rattle.std.specs.Prelude.{◌≡◌, ℕ, ◌<◌, ◌≤◌, ◌^◌, Bool, true, false, All, List, [], ◌∷◌, ◌++◌, Option, Some, None, Result, Ok, Err, length, map}
+use Rattle.std.specs.Prelude.{⊤, ◌≡◌, ℕ, ◌<◌, ◌≤◌, ◌^◌, Bool, true, false, All, List, [], ◌∷◌, ◌++◌, Option, Some, None, Result, Ok, Err, length, map}
 use Rattle.std.specs.List.{concat}
 use Rattle.ll_item.specs.Channels.{channel_of_name}
 use Rattle.ll_item.specs.ItemLines.{name_of}
@@ -7,20 +7,19 @@ use Rattle.ll_item.specs.Items.{item_in}
 use Rattle.ll_item.specs.Media.{media_limit}
 use Rattle.ll_item.specs.Settings.{Configuration, limit_broken}
 use Rattle.ll_item.specs.declared.item.Item.{Item}
-use Rattle.ll_item.specs.declared.item.Item.TheVariants.{Part, Init, End}
+use Rattle.ll_item.specs.declared.item.Item.TheVariants.{Part, Init, Break, End}
 use Rattle.ll_item.specs.declared.item.ItemFault.{ItemFault}
-use Rattle.ll_mp4.specs.Pieces as mp4
-use Rattle.ll_mp4.specs.Pieces.{Piece}
-use Rattle.ll_mp4.specs.Streams.{told}
-use Rattle.ll_mp4.specs.declared.pace.Pace.{Pace}
+use Rattle.ll_mp4.specs.declared.fault.Fault.{Fault}
+use Rattle.ll_parts.specs.Stream.{Outcome}
+use Rattle.ll_parts.specs.declared.pieces.Piece.{Piece}
+use Rattle.ll_parts.specs.declared.pieces.Piece.TheVariants as piece
 use Rattle.ll_publish.specs.Line as says
 use Rattle.ll_publish.specs.Lines.{lines}
 use Rattle.ll_publish.specs.Refusals.{reply_line}
 use Rattle.ll_publish.specs.declared.refusal.Refusal.{Refusal}
 use Rattle.ll_publish.specs.declared.success.Success.TheVariants.{Accepted}
 use Rattle.ll_push.specs.Answers.{accepts, ended, refuses}
-use Rattle.ll_push.specs.Messages.{Names, piece_texts}
-use Rattle.ll_push.specs.Publishing.{messages}
+use Rattle.ll_push.specs.Messages.{Names, messages, texts}
 
 -- ---- items
 
@@ -28,15 +27,26 @@ use Rattle.ll_push.specs.Publishing.{messages}
 abbrev pub names_of : Configuration → ℕ → Names
 names_of c rendition = record { channel = c.channel; rendition = name_of c rendition }
 
--- the item of a piece
-abbrev pub item_of : ℕ → Piece → Item
-item_of rendition (mp4.Init bytes) = Init rendition bytes
-item_of rendition (mp4.Media part) =
-    Part (record { rendition = rendition; duration = part.duration; independent = part.independent; finish = part.finishes; media = part.bytes })
+-- what begins a movie: a break, where another one came before
+abbrev pub before_movie : ℕ → Bool → List Item
+before_movie rendition false = []
+before_movie rendition true = Break rendition None ∷ []
 
--- the items of some pieces, and then the rendition's end
-abbrev pub items_of : ℕ → List Piece → List Item
-items_of rendition pieces = map (item_of rendition) pieces ++ End rendition ∷ []
+-- the items of pieces; whether a movie came before them
+abbrev pub items_of : ℕ → Bool → List Piece → List Item
+items_of rendition begun [] = []
+items_of rendition begun (piece.Begin ∷ pieces) = before_movie rendition begun ++ items_of rendition true pieces
+items_of rendition begun (piece.Init section ∷ pieces) = Init rendition section ∷ items_of rendition begun pieces
+items_of rendition begun (piece.Media part ∷ pieces) =
+    Part (record { rendition = rendition; duration = part.duration; independent = part.independent; finish = part.finishes; media = part.bytes })
+    ∷ items_of rendition begun pieces
+items_of rendition begun (piece.Break time ∷ pieces) = Break rendition None ∷ items_of rendition begun pieces
+
+-- the rendition's end, where it is to be ended and no fault ends what comes
+abbrev pub last_items : ℕ → Option Fault → Bool → List Item
+last_items rendition (Some fault) ends = []
+last_items rendition None false = []
+last_items rendition None true = End rendition ∷ []
 
 -- the place of a channel, and what a text with these bytes says there
 abbrev pub read_by : Option (ℕ × Configuration) → (text media : List ℕ) → Option (ℕ × Result Item ItemFault)
@@ -64,22 +74,24 @@ pub record IsThere (channels : List Configuration) (place : ℕ) (c : Configurat
 
 -- a piece has no more bytes than an item may have, and a part's duration is below 2^64 microseconds
 abbrev pub IsSmall : Piece → Type 0
-IsSmall (mp4.Init bytes) = length bytes ≤ media_limit
-IsSmall (mp4.Media part) = (length part.bytes ≤ media_limit) × (part.duration < 2 ^ 64)
+IsSmall piece.Begin = ⊤
+IsSmall (piece.Init section) = length section ≤ media_limit
+IsSmall (piece.Media part) = (length part.bytes ≤ media_limit) × (part.duration < 2 ^ 64)
+IsSmall (piece.Break time) = ⊤
 
 -- What is sent for some pieces, one after another, is read as their items, with just their bytes; and then comes what the bytes after it say.
 abbrev pub PiecesLaw : Type 0
-PiecesLaw = (channels : List Configuration) (place : ℕ) (c : Configuration) (rendition : ℕ) (pieces : List Piece) (more : List ℕ)
+PiecesLaw = (channels : List Configuration) (place : ℕ) (c : Configuration) (rendition : ℕ) (begun : Bool) (pieces : List Piece) (more : List ℕ)
     → IsThere channels place c rendition → All IsSmall pieces
-    → map (read_in channels) (lines (concat (piece_texts (names_of c rendition) pieces) ++ more))
-    ≡ map (read_as place) (map (item_of rendition) pieces) ++ map (read_in channels) (lines more)
+    → map (read_in channels) (lines (concat (texts (names_of c rendition) begun pieces) ++ more))
+    ≡ map (read_as place) (items_of rendition begun pieces) ++ map (read_in channels) (lines more)
 
--- All that is sent of an encoder's bytes is read as the items of all their pieces, and then the end.
+-- All that is sent of an encoder's bytes is read as the items of all their pieces, and then the end where it is sent.
 abbrev pub PushedLaw : Type 0
-PushedLaw = (channels : List Configuration) (place : ℕ) (c : Configuration) (rendition : ℕ) (pace : Pace) (input : List ℕ)
-    → IsThere channels place c rendition → pace.part < 2 ^ 64
-    → map (read_in channels) (lines (concat (messages (names_of c rendition) (told pace input))))
-    ≡ map (read_as place) (items_of rendition (told pace input).pieces)
+PushedLaw = (channels : List Configuration) (place : ℕ) (c : Configuration) (rendition : ℕ) (ends : Bool) (outcome : Outcome)
+    → IsThere channels place c rendition → All IsSmall outcome.pieces
+    → map (read_in channels) (lines (concat (messages (names_of c rendition) ends false outcome)))
+    ≡ map (read_as place) (items_of rendition false outcome.pieces ++ last_items rendition outcome.fault ends)
 
 -- ---- answers
 

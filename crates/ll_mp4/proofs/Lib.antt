@@ -1,9 +1,8 @@
 mod BoxLemmas
-mod GivenLaws
-mod JudgeLemmas
-pub mod MoreLemmas
+pub mod LeftLemmas
 mod RunLemmas
-mod StepLemmas
+pub mod MoreLemmas
 pub mod StreamLaws
+mod TrackLemmas
 mod UnitLemmas
 mod WorkedExamples

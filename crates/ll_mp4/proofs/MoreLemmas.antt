@@ -14,7 +14,7 @@ use Rattle.ll_mp4.proofs.UnitLemmas.{unit_large, unit_last, unit_more, unit_none
 -- ---- headers
 
 -- a header that has come, or isn't one, stays so
-abbrev Same : Header → Header → Type 0
+abbrev pub Same : Header → Header → Type 0
 Same (Ok None) after = 0 ≤ 0
 Same (Ok (Some head)) after = after ≡ Ok (Some head)
 Same (Err fault) after = after ≡ Err fault
@@ -65,7 +65,7 @@ by-same size bytes more l = by_large (size == 1)
     by_large false =
         sized-same (big_number 4 (drop 4 bytes)) 8 size (big_number 4 (drop 4 (bytes ++ more))) size (number-same 4 4 bytes more (omega (arith, l))) refl
 
-header-same : (bytes more : List ℕ) → Same (header_of bytes) (header_of (bytes ++ more))
+pub header-same : (bytes more : List ℕ) → Same (header_of bytes) (header_of (bytes ++ more))
 header-same bytes more = by_length (nat_lt (length bytes) 8) refl
   where
     by_length : (b : Bool) → nat_lt (length bytes) 8 ≡ b → Same (header_of bytes) (header_of (bytes ++ more))

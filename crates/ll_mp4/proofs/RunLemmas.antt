@@ -3,10 +3,10 @@ use Rattle.std.proofs.Common.{◌≡◌, ℕ, suc, ◌+◌, ◌-◌, ◌*◌, �
 use Rattle.std.specs.Option.{unwrap_or}
 use Rattle.byteorder.specs.Endian.{big_number}
 use Rattle.ll_mp4.specs.Boxes.{Contents, Ended, Content, contents_in}
-use Rattle.ll_mp4.specs.Fragments as spec
-use Rattle.ll_mp4.specs.Fragments.{Run, and_run, durations, run_of, run_ticks, runs_of, tick_limit}
+use Rattle.ll_mp4.specs.Samples as spec
+use Rattle.ll_mp4.specs.Samples.{Run, and_run, durations, run_of, run_ticks, runs_of, tick_limit}
 use Rattle.ll_mp4.specs.Numbers.{◌>>=◌}
-use Rattle.ll_mp4.specs.Runs.{ended, first_so_far}
+use Rattle.ll_mp4.specs.Runs.{after_samples, first_so_far}
 use Rattle.ll_mp4.specs.declared.fault.Fault.{Fault}
 use Rattle.ll_mp4.specs.declared.kind.Kind.TheVariants.{Trun}
 use Rattle.ll_mp4.specs.declared.track.Track.{Track}
@@ -43,15 +43,15 @@ samples_done w n tick rest e l = ap (λ k. min (tick + durations w k rest) tick_
 
 -- no run more
 pub runs_done : (track : Track) (end : ℕ) (first : Option ℕ) (rest : List ℕ) → contents_in Trun rest ≡ Ended → end ≤ tick_limit
-    → ended end first (runs_of track (contents_in Trun rest)) ≡ Ok (record { end = end; flags = unwrap_or first track.flags })
+    → after_samples end first (runs_of track (contents_in Trun rest)) ≡ Ok (record { ticks = end; flags = unwrap_or first track.flags })
 runs_done track end first rest e l =
-    ap (λ contents. ended end first (runs_of track contents)) e ∙ ap (λ n. Ok (record { end = n; flags = unwrap_or first track.flags })) (omega (arith, l))
+    ap (λ contents. after_samples end first (runs_of track contents)) e ∙ ap (λ n. Ok (record { ticks = n; flags = unwrap_or first track.flags })) (omega (arith, l))
 
-pub runs_ended : (track : Track) (tick : ℕ) (first : Option ℕ) → ended tick first (runs_of track Ended) ≡ Ok (record { end = min (tick + 0) tick_limit; flags = unwrap_or first track.flags })
+pub runs_ended : (track : Track) (tick : ℕ) (first : Option ℕ) → after_samples tick first (runs_of track Ended) ≡ Ok (record { ticks = min (tick + 0) tick_limit; flags = unwrap_or first track.flags })
 runs_ended track tick first = refl
 
 pub runs_bad : (track : Track) (tick : ℕ) (first : Option ℕ) (trun : List ℕ) (later : Contents) (fault : Fault) → run_of trun ≡ Err fault
-    → ended tick first (runs_of track (Content trun later)) ≡ Err fault
+    → after_samples tick first (runs_of track (Content trun later)) ≡ Err fault
 runs_bad track tick first trun later fault e = rw e refl
 
 flags-more : (first : Option ℕ) (track : Track) (run : Run) (flags : ℕ)
@@ -63,15 +63,15 @@ flags-more None track run flags = by_count (run.count == 0)
     by_count true = refl
     by_count false = refl
 
-ended-more : (track : Track) (tick : ℕ) (first : Option ℕ) (run : Run) (later : Result spec.Fragment Fault)
-    → ended tick first (later >>= (λ rest. Ok (and_run track run rest)))
-    ≡ ended (min (tick + run_ticks track run) tick_limit) (first_so_far first track run) later
-ended-more track tick first run (Err fault) = refl
-ended-more track tick first run (Ok rest) =
-    ap₂ (λ e f. Ok (record { end = e; flags = f })) (stopped tick (run_ticks track run) rest.ticks tick_limit) (flags-more first track run rest.flags)
+samples-more : (track : Track) (tick : ℕ) (first : Option ℕ) (run : Run) (later : Result spec.Samples Fault)
+    → after_samples tick first (later >>= (λ rest. Ok (and_run track run rest)))
+    ≡ after_samples (min (tick + run_ticks track run) tick_limit) (first_so_far first track run) later
+samples-more track tick first run (Err fault) = refl
+samples-more track tick first run (Ok rest) =
+    ap₂ (λ e f. Ok (record { ticks = e; flags = f })) (stopped tick (run_ticks track run) rest.ticks tick_limit) (flags-more first track run rest.flags)
 
 -- one run more
 pub runs_more : (track : Track) (tick : ℕ) (first : Option ℕ) (trun : List ℕ) (later : Contents) (run : Run) → run_of trun ≡ Ok run
-    → ended tick first (runs_of track (Content trun later))
-    ≡ ended (min (tick + run_ticks track run) tick_limit) (first_so_far first track run) (runs_of track later)
-runs_more track tick first trun later run e = rw e (ended-more track tick first run (runs_of track later))
+    → after_samples tick first (runs_of track (Content trun later))
+    ≡ after_samples (min (tick + run_ticks track run) tick_limit) (first_so_far first track run) (runs_of track later)
+runs_more track tick first trun later run e = rw e (samples-more track tick first run (runs_of track later))

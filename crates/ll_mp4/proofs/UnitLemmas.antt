@@ -28,7 +28,7 @@ from-by before bytes (Ok (Some head)) = by_size (nat_lt (length bytes) head.size
     by_size true e = rw e refl
     by_size false e = rw e refl
 
-short : (bytes : List ℕ) → (length bytes == 0) ≡ true → header_of bytes ≡ Ok None
+pub short : (bytes : List ℕ) → (length bytes == 0) ≡ true → header_of bytes ≡ Ok None
 short bytes e = rw (lt-ltb (length bytes) 8 (grind (arith, nat_tests))) refl
 
 pub unit_front : (before : ℕ) (bytes : List ℕ) → unit_from before (boxes bytes) ≡ unit_by before bytes (header_of bytes)

@@ -98,13 +98,22 @@ contents kind (Box k size content later) = and_content (k == kind) content (cont
 abbrev pub contents_in : Kind → List ℕ → Contents
 contents_in kind bytes = contents (code kind) (boxes bytes)
 
-abbrev pub only_of : Kind → Contents → Result (List ℕ) Fault
-only_of kind Ended = Err (Missing kind)
-only_of kind Broken = Err BadBox
-only_of kind (Content content Ended) = Ok content
-only_of kind (Content content Broken) = Err BadBox
-only_of kind (Content content (Content other later)) = Err (Several kind)
+abbrev pub at_most_one_of : Kind → Contents → Result (Option (List ℕ)) Fault
+at_most_one_of kind Ended = Ok None
+at_most_one_of kind Broken = Err BadBox
+at_most_one_of kind (Content content Ended) = Ok (Some content)
+at_most_one_of kind (Content content Broken) = Err BadBox
+at_most_one_of kind (Content content (Content other later)) = Err (Several kind)
 
--- the content of the only box of a type; that there are several is told before what stands after the second of them
+-- the content of the box of a type, where there is one; that there are several is told before what stands after the second of them
+abbrev pub at_most_one : Kind → List ℕ → Result (Option (List ℕ)) Fault
+at_most_one kind bytes = at_most_one_of kind (contents_in kind bytes)
+
+abbrev pub only_of : Kind → Result (Option (List ℕ)) Fault → Result (List ℕ) Fault
+only_of kind (Ok None) = Err (Missing kind)
+only_of kind (Ok (Some content)) = Ok content
+only_of kind (Err fault) = Err fault
+
+-- the content of the only box of a type
 abbrev pub only : Kind → List ℕ → Result (List ℕ) Fault
-only kind bytes = only_of kind (contents_in kind bytes)
+only kind bytes = only_of kind (at_most_one kind bytes)

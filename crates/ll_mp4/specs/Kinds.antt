@@ -2,7 +2,7 @@
 use Rattle.std.specs.Prelude.{ℕ, List, codes}
 use Rattle.byteorder.specs.Endian.{big_number}
 use Rattle.ll_mp4.specs.declared.kind.Kind.{Kind}
-use Rattle.ll_mp4.specs.declared.kind.Kind.TheVariants.{Moov, Trak, Tkhd, Mdia, Mdhd, Mvex, Trex, Moof, Traf, Tfhd, Trun, Mdat}
+use Rattle.ll_mp4.specs.declared.kind.Kind.TheVariants.{Moov, Trak, Tkhd, Mdia, Mdhd, Mvex, Trex, Moof, Traf, Tfhd, Trun, Mdat, Hdlr, Tfdt, Sidx, Mfra, Prft, Emsg}
 
 abbrev pub name : Kind → List ℕ
 name Moov = codes "moov"
@@ -17,6 +17,12 @@ name Traf = codes "traf"
 name Tfhd = codes "tfhd"
 name Trun = codes "trun"
 name Mdat = codes "mdat"
+name Hdlr = codes "hdlr"
+name Tfdt = codes "tfdt"
+name Sidx = codes "sidx"
+name Mfra = codes "mfra"
+name Prft = codes "prft"
+name Emsg = codes "emsg"
 
 -- the name's four bytes as a number
 unfoldable pub code : Kind → ℕ

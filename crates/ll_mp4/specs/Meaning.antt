@@ -1,15 +1,16 @@
--- What is given out, as contracts see it.
-use Rattle.std.specs.Prelude.{Option, Some, None, Result, Ok, Err}
-use Rattle.ll_mp4.specs.Pieces as says
+-- What calls answer, as contracts see it.
+use Rattle.std.specs.Prelude.{◌≡◌, ◌⊎◌, ℕ, List, Option, Some, None, Result, Ok, Err}
+use Rattle.std.specs.Borrow.{Bor}
 use Rattle.ll_mp4.specs.declared.fault.Fault.{Fault}
-use Rattle.ll_mp4.specs.declared.pieces.Piece.{Piece}
-use Rattle.ll_mp4.specs.declared.pieces.Piece.TheVariants.{Init, Media}
+use Rattle.ll_mp4.specs.declared.fault.Fault.TheVariants.{Memory}
 
-abbrev pub meant : Piece → says.Piece
-meant (Init bytes) = says.Init bytes.now
-meant (Media part) = says.Media (record { bytes = part.bytes.now; duration = part.duration; independent = part.independent; finishes = part.finishes })
+-- the unit that was given
+abbrev pub given : Result (Option (Bor (List ℕ))) Fault → Result (Option (List ℕ)) Fault
+given (Ok None) = Ok None
+given (Ok (Some unit)) = Ok (Some unit.now)
+given (Err fault) = Err fault
 
-abbrev pub told : Result (Option Piece) Fault → Result (Option says.Piece) Fault
-told (Ok None) = Ok None
-told (Ok (Some piece)) = Ok (Some (meant piece))
-told (Err fault) = Err fault
+-- What is asked for is answered; but for want of memory, which is told only where what is asked for needs some, and so where there is no other fault.
+abbrev pub AnswersButForMemory : {A : Type 0} → Result A Fault → Type 0 → Result A Fault → Type 0
+AnswersButForMemory asked Needs (Ok x) = asked ≡ Ok x
+AnswersButForMemory asked Needs (Err fault) = (asked ≡ Err fault) ⊎ ((fault ≡ Memory) × Needs)

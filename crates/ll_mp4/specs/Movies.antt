@@ -1,11 +1,15 @@
--- The only track of a movie, the content of the `moov` box (ISO/IEC 14496-12, section 8.2.1).
-use Rattle.std.specs.Prelude.{ℕ, ◌/◌, ◌^◌, ◌==◌, Bool, true, false, List, if◌then◌else◌, Result, Ok, Err}
-use Rattle.ll_mp4.specs.Boxes.{only}
+-- The tracks of a movie, the content of the `moov` box (ISO/IEC 14496-12, section 8.2.1).
+use Rattle.std.specs.Prelude.{ℕ, ◌/◌, ◌^◌, ◌==◌, Bool, true, false, List, [], ◌∷◌, map, find, if◌then◌else◌, Option, unwrap_or, option_map, Result, Ok, Err}
+use Rattle.ll_mp4.specs.Boxes.{Contents, Ended, Broken, Content, contents_in, only}
 use Rattle.ll_mp4.specs.Numbers.{◌>>=◌, number_at}
 use Rattle.ll_mp4.specs.declared.fault.Fault.{Fault}
 use Rattle.ll_mp4.specs.declared.fault.Fault.TheVariants.{BadBox, Missing, NoTimeScale}
-use Rattle.ll_mp4.specs.declared.kind.Kind.TheVariants.{Trak, Tkhd, Mdia, Mdhd, Mvex, Trex}
+use Rattle.ll_mp4.specs.declared.kind.Kind.TheVariants.{Trak, Tkhd, Mdia, Mdhd, Hdlr, Mvex, Trex}
+use Rattle.ll_mp4.specs.declared.track.Listed.{Listed}
+use Rattle.ll_mp4.specs.declared.track.TimeScale.{TimeScale}
 use Rattle.ll_mp4.specs.declared.track.Track.{Track}
+
+-- ---- a track (section 8.3.1)
 
 -- where the field after the two times stands: these have 32 bits in version 0 and 64 bits in version 1
 abbrev pub after_times : ℕ → Result ℕ Fault
@@ -28,36 +32,93 @@ abbrev pub not_0 : ℕ → Result ℕ Fault
 not_0 scale = if scale == 0 then Err NoTimeScale else Ok scale
 
 -- the ticks of a second (section 8.4.2)
-abbrev pub scale_of : List ℕ → Result ℕ Fault
-scale_of trak = do
-  mdia ← only Mdia trak
+abbrev pub ticks_of : List ℕ → Result ℕ Fault
+ticks_of mdia = do
   mdhd ← only Mdhd mdia
   scale ← timed_field mdhd
   not_0 scale
 
-abbrev pub track_by : Bool → Track → Result Track Fault
-track_by true track = Ok track
-track_by false track = Err (Missing Trex)
+-- `vide`
+abbrev pub video : ℕ
+video = 0x76696465
 
--- the defaults of the fragments of a track with this ID and time scale (section 8.8.3)
-abbrev pub with_defaults : ℕ → ℕ → List ℕ → Result Track Fault
-with_defaults id scale trex = do
+-- whether the first of these handlers is one of pictures (section 8.4.3)
+abbrev pub has_pictures : Contents → Result Bool Fault
+has_pictures Ended = Ok false
+has_pictures Broken = Err BadBox
+has_pictures (Content hdlr later) = do
+  handler ← number_at 8 hdlr
+  Ok (handler == video)
+
+-- a track with its time scale, and whether it has pictures
+abbrev pub listed_of : List ℕ → Result Listed Fault
+listed_of trak = do
+  id ← id_of trak
+  mdia ← only Mdia trak
+  ticks ← ticks_of mdia
+  pictures ← has_pictures (contents_in Hdlr mdia)
+  Ok (record { scale = record { id = id; scale = ticks }; is_video = pictures })
+
+-- ---- all tracks, and the one that governs
+
+-- all tracks in order, or what is wrong with the first that is wrong
+abbrev pub listed_in : Contents → Result (List Listed) Fault
+listed_in Ended = Ok []
+listed_in Broken = Err BadBox
+listed_in (Content trak later) = do
+  track ← listed_of trak
+  tracks ← listed_in later
+  Ok (track ∷ tracks)
+
+abbrev pub is_video : Listed → Bool
+is_video track = track.is_video
+
+-- the first track with pictures governs, or else the first
+abbrev pub chosen_of : List Listed → Result Listed Fault
+chosen_of [] = Err (Missing Trak)
+chosen_of (track ∷ tracks) = Ok (unwrap_or (find is_video (track ∷ tracks)) track)
+
+abbrev pub this_or : Bool → List ℕ → Result (List ℕ) Fault → Result (List ℕ) Fault
+this_or true trex later = Ok trex
+this_or false trex later = later
+
+-- the first defaults for a track with this ID (section 8.8.3)
+abbrev pub trex_for : ℕ → Contents → Result (List ℕ) Fault
+trex_for id Ended = Err (Missing Trex)
+trex_for id Broken = Err BadBox
+trex_for id (Content trex later) = do
   of_track ← number_at 4 trex
+  this_or (of_track == id) trex (trex_for id later)
+
+-- a track with its defaults
+abbrev pub with_defaults : TimeScale → List ℕ → Result Track Fault
+with_defaults scale trex = do
   duration ← number_at 12 trex
   flags ← number_at 20 trex
-  track_by (of_track == id) (record { id = id; scale = scale; duration = duration; flags = flags })
+  Ok (record { id = scale.id; scale = scale.scale; duration = duration; flags = flags })
 
--- the same, with the defaults that the movie has for it
-abbrev pub defaults_of : ℕ → ℕ → List ℕ → Result Track Fault
-defaults_of id scale moov = do
+-- a track with the defaults that the movie has for it (section 8.8.1)
+abbrev pub defaults_in : List ℕ → TimeScale → Result Track Fault
+defaults_in moov scale = do
   mvex ← only Mvex moov
-  trex ← only Trex mvex
-  with_defaults id scale trex
+  trex ← trex_for scale.id (contents_in Trex mvex)
+  with_defaults scale trex
 
--- the track of a movie that has one, or the first of these that is wrong
-abbrev pub track_of : List ℕ → Result Track Fault
-track_of moov = do
-  trak ← only Trak moov
-  id ← id_of trak
-  scale ← scale_of trak
-  defaults_of id scale moov
+-- ---- a movie
+
+-- the time scales of all tracks, and the track that governs
+pub record MovieValue : Type 0 where
+  pub scales : List TimeScale
+  pub governing : Track
+
+-- the time scale of the first track with this ID
+abbrev pub scale_of : ℕ → List TimeScale → Option ℕ
+scale_of id scales = option_map (λ (t : TimeScale). t.scale) (find (λ (t : TimeScale). t.id == id) scales)
+
+-- a movie's tracks, or the first thing that is wrong
+abbrev pub movie_of : List ℕ → Result MovieValue Fault
+movie_of moov = do
+  tracks ← listed_in (contents_in Trak moov)
+  chosen ← chosen_of tracks
+  governing ← defaults_in moov chosen.scale
+  Ok (record { scales = map (λ (t : Listed). t.scale) tracks; governing = governing })

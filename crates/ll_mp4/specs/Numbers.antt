@@ -13,6 +13,10 @@ Ok x >>= f = f x
 abbrev pub number_at : ℕ → List ℕ → Result ℕ Fault
 number_at place bytes = if nat_lt (length bytes) (place + 4) then Err BadBox else Ok (big_number 4 (drop place bytes))
 
+-- the number of 64 bits at a place
+abbrev pub large_number_at : ℕ → List ℕ → Result ℕ Fault
+large_number_at place bytes = if nat_lt (length bytes) (place + 8) then Err BadBox else Ok (big_number 8 (drop place bytes))
+
 -- whether flags hold a flag
 abbrev pub has : ℕ → ℕ → Bool
 has flags flag = not (bit_and flags flag == 0)

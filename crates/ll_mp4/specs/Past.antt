@@ -1,32 +1,31 @@
 -- All that was done with a splitter, and what it came to.
 use Rattle.std.specs.Prelude.{ℕ, List, [], ◌∷◌, ◌++◌, Option, Some, None, Result, Ok, Err, fold}
 use Rattle.ll_mp4.specs.declared.fault.Fault.{Fault}
-use Rattle.ll_mp4.specs.Pieces.{Piece}
-use Rattle.ll_mp4.specs.Streams.{SplitterValue, fresh, front, with_bytes}
-use Rattle.ll_mp4.specs.declared.pace.Pace.{Pace}
+use Rattle.ll_mp4.specs.Lefts.{Left, at_front, fed}
+use Rattle.ll_mp4.specs.Streams.{front}
 
 -- a call that changes a splitter: `feed`, `next`. A `feed` that finds no memory changes nothing, and is left out
 pub data Call : Type 0 where
   Feed : List ℕ → Call
   Next : Call
 
--- the splitter, the bytes that it was fed, and the pieces that it gave
+-- what a splitter has left, the bytes that it was fed, and the units that it gave
 pub record Past : Type 0 where
-  pub splitter : SplitterValue
+  pub left : Left
   pub taken : List ℕ
-  pub given : List Piece
+  pub given : List (List ℕ)
 
-abbrev pub before_any : Pace → Past
-before_any pace = record { splitter = fresh pace; taken = []; given = [] }
+abbrev pub before_any : Past
+before_any = record { left = at_front []; taken = []; given = [] }
 
-abbrev pub and_piece : List Piece → Result (Option Piece) Fault → List Piece
-and_piece pieces (Ok None) = pieces
-and_piece pieces (Ok (Some piece)) = pieces ++ piece ∷ []
-and_piece pieces (Err fault) = pieces
+abbrev pub and_unit : List (List ℕ) → Result (Option (List ℕ)) Fault → List (List ℕ)
+and_unit units (Ok None) = units
+and_unit units (Ok (Some unit)) = units ++ unit ∷ []
+and_unit units (Err fault) = units
 
 abbrev pub called : Past → Call → Past
-called p (Feed bytes) = record p { splitter = with_bytes p.splitter bytes; taken = p.taken ++ bytes }
-called p Next = record p { splitter = (front p.splitter).1; given = and_piece p.given (front p.splitter).0 }
+called p (Feed bytes) = record p { left = fed p.left bytes; taken = p.taken ++ bytes }
+called p Next = record p { left = (front p.left).1; given = and_unit p.given (front p.left).0 }
 
-abbrev pub past : Pace → List Call → Past
-past pace calls = fold called (before_any pace) calls
+abbrev pub past : List Call → Past
+past calls = fold called before_any calls

@@ -1,11 +1,11 @@
--- Where fragments end, as contracts see it; the rest is for private contracts.
+-- For private contracts: what the runs of a fragment come to, one after another.
 use Rattle.std.specs.Prelude.{ℕ, ◌+◌, ◌==◌, if◌then◌else◌, Option, Some, None, Result, Ok, Err, min}
 use Rattle.std.specs.Option.{unwrap_or}
-use Rattle.ll_mp4.specs.Fragments as spec
-use Rattle.ll_mp4.specs.Fragments.{tick_limit}
+use Rattle.ll_mp4.specs.Samples as spec
+use Rattle.ll_mp4.specs.Samples.{tick_limit}
 use Rattle.ll_mp4.specs.declared.fault.Fault.{Fault}
-use Rattle.ll_mp4.specs.declared.fragments.Fragment.{Fragment}
-use Rattle.ll_mp4.specs.declared.fragments.Run.{Run}
+use Rattle.ll_mp4.specs.declared.runs.Run.{Run}
+use Rattle.ll_mp4.specs.declared.runs.Samples.{Samples}
 use Rattle.ll_mp4.specs.declared.track.Track.{Track}
 
 abbrev pub run_value : Run → spec.Run
@@ -16,7 +16,7 @@ abbrev pub first_so_far : Option ℕ → Track → spec.Run → Option ℕ
 first_so_far (Some first) track run = Some first
 first_so_far None track run = if run.count == 0 then None else Some (spec.first_of track run)
 
--- a fragment that begins at this tick, whose first sample has these flags where it has come before
-abbrev pub ended : ℕ → Option ℕ → Result spec.Fragment Fault → Result Fragment Fault
-ended from first (Err fault) = Err fault
-ended from first (Ok fragment) = Ok (record { end = min (from + fragment.ticks) tick_limit; flags = unwrap_or first fragment.flags })
+-- samples after others that have so many ticks, and of which the first has these flags where there is one
+abbrev pub after_samples : ℕ → Option ℕ → Result spec.Samples Fault → Result Samples Fault
+after_samples ticks first (Err fault) = Err fault
+after_samples ticks first (Ok later) = Ok (record { ticks = min (ticks + later.ticks) tick_limit; flags = unwrap_or first later.flags })

@@ -1,4 +1,4 @@
--- Where an initialization section or a part ends: a unit is the boxes up to the end of the first that is a `moov` or an `mdat`.
+-- Where a unit ends: it is the boxes up to the end of the first that is a `moov` or an `mdat`.
 use Rattle.std.specs.Prelude.{ℕ, ◌+◌, ◌==◌, ◌||◌, Bool, List, nat_lt, if◌then◌else◌, Option, Some, None, Result, Ok, Err}
 use Rattle.ll_mp4.specs.Kinds.{code}
 use Rattle.ll_mp4.specs.Boxes.{Header, Boxes, Done, Torn, Box, boxes}
@@ -6,11 +6,11 @@ use Rattle.ll_mp4.specs.declared.fault.Fault.{Fault}
 use Rattle.ll_mp4.specs.declared.fault.Fault.TheVariants.{TooLarge}
 use Rattle.ll_mp4.specs.declared.kind.Kind.TheVariants.{Moov, Mdat}
 
--- the most bytes of an initialization section or a part
+-- the most bytes of a unit
 abbrev pub size_limit : ℕ
 size_limit = 1048576
 
--- an initialization section ends with `moov`, and a part with `mdat`
+-- whether a box of this type ends a unit
 abbrev pub is_last : ℕ → Bool
 is_last kind = (kind == code Moov) || (kind == code Mdat)
 

@@ -1,37 +1,130 @@
--- The definitions at a worked example: a movie whose track has 3 ticks a second, and two parts of a tick each.
-use Rattle.std.specs.Prelude.{◌≡◌, ℕ, List, [], ◌∷◌, ◌++◌, true, false, Some, None}
-use Rattle.ll_mp4.specs.declared.fault.Fault.TheVariants.{BadBox, NoMoov, SecondMoov}
-use Rattle.ll_mp4.specs.Pieces.{Init, Media}
-use Rattle.ll_mp4.specs.Streams.{told}
-use Rattle.ll_mp4.specs.declared.pace.Pace.{Pace}
+-- The definitions at worked examples: a movie of sound and pictures, its fragments, and the units of a stream.
+use Rattle.std.specs.Prelude.{◌≡◌, ℕ, ◌+◌, ◌^◌, ◌-◌, List, [], ◌∷◌, ◌++◌, take, true, false, Option, Some, None, Ok, Err, codes, length, replicate}
+use Rattle.byteorder.specs.Endian.{big_bytes}
+use Rattle.ll_mp4.specs.Elements.{element_of}
+use Rattle.ll_mp4.specs.Kinds.{name}
+use Rattle.ll_mp4.specs.Movies.{MovieValue}
+use Rattle.ll_mp4.specs.Lefts.{at_front, fed}
+use Rattle.ll_mp4.specs.Streams.{end_fault, front, told}
+use Rattle.ll_mp4.specs.declared.element.Element.TheVariants.{Movie, Fragment, Beside}
+use Rattle.ll_mp4.specs.declared.fault.Fault.TheVariants.{BadBox, Cut, Missing, NoMoov, OtherTrack, Several}
+use Rattle.ll_mp4.specs.declared.kind.Kind.{Kind}
+use Rattle.ll_mp4.specs.declared.kind.Kind.TheVariants.{Moov, Trak, Tkhd, Mdia, Mdhd, Mvex, Trex, Moof, Traf, Tfhd, Trun, Mdat, Hdlr, Tfdt, Mfra}
+use Rattle.ll_mp4.specs.declared.timing.Moment.{Moment}
+use Rattle.ll_mp4.specs.declared.timing.Timing.{Timing}
 
--- parts of half a second at most, and segments of half a second
-abbrev pub pace : Pace
-pace = record { part = 500000; segment = 500000 }
+-- ---- boxes
 
--- `moov` with `trak` of `tkhd` and `mdia`, and `mvex` with `trex`
+-- a number of 32 bits
+abbrev pub word : ℕ → List ℕ
+word n = big_bytes 4 n
+
+abbrev pub box : Kind → List ℕ → List ℕ
+box kind content = word (length content + 8) ++ name kind ++ content
+
+-- ---- a movie
+
+-- a track with an ID, so many ticks a second and a type of media
+abbrev pub trak : ℕ → ℕ → List ℕ → List ℕ
+trak id scale media =
+    box Trak (box Tkhd (replicate 12 0 ++ word id) ++ box Mdia (box Mdhd (replicate 12 0 ++ word scale) ++ box Hdlr (replicate 8 0 ++ media)))
+
+-- sound and pictures; the defaults of pictures are samples of one tick and sync samples
 abbrev pub movie : List ℕ
-movie = 0 ∷ 0 ∷ 0 ∷ 112 ∷ 109 ∷ 111 ∷ 111 ∷ 118 ∷ 0 ∷ 0 ∷ 0 ∷ 64 ∷ 116 ∷ 114 ∷ 97 ∷ 107 ∷ 0 ∷ 0 ∷ 0 ∷ 24 ∷ 116 ∷ 107 ∷ 104 ∷ 100 ∷ 0 ∷ 0 ∷ 0 ∷ 0 ∷ 0 ∷ 0 ∷ 0 ∷ 0 ∷ 0 ∷ 0 ∷ 0 ∷ 0 ∷ 0 ∷ 0 ∷ 0 ∷ 7 ∷ 0 ∷ 0 ∷ 0 ∷ 32 ∷ 109 ∷ 100 ∷ 105 ∷ 97 ∷ 0 ∷ 0 ∷ 0 ∷ 24 ∷ 109 ∷ 100 ∷ 104 ∷ 100 ∷ 0 ∷ 0 ∷ 0 ∷ 0 ∷ 0 ∷ 0 ∷ 0 ∷ 0 ∷ 0 ∷ 0 ∷ 0 ∷ 0 ∷ 0 ∷ 0 ∷ 0 ∷ 3 ∷ 0 ∷ 0 ∷ 0 ∷ 40 ∷ 109 ∷ 118 ∷ 101 ∷ 120 ∷ 0 ∷ 0 ∷ 0 ∷ 32 ∷ 116 ∷ 114 ∷ 101 ∷ 120 ∷ 0 ∷ 0 ∷ 0 ∷ 0 ∷ 0 ∷ 0 ∷ 0 ∷ 7 ∷ 0 ∷ 0 ∷ 0 ∷ 1 ∷ 0 ∷ 0 ∷ 0 ∷ 1 ∷ 0 ∷ 0 ∷ 0 ∷ 0 ∷ 0 ∷ 0 ∷ 0 ∷ 0 ∷ []
+movie =
+    box Moov (trak 1 48000 (codes "soun") ++ trak 2 25 (codes "vide")
+    ++ box Mvex (box Trex (word 0 ++ word 2 ++ word 1 ++ word 1 ++ word 0 ++ word 0)))
 
--- `moof` with `traf` of `tfhd` and `trun`, and `mdat`: a sample with the defaults, which are a tick and a sync sample
-abbrev pub sync : List ℕ
-sync = 0 ∷ 0 ∷ 0 ∷ 48 ∷ 109 ∷ 111 ∷ 111 ∷ 102 ∷ 0 ∷ 0 ∷ 0 ∷ 40 ∷ 116 ∷ 114 ∷ 97 ∷ 102 ∷ 0 ∷ 0 ∷ 0 ∷ 16 ∷ 116 ∷ 102 ∷ 104 ∷ 100 ∷ 0 ∷ 0 ∷ 0 ∷ 0 ∷ 0 ∷ 0 ∷ 0 ∷ 7 ∷ 0 ∷ 0 ∷ 0 ∷ 16 ∷ 116 ∷ 114 ∷ 117 ∷ 110 ∷ 0 ∷ 0 ∷ 0 ∷ 0 ∷ 0 ∷ 0 ∷ 0 ∷ 1 ∷ 0 ∷ 0 ∷ 0 ∷ 8 ∷ 109 ∷ 100 ∷ 97 ∷ 116 ∷ []
+abbrev pub movie_value : MovieValue
+movie_value = record {
+  scales = record { id = 1; scale = 48000 } ∷ record { id = 2; scale = 25 } ∷ [];
+  governing = record { id = 2; scale = 25; duration = 1; flags = 0 };
+}
 
--- the same, of which the sample tells its duration, which is a tick, and the fragment has flags that say that it is no sync sample
-abbrev pub other : List ℕ
-other = 0 ∷ 0 ∷ 0 ∷ 56 ∷ 109 ∷ 111 ∷ 111 ∷ 102 ∷ 0 ∷ 0 ∷ 0 ∷ 48 ∷ 116 ∷ 114 ∷ 97 ∷ 102 ∷ 0 ∷ 0 ∷ 0 ∷ 20 ∷ 116 ∷ 102 ∷ 104 ∷ 100 ∷ 0 ∷ 0 ∷ 0 ∷ 32 ∷ 0 ∷ 0 ∷ 0 ∷ 7 ∷ 0 ∷ 1 ∷ 0 ∷ 0 ∷ 0 ∷ 0 ∷ 0 ∷ 20 ∷ 116 ∷ 114 ∷ 117 ∷ 110 ∷ 0 ∷ 0 ∷ 1 ∷ 0 ∷ 0 ∷ 0 ∷ 0 ∷ 1 ∷ 0 ∷ 0 ∷ 0 ∷ 1 ∷ 0 ∷ 0 ∷ 0 ∷ 8 ∷ 109 ∷ 100 ∷ 97 ∷ 116 ∷ []
+-- ---- fragments
+
+-- one of a track, with the default samples' number
+abbrev pub traf : ℕ → List ℕ → ℕ → List ℕ
+traf id tfdt samples = box Traf (box Tfhd (word 0 ++ word id) ++ tfdt ++ box Trun (word 0 ++ word samples))
+
+-- a decode time of 32 bits, and one of 64 bits
+abbrev pub short_time : ℕ → List ℕ
+short_time tick = box Tfdt (word 0 ++ word tick)
+
+abbrev pub long_time : ℕ → ℕ → List ℕ
+long_time high low = box Tfdt (word (2 ^ 24) ++ word high ++ word low)
+
+-- one of pictures whose header says that samples are no sync samples, and whose two samples tell their durations
+abbrev pub own_durations : List ℕ
+own_durations =
+    box Traf (box Tfhd (word 0x20 ++ word 2 ++ word 0x10000) ++ long_time 1 5 ++ box Trun (word 0x100 ++ word 2 ++ word 3 ++ word 4))
+
+abbrev pub fragment : List ℕ → List ℕ
+fragment trafs = box Moof trafs ++ box Mdat []
+
+abbrev pub both : List ℕ
+both = fragment (traf 1 (short_time 9) 7 ++ traf 2 (short_time 6) 3)
+
+abbrev pub sound : List ℕ
+sound = fragment (traf 1 (short_time 9) 7)
+
+-- ---- what they tell
+
+abbrev pub timed : Option ℕ → ℕ → Timing
+timed time ticks = record { time = time; ticks = ticks; sync = true }
+
+-- one of sound
+abbrev pub moment : ℕ → Moment
+moment time = record { time = time; scale = 48000 }
+
+pub record WorkedElements : Type 0 where
+  pub a_movie : element_of None movie ≡ Ok (Movie movie_value)
+  pub another_movie : element_of (Some movie_value) movie ≡ Ok (Movie movie_value)
+  pub of_both : element_of (Some movie_value) both ≡ Ok (Fragment (timed (Some 6) 3))
+  pub of_sound : element_of (Some movie_value) sound ≡ Ok (Beside (Some (moment 9)))
+  pub no_time : element_of (Some movie_value) (fragment (traf 2 [] 3)) ≡ Ok (Fragment (timed None 3))
+  pub own :
+      element_of (Some movie_value) (fragment own_durations)
+      ≡ Ok (Fragment (record { time = Some (2 ^ 32 + 5); ticks = 7; sync = false }))
+  pub of_later_sound : element_of (Some movie_value) (fragment (traf 1 [] 7 ++ traf 1 (short_time 8) 7)) ≡ Ok (Beside (Some (moment 8)))
+  -- a decode time in a box of version 2
+  pub of_sound_later : element_of (Some movie_value) (fragment (traf 1 (box Tfdt (word (2 ^ 25) ++ word 7)) 7 ++ traf 1 (short_time 8) 7)) ≡ Ok (Beside (Some (moment 8)))
+  pub untimed_sound : element_of (Some movie_value) (fragment (traf 1 [] 7)) ≡ Ok (Beside None)
+  pub alone : element_of (Some movie_value) (box Mdat []) ≡ Ok (Beside None)
+  pub no_movie : element_of None both ≡ Err NoMoov
+  pub before_first : element_of None (box Moof [] ++ movie) ≡ Err NoMoov
+  pub before_second : element_of (Some movie_value) (box Moof [] ++ movie) ≡ Err (Missing Mdat)
+  pub unknown : element_of (Some movie_value) (fragment (traf 3 [] 1 ++ traf 2 [] 1)) ≡ Err OtherTrack
+  pub twice : element_of (Some movie_value) (fragment (traf 2 [] 1 ++ traf 2 [] 1)) ≡ Err (Several Traf)
+  pub no_track : element_of (Some movie_value) (fragment []) ≡ Err (Missing Traf)
+
+-- ---- an index
+
+-- the header of an `mfra` box of 64-bit size
+abbrev pub large_index : ℕ → List ℕ
+large_index size = word 1 ++ name Mfra ++ big_bytes 8 size
+
+pub record WorkedIndex : Type 0 where
+  -- between two movies, and several at the front
+  pub between :
+      told (at_front (box Mfra [] ++ movie ++ box Mfra (word 5) ++ box Mfra [] ++ movie ++ box Mfra []))
+      ≡ record { units = movie ∷ movie ∷ []; fault = None }
+  -- that came in two halves
+  pub first_half : front (at_front (movie ++ take 10 (box Mfra (word 5)))) ≡ (Ok (Some movie), at_front (take 10 (box Mfra (word 5))))
+  pub dropped_half : front (at_front (take 10 (box Mfra (word 5)))) ≡ (Ok None, record { skip = 2; unread = [] })
+  pub second_half : front (fed (record { skip = 2; unread = [] }) (0 ∷ 5 ∷ movie)) ≡ (Ok (Some movie), at_front [])
+  -- of 2^40 bytes, of which few came
+  pub large : front (at_front (large_index (2 ^ 40) ++ codes "few")) ≡ (Ok None, record { skip = 2 ^ 40 - 19; unread = [] })
+  pub large_on : front (fed (record { skip = 2 ^ 40; unread = [] }) (codes "more")) ≡ (Ok None, record { skip = 2 ^ 40 - 4; unread = [] })
+  -- torn where the input ends
+  pub torn : told (at_front (movie ++ take 10 (box Mfra (word 5)))) ≡ record { units = movie ∷ []; fault = Some Cut }
+  -- amid a unit
+  pub amid : told (at_front (box Moof [] ++ box Mfra [] ++ box Mdat [])) ≡ record { units = (box Moof [] ++ box Mfra [] ++ box Mdat []) ∷ []; fault = None }
 
 pub record WorkedStream : Type 0 where
-  -- the parts end at a third and at two thirds of a second
-  pub two :
-      told pace (movie ++ sync ++ other)
-      ≡ record {
-        pieces =
-            Init movie ∷ Media (record { bytes = sync; duration = 333333; independent = true; finishes = false })
-            ∷ Media (record { bytes = other; duration = 333333; independent = false; finishes = true }) ∷ [];
-        fault = None;
-      }
-  pub no_movie : told pace sync ≡ record { pieces = []; fault = Some NoMoov }
-  pub two_movies : told pace (movie ++ movie) ≡ record { pieces = Init movie ∷ []; fault = Some SecondMoov }
+  pub elements : WorkedElements
+  pub whole : told (at_front (movie ++ both ++ box Mdat [])) ≡ record { units = movie ∷ both ∷ box Mdat [] ∷ []; fault = None }
   -- a size of 0
-  pub no_box : told pace (movie ++ (0 ∷ 0 ∷ 0 ∷ 0 ∷ 102 ∷ 114 ∷ 101 ∷ 101 ∷ [])) ≡ record { pieces = Init movie ∷ []; fault = Some BadBox }
+  pub no_box : told (at_front (both ++ word 0 ++ codes "free")) ≡ record { units = both ∷ []; fault = Some BadBox }
+  pub not_whole : end_fault (at_front (box Moof [])) ≡ Some (Missing Mdat)
+  pub index : WorkedIndex

@@ -1,5 +1,5 @@
 //! Boxes (section 4.2).
-ghost use Rattle.std.specs.Prelude.{◌≡◌, ◌<◌, ◌≤◌, IfErr, IfOk, IfSome, MatchResult, Ok, Err, length};
+ghost use Rattle.std.specs.Prelude.{◌≡◌, ◌<◌, ◌≤◌, IfErr, IfOk, IfSome, MatchResult, Ok, Err, length, option_map};
 ghost use Rattle.ll_mp4.specs.Boxes as spec;
 ghost use Rattle.ll_mp4.specs.Boxes.{contents_in, front_of, header_of};
 ghost use Rattle.ll_mp4.specs.Found.{found, from_next, inner};
@@ -27,7 +27,7 @@ pub(crate) struct Found<'a> {
     pub(crate) rest: &'a [u8],
 }
 
-/// The header at the front of some bytes; none where bytes of it are missing.
+/// Reads the header at the front of some bytes; none where bytes of it are missing.
 pub fn read_head(bytes: &[u8]) -> Result<Option<Head>, Fault>
     ensures told { result ≡ header_of bytes.now }
     ensures least { IfOk result (λ head. IfSome head (λ h. 8 ≤ h.size)) }
@@ -47,7 +47,7 @@ pub fn read_head(bytes: &[u8]) -> Result<Option<Head>, Fault>
     sized(kind, 16, BigEndian::read_u64(&bytes[8..]))
 }
 
-/// A box is no smaller than its header.
+/// Returns the header of a box, which is no smaller than its header.
 fn sized(kind: u32, len: usize, size: u64) -> Result<Option<Head>, Fault>
     ensures told { result ≡ spec.sized kind len size }
     ensures least { IfOk result (λ head. IfSome head (λ h. len ≤ h.size)) }
@@ -59,7 +59,7 @@ fn sized(kind: u32, len: usize, size: u64) -> Result<Option<Head>, Fault>
     Ok(Some(Head { kind, len, size }))
 }
 
-/// The box at the front of bytes that hold boxes alone; none where there are no bytes.
+/// Reads the box at the front of bytes that hold boxes alone; none where there are no bytes.
 pub(crate) fn read_front(bytes: &[u8]) -> Result<Option<Found<'_>>, Fault>
     ensures told { found result ≡ inner (front_of bytes.now) }
     ensures fault { IfErr result (λ fault. fault ≡ Fault.BadBox) }
@@ -83,7 +83,7 @@ pub(crate) fn read_front(bytes: &[u8]) -> Result<Option<Found<'_>>, Fault>
     }))
 }
 
-/// The content of the first box of a type, and what stands after that box.
+/// Finds the first box of a type: returns its content, and what stands after it.
 #[tactic(auto, using(crate::proofs::BoxLemmas::contents_front))]
 pub fn next_of(kind: Kind, bytes: &[u8]) -> Result<Option<(&[u8], &[u8])>, Fault>
     ensures told { contents_in kind bytes.now ≡ from_next kind result }
@@ -101,15 +101,26 @@ pub fn next_of(kind: Kind, bytes: &[u8]) -> Result<Option<(&[u8], &[u8])>, Fault
     Ok(None)
 }
 
-/// The content of the only box of a type.
+/// Finds the box of a type, of which there may be one at most, and returns its content.
+pub fn at_most_one(kind: Kind, bytes: &[u8]) -> Result<Option<&[u8]>, Fault>
+    ensures { MatchResult result (λ content. spec.at_most_one kind bytes.now ≡ Ok (option_map (λ c. c.now) content))
+        (λ fault. spec.at_most_one kind bytes.now ≡ Err fault) }
+{
+    let Some((content, rest)) = next_of(kind, bytes)? else {
+        return Ok(None);
+    };
+    match next_of(kind, rest)? {
+        None => Ok(Some(content)),
+        Some(_) => Err(Fault::Several(kind)),
+    }
+}
+
+/// Finds the only box of a type, and returns its content.
 pub fn only(kind: Kind, bytes: &[u8]) -> Result<&[u8], Fault>
     ensures { MatchResult result (λ content. spec.only kind bytes.now ≡ Ok content.now) (λ fault. spec.only kind bytes.now ≡ Err fault) }
 {
-    let Some((content, rest)) = next_of(kind, bytes)? else {
-        return Err(Fault::Missing(kind));
-    };
-    match next_of(kind, rest)? {
-        None => Ok(content),
-        Some(_) => Err(Fault::Several(kind)),
+    match at_most_one(kind, bytes)? {
+        Some(content) => Ok(content),
+        None => Err(Fault::Missing(kind)),
     }
 }

@@ -9,30 +9,27 @@ pub enum Fault {
     /// that is too short for its fields.
     #[error("a box that isn't one")]
     BadBox,
-    /// A part or an initialization section of more than 1,048,576 bytes.
+    /// A unit, which is an initialization section or a fragment, of more than 1,048,576 bytes.
     #[error("a part or an initialization section of more than 1,048,576 bytes")]
     TooLarge,
     /// A fragment, or samples, before the movie.
     #[error("a fragment before the moov box")]
     NoMoov,
-    /// A second movie, whether or not it is the same as the first.
-    #[error("a second moov box")]
-    SecondMoov,
-    /// Where one box of this type has to stand, none does: a movie without a track or its defaults, samples without a fragment before them, or, where
-    /// the input ends, a fragment without samples after it.
+    /// Where one box of this type has to stand, none does: a movie without a track or its defaults, a fragment without a track's, or, before a
+    /// movie or where the input ends, a fragment without samples after it.
     #[error("no {0} box")]
     Missing(Kind),
-    /// Where one box of this type may stand, several do: a movie with several tracks, or two fragments without samples between them.
+    /// Where one box of this type may stand, several do: two fragments without samples between them, or a fragment with two of the governing track.
     #[error("several {0} boxes")]
     Several(Kind),
-    /// The track's time scale is 0.
+    /// A track's time scale is 0.
     #[error("a time scale of 0")]
     NoTimeScale,
-    /// A fragment of another track than the movie's.
+    /// A fragment of a track that the movie doesn't have.
     #[error("a fragment of another track")]
     OtherTrack,
-    /// A fragment that is longer than a part may be, or that ends past what can be counted.
-    #[error("a fragment longer than a part may be")]
+    /// A fragment that ends past what can be counted, or with which times begin anew and that is longer than a part may be.
+    #[error("a fragment that is too long")]
     TooLong,
     /// The input ends in the midst of a box.
     #[error("the input ends in the midst of a box")]

@@ -6,7 +6,7 @@ use std::fmt;
 /// The types of boxes that are looked at.
 #[derive(Clone, Copy, Debug, PartialEq, Eq)]
 pub enum Kind {
-    /// The movie: what an initialization section ends with (section 8.2.1).
+    /// The movie: what its unit ends with (section 8.2.1).
     Moov,
     /// A track (section 8.3.1).
     Trak,
@@ -28,12 +28,24 @@ pub enum Kind {
     Tfhd,
     /// A run of samples (section 8.8.8).
     Trun,
-    /// Samples: what a part ends with (section 8.1.1).
+    /// Samples: what a fragment's unit ends with (section 8.1.1).
     Mdat,
+    /// A handler, with the type of a track's media (section 8.4.3).
+    Hdlr,
+    /// A track fragment's decode time (section 8.8.12).
+    Tfdt,
+    /// An index of segments (section 8.16.3).
+    Sidx,
+    /// An index of fragments (section 8.8.9).
+    Mfra,
+    /// The time at which a fragment was made (section 8.16.5).
+    Prft,
+    /// An event (ISO/IEC 23009-1, section 5.10.3.3).
+    Emsg,
 }
 
 impl Kind {
-    /// The four bytes of the type as a number, the highest first.
+    /// Returns the four bytes of the type as a number, the highest first.
     #[tactic(auto, unfolding(crate::specs::Kinds::code))]
     pub fn code(self) -> u32
         ensures { result ≡ code self }
@@ -51,10 +63,16 @@ impl Kind {
             Kind::Tfhd => 0x7466_6864,
             Kind::Trun => 0x7472_756e,
             Kind::Mdat => 0x6d64_6174,
+            Kind::Hdlr => 0x6864_6c72,
+            Kind::Tfdt => 0x7466_6474,
+            Kind::Sidx => 0x7369_6478,
+            Kind::Mfra => 0x6d66_7261,
+            Kind::Prft => 0x7072_6674,
+            Kind::Emsg => 0x656d_7367,
         }
     }
 
-    /// The type as it is written.
+    /// Returns the type as it is written.
     pub fn name(self) -> &'static str
         ensures { result.now ≡ name self }
     {
@@ -71,6 +89,12 @@ impl Kind {
             Kind::Tfhd => "tfhd",
             Kind::Trun => "trun",
             Kind::Mdat => "mdat",
+            Kind::Hdlr => "hdlr",
+            Kind::Tfdt => "tfdt",
+            Kind::Sidx => "sidx",
+            Kind::Mfra => "mfra",
+            Kind::Prft => "prft",
+            Kind::Emsg => "emsg",
         }
     }
 }

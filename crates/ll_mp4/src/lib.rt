@@ -1,31 +1,29 @@
-//! Fragmented MP4 (ISO/IEC 14496-12) as it comes from an encoder: its boxes, and which of its bytes are an initialization section and which a part.
+//! Fragmented MP4 (ISO/IEC 14496-12) as it comes from an encoder: its boxes, the units that they make, and what a unit tells of a movie or of a
+//! fragment's time.
 #![tactic(auto)]
 
 mod boxes;
+mod element;
 mod fault;
 mod flags;
-mod fragments;
-mod judge;
 mod kind;
-mod known;
 mod laws;
-mod movies;
+mod movie;
 mod numbers;
-mod pace;
-mod pieces;
+mod runs;
 mod splitter;
+mod timing;
 mod track;
+mod tracks;
 mod units;
 
-pub use boxes::{Head, next_of, only, read_head};
+pub use boxes::{Head, at_most_one, next_of, only, read_head};
+pub use element::{Element, read_element};
 pub use fault::Fault;
-pub use fragments::{Fragment, is_sync, read_fragment};
 pub use kind::Kind;
-pub use known::Known;
 pub use laws::{splitter_law, worked_stream};
-pub use movies::read_track;
-pub use pace::Pace;
-pub use pieces::{Part, Piece};
+pub use movie::{Movie, read_movie};
 pub use splitter::Splitter;
-pub use track::Track;
+pub use timing::{Moment, Timing, read_timing};
+pub use track::{TimeScale, Track};
 pub use units::{SIZE_LIMIT, read_unit};

@@ -1,105 +1,110 @@
 //! The bytes of an encoder as they come.
-ghost use Rattle.std.specs.Prelude.{◌≡◌, MatchResult, None, Some, is_some};
+ghost use Rattle.std.specs.Prelude.{◌≡◌, [], MatchResult, None, Some};
 ghost use Rattle.std.specs.Borrow.{sem};
 ghost use Rattle.std.specs.Io.BufRead.{Rests};
-ghost use Rattle.ll_mp4.specs.Meaning.{told};
-ghost use Rattle.ll_mp4.specs.Streams.{end_fault, fresh, front, with_bytes};
+ghost use Rattle.ll_mp4.specs.Lefts.{at_front, fed, without_index};
+ghost use Rattle.ll_mp4.specs.Meaning.{given};
+ghost use Rattle.ll_mp4.specs.Streams.{end_fault, front};
 ghost use Rattle.ll_mp4.specs.contracts.splitter.Splitter.{the_row};
 
 use crate::boxes::only;
 use crate::fault::Fault;
-use crate::judge::judge;
 use crate::kind::Kind;
-use crate::known::Known;
-use crate::pace::Pace;
-use crate::pieces::Piece;
-use crate::units::read_unit;
+use crate::units::{after_index, read_unit};
 use std::alloc::Global;
 use std::marker::Model;
 
-/// The bytes of an encoder that weren't given out as pieces, and what is known of its stream. They come in any pieces.
+/// The bytes of an encoder that weren't given out as units. They come in any pieces. An `mfra` box at the front of a unit (section 8.8.9) belongs to
+/// none: its bytes are dropped as they come.
 #[derive(Drop)]
 pub struct Splitter {
     bytes: Vec<u8>,
-    /// How many of the bytes were given out.
+    /// How many of the bytes were given out or dropped.
     at: usize,
-    pace: Pace,
-    known: Known,
+    /// How many of the bytes that are still to come are to be dropped.
+    skip: u64,
 }
 
 impl Model for Splitter {
-    ghost use Rattle.std.specs.Prelude.{◌≤◌, drop, length};
-    ghost use Rattle.ll_mp4.specs.Streams.{SplitterValue};
+    ghost use Rattle.std.specs.Prelude.{◌≡◌, ◌≤◌, ◌⊎◌, drop, length};
+    ghost use Rattle.ll_mp4.specs.Lefts.{Left};
 
-    ghost Value = { SplitterValue };
+    ghost Value = { Left };
 
-    ghost view = { λ s. record { pace = s.pace; known = s.known; unread = drop s.at s.bytes.items } };
+    ghost view = { λ s. record { skip = s.skip; unread = drop s.at s.bytes.items } };
 
-    ghost invariant = { λ s. s.at ≤ length s.bytes.items };
+    ghost invariant = { λ s. (s.at ≤ length s.bytes.items) × ((s.skip ≡ 0) ⊎ (s.at ≡ length s.bytes.items)) };
 }
 
 impl Splitter {
-    /// No bytes came yet.
-    pub fn new(alloc: Global, pace: Pace) -> Splitter
-        ensures { result ≡ fresh pace }
+    /// Returns a splitter to which no bytes came yet.
+    pub fn new(alloc: Global) -> Splitter
+        ensures { result ≡ at_front [] }
     {
         Splitter {
             bytes: Vec::new(alloc),
             at: 0,
-            pace,
-            known: Known {
-                track: None,
-                ticks: 0,
-                in_segment: 0,
-            },
+            skip: 0,
         }
     }
 
-    /// These bytes came. It fails where no memory is found, and then changes nothing.
+    /// Adds `bytes`, which came. It fails where no memory is found, and then changes nothing.
     pub fn feed(&mut self, bytes: &[u8]) -> Result<(), Fault>
-        ensures { MatchResult result (λ _. self.new ≡ with_bytes self.old bytes.now) (λ fault. (fault ≡ Fault.Memory) × (self.new ≡ self.old)) }
+        ensures { MatchResult result (λ _. self.new ≡ fed self.old bytes.now) (λ fault. (fault ≡ Fault.Memory) × (self.new ≡ self.old)) }
     {
         self.forget_given();
-        match self.bytes.extend_from_slice(bytes) {
-            Ok(()) => Ok(()),
+        let dropped = self.skip.min(bytes.len() as u64);
+        let (_, kept) = bytes.split_at(dropped as usize);
+        match self.bytes.extend_from_slice(kept) {
+            Ok(()) => {
+                self.skip -= dropped;
+                Ok(())
+            }
             Err(_) => Err(Fault::Memory),
         }
     }
 
-    /// The initialization section or the part at the front, which then is given out; nothing, where not all of it has come. A fault changes
-    /// nothing, so that it is told again. It takes no memory.
-    pub fn next(&mut self) -> Result<Option<Piece<'_>>, Fault>
-        ensures* left { sem 𝓛 (Rests the_row self.entry (λ s. s ≡ (front self.old).1)) }
-        ensures piece { told result ≡ (front self.old).0 }
+    /// Returns the unit at the front, which then is given out: the boxes up to the end of the first that is a `moov` or an `mdat`; nothing, where
+    /// not all of it has come. `mfra` boxes before it are dropped. A fault changes nothing else, so that it is told again. It takes no memory.
+    pub fn next(&mut self) -> Result<Option<&[u8]>, Fault>
+        ensures* left { sem 𝓛 (Rests the_row self.entry (λ left. left ≡ (front self.old).1)) }
+        ensures unit { given result ≡ (front self.old).0 }
     {
+        self.drop_index();
         let unread = &self.bytes[self.at..];
         let Some(size) = read_unit(unread)? else {
             return Ok(None);
         };
         let (unit, _) = unread.split_at(size);
-        let (piece, known) = judge(&self.pace, &self.known, unit)?;
-        self.known = known;
         self.at += size;
-        Ok(Some(piece))
+        Ok(Some(unit))
     }
 
-    /// Whether the initialization section was given out.
-    pub fn has_begun(&self) -> bool
-        ensures { result ≡ is_some self.now.known.track }
-    {
-        self.known.track.is_some()
-    }
-
-    /// What is wrong where the input ends now, after all pieces were given out: it ends in the midst of a box, or a `moof` has no `mdat`. Whole
-    /// boxes that belong to no part are nothing wrong.
+    /// Tells what is wrong where the input ends now, after all units were given out: it ends in the midst of a box, also of an `mfra`, or a `moof` has
+    /// no `mdat`. Whole boxes that belong to no unit are nothing wrong.
     pub fn finish(&self) -> Result<(), Fault>
-        ensures { MatchResult result (λ _. end_fault self.now.unread ≡ None) (λ fault. end_fault self.now.unread ≡ Some fault) }
+        ensures { MatchResult result (λ _. end_fault self.now ≡ None) (λ fault. end_fault self.now ≡ Some fault) }
     {
+        if self.skip > 0 {
+            return Err(Fault::Cut);
+        }
         match only(Kind::Moof, &self.bytes[self.at..]) {
             Err(Fault::Missing(_)) => Ok(()),
             Err(Fault::BadBox) => Err(Fault::Cut),
             _ => Err(Fault::Missing(Kind::Mdat)),
         }
+    }
+
+    /// Drops the `mfra` boxes at the front.
+    fn drop_index(&mut self)
+        ensures { self.new ≡ without_index self.old }
+    {
+        if self.skip > 0 {
+            return;
+        }
+        let (rest, skip) = after_index(&self.bytes[self.at..]);
+        self.at = self.bytes.len() - rest.len();
+        self.skip = skip;
     }
 
     /// Drops the bytes that were given out, once they are more than the others: so fewer bytes are moved than are dropped.

@@ -1,4 +1,21 @@
-/// The only track of a movie, with the defaults of its fragments.
+/// The ticks of a movie's track.
+#[derive(Clone, Copy, Debug, PartialEq, Eq)]
+pub struct TimeScale {
+    /// The track's ID (section 8.3.2).
+    pub id: u32,
+    /// How many ticks a second has (section 8.4.2); never 0.
+    pub scale: u32,
+}
+
+/// A track as a movie lists it.
+#[derive(Clone, Copy)]
+pub(crate) struct Listed {
+    pub(crate) scale: TimeScale,
+    /// Whether it has pictures (section 8.4.3).
+    pub(crate) is_video: bool,
+}
+
+/// A track with the defaults of its fragments.
 #[derive(Clone, Copy, Debug, PartialEq, Eq)]
 pub struct Track {
     /// Its ID (section 8.3.2).

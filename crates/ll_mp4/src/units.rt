@@ -1,5 +1,7 @@
-//! Where an initialization section or a part ends.
+//! Where a unit begins and ends.
 ghost use Rattle.std.specs.Prelude.{◌≡◌, ◌≤◌, ◌==◌, IfOk, IfSome, length};
+ghost use Rattle.ll_mp4.specs.Boxes.{boxes};
+ghost use Rattle.ll_mp4.specs.Lefts.{dropped, index_size};
 ghost use Rattle.ll_mp4.specs.Units as spec;
 ghost use Rattle.ll_mp4.specs.Units.{unit_found, unit_of};
 
@@ -7,10 +9,11 @@ use crate::boxes::read_head;
 use crate::fault::Fault;
 use crate::kind::Kind;
 
-/// The most bytes of an initialization section or a part.
+/// The most bytes of a unit.
 pub const SIZE_LIMIT: usize = 1_048_576;
 
-/// How many bytes the initialization section or the part at the front has; none, where not all of it has come.
+/// Returns how many bytes the unit at the front has: the boxes up to the end of the first that is a `moov` or an `mdat`; none, where not all of it
+/// has come.
 pub fn read_unit(bytes: &[u8]) -> Result<Option<usize>, Fault>
     ensures told { unit_of bytes.now ≡ unit_found result }
     ensures within { IfOk result (λ unit. IfSome unit (λ size. size ≤ length bytes.now)) }
@@ -34,7 +37,25 @@ pub fn read_unit(bytes: &[u8]) -> Result<Option<usize>, Fault>
     Ok(None)
 }
 
-/// Whether a box of this type ends an initialization section or a part.
+/// Returns what stands after the `mfra` boxes at the front (section 8.8.9), and how many bytes of the last of these haven't come.
+pub(crate) fn after_index(bytes: &[u8]) -> (&[u8], u64)
+    ensures { record { skip = result.1; unread = result.0.now } ≡ dropped (index_size (boxes bytes.now)) bytes.now }
+{
+    let mut rest = bytes;
+    'boxes: while let Ok(Some(head)) = read_head(rest) {
+        if head.kind != Kind::Mfra.code() {
+            return (rest, 0);
+        }
+        let come = rest.len() as u64;
+        if head.size > come {
+            return (&[], head.size - come);
+        }
+        (_, rest) = rest.split_at(head.size as usize);
+    }
+    (rest, 0)
+}
+
+/// Returns whether a box of this type ends a unit.
 fn is_last(kind: u32) -> bool
     ensures { result ≡ spec.is_last kind }
 {

@@ -26,15 +26,8 @@ module _ {S P : Type 0} (gives : S → Option P → S → Type 0) (value : P →
       fault-stays p rest before n earlier ∙ gone.goes.fault ∙ ap (λ l. fault_to_come q l) same
 
   module _ (p : PublisherValue) (left : Option (List ℕ)) (o : S) (idle many : ℕ) (went : Went p left o idle many) where
-    pub first-of : (after : PublisherValue) (fault : Fault) → ((rest : List ℕ) → left ≡ Some rest → IsFirstFault p rest after fault) → IsFirstFault start input after fault
-    first-of after fault first = by_kind (first went.0 went.1)
-      where
-        same : fault_to_come start input ≡ fault_to_come p went.0
-        same = fault-stays p went.0 o idle went.2.0
-
-        by_kind : IsFirstFault p went.0 after fault → IsFirstFault start input after fault
-        by_kind (inl e) = inl (same ∙ e)
-        by_kind (inr e) = inr (same ∙ e.0, e.1)
+    pub first-of : (fault : Fault) → ((rest : List ℕ) → left ≡ Some rest → IsFirstFault p rest fault) → IsFirstFault start input fault
+    first-of fault first = fault-stays p went.0 o idle went.2.0 ∙ first went.0 went.1
 
     pub gave-up : idle ≡ most_idle → HasGivenUp gives value start input origin left o
     gave-up e = record { publisher = p; rest = went.0; is_left = went.1; before = o; idle = idle; went = went.2.0; why = inr (e, refl) }

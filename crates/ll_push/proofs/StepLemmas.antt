@@ -1,5 +1,5 @@
 -- Messages, one after another.
-use Rattle.std.proofs.Common.{◌≡◌, inl, inr, OnErr, IfOk, IsErrAnd, IsErrOf, Result, Ok, Err, Bool, true, false, ℕ, ◌+◌, ◌-◌, List, [], ◌∷◌, ◌++◌, Option, Some, None, refl, ap, sym, subst, ◌∙◌, append_assoc, append-nil, drop, length, length-append, take, take-append-drop, nat_le, arith}
+use Rattle.std.proofs.Common.{◌≡◌, OnErr, IsErrAnd, IsErrOf, Result, Ok, Err, Bool, true, false, ℕ, ◌+◌, ◌-◌, List, [], ◌∷◌, ◌++◌, Option, Some, None, refl, ap, sym, subst, ◌∙◌, if◌then◌else◌, append_assoc, append-nil, drop, length, length-append, take, take-append-drop, nat_le, arith}
 use Rattle.std.proofs.KnownBytes.{Appends-nil, Appends-trans}
 use Rattle.std.proofs.lemmas.Bool.Decides.{nat_tests}
 use Rattle.std.proofs.lemmas.Grind.{flat_map-append}
@@ -13,10 +13,12 @@ use Rattle.ll_device.specs.Written.{AppendsPrefix}
 use Rattle.ll_device.proofs.InwardLemmas.{looked_at-none, looked_at-on}
 use Rattle.ll_push.specs.Answers.{accepts, ended, lines_text, refuses}
 use Rattle.ll_push.specs.Exchanges.{AreExchanged, IsExchanged, IsGone, IsUnanswered, LinkValue}
-use Rattle.ll_push.specs.Messages.{MessageValue, Names, ends}
+use Rattle.ll_push.specs.Messages.{MessageValue, Names, end_message, last_texts, messages}
+use Rattle.ll_mp4.specs.Streams.{fed, told}
 use Rattle.ll_mp4.specs.declared.fault.Fault.{Fault}
-use Rattle.ll_push.specs.Next.{IsFaultNext, IsNext, IsSent, IsTaken, is_refusal}
-use Rattle.ll_push.specs.Publishing.{GoesOn, HasFailed, HasGone, HasRefused, HasSent, HasSentUpTo, IsFirstFault, PublisherValue, after_message, fault_after, fault_by, fault_to_come, messages, messages_by, messages_to_come, text_to_come}
+use Rattle.ll_parts.specs.Stream.{CutterValue, Outcome, outcome, to_come}
+use Rattle.ll_push.specs.Next.{IsNext, IsOver, IsSent, IsTaken, is_refusal, sent_of}
+use Rattle.ll_push.specs.Publishing.{GoesOn, HasFailed, HasGone, HasRefused, HasSent, HasSentUpTo, IsFirstFault, PublisherValue, after_unsent, fault_to_come, messages_to_come, text_to_come}
 use Rattle.ll_push.specs.Faults.{IsOfLink, IsOfSource}
 use Rattle.ll_push.specs.declared.fault.PushFault.{PushFault}
 use Rattle.ll_push.specs.declared.fault.PushFault.TheVariants.{Input, Read, Connect, Lost, BadAnswer, Memory, Endless}
@@ -24,9 +26,6 @@ use Rattle.ll_push.specs.declared.answer.Answer.{Answer}
 use Rattle.ll_push.specs.declared.answer.Answer.TheVariants.{Accepted}
 use Rattle.ll_push.specs.declared.publisher.Sent.{Sent}
 use Rattle.ll_push.specs.declared.publisher.Sent.TheVariants.{Answered, Not}
-use Rattle.ll_push.specs.declared.watch.Said.{Said}
-use Rattle.ll_push.specs.declared.watch.Said.TheVariants as said
-use Rattle.ll_mp4.specs.Streams.{SplitterValue, Told, told_in, with_bytes}
 
 -- a text, and then a prefix of what stands after it
 pub prefix-on : (base mid after : Option (List ℕ)) (a b whole : List ℕ) → whole ≡ a ++ b → Appends base mid a → AppendsPrefix mid after b → AppendsPrefix base after whole
@@ -41,35 +40,76 @@ prefix-after base mid after text n p q =
 
 -- ---- the next message
 
-pub taken-next : (p after : PublisherValue) (input : List ℕ) (left : Option (List ℕ)) (message : MessageValue) → p.unsent ≡ None
-    → after.names ≡ p.names → after.unsent ≡ None → IsNext p.names p.splitter input after.splitter left message → IsTaken p input after left message
-taken-next p after input left message none names unsent next = (
-  next.0,
-  next.1,
-  names,
-  unsent,
-  ap (λ u. messages_by p.names u (told_in (with_bytes p.splitter input))) none ∙ next.2.0,
-  ap (λ u. fault_by u (told_in (with_bytes p.splitter input))) none ∙ next.2.1,
-)
+-- nothing is to come of a cutter that is over
+over-none : (c : CutterValue) (input : List ℕ) → IsOver c → to_come c input ≡ record { pieces = []; fault = None }
+over-none c input over =
+    ap (λ b. if◌then◌else◌ {A = Outcome} b (record { pieces = c.progress.pieces; fault = c.progress.fault }) (outcome c.progress (told (fed c.left input)))) over.0
+    ∙ ap (λ ps. record { pieces = ps; fault = c.progress.fault }) over.1 ∙ ap (λ f. record { pieces = []; fault = f }) over.2
 
--- as the code finds it
-module _ (names : Names) (s then : SplitterValue) (u v : Option MessageValue) (p : PublisherValue) (is : record { names = names; splitter = s; unsent = u } ≡ p)
-    (none : u ≡ None) (input : List ℕ) where
+-- ---- as the code finds it
+
+pub fault-if : (names : Names) (ends begun : Bool) (c : CutterValue) (u : Option MessageValue) (p : PublisherValue)
+    → record { names = names; ends = ends; begun = begun; cutter = c; unsent = u } ≡ p → (input : List ℕ) (fault : Fault) → (to_come c input).fault ≡ Some fault
+    → IsFirstFault p input fault
+fault-if names ends begun c u p is input fault e = subst (λ q. IsFirstFault q input fault) is e
+
+module _ (names : Names) (ends begun begun_then : Bool) (c c_then : CutterValue) (u v : Option MessageValue) (p : PublisherValue)
+    (is : record { names = names; ends = ends; begun = begun; cutter = c; unsent = u } ≡ p) (none : u ≡ None) (empty : v ≡ None) (input : List ℕ)
+    (left : Option (List ℕ)) where
   abbrev found : PublisherValue
-  found = record { names = names; splitter = s; unsent = u }
+  found = record { names = names; ends = ends; begun = begun; cutter = c; unsent = u }
 
-  abbrev after_that : PublisherValue
-  after_that = record { names = names; splitter = then; unsent = v }
+  abbrev after_that : Bool → PublisherValue
+  after_that ends_then = record { names = names; ends = ends_then; begun = begun_then; cutter = c_then; unsent = v }
 
-  pub taken-if : (left : Option (List ℕ)) (r : Result MessageValue PushFault) → v ≡ None → IfOk r (IsNext names s input then left)
-      → IfOk r (IsTaken p input after_that left)
-  taken-if left (Ok message) last next =
-      subst (λ q. IsTaken q input after_that left message) is (taken-next found after_that input left message none refl last next)
-  taken-if left (Err fault) last next = tt
+  abbrev first_ones : List (List ℕ)
+  first_ones = messages names ends begun (to_come c input)
 
-  pub fault-if : (fault : Fault) → IsFaultNext s input then fault → IsFirstFault p input after_that fault
-  fault-if fault (inl e) = subst (λ q. IsFirstFault q input after_that fault) is (inl (ap (λ x. fault_by x (told_in (with_bytes s input))) none ∙ e))
-  fault-if fault (inr e) = subst (λ q. IsFirstFault q input after_that fault) is (inr (ap (λ x. fault_by x (told_in (with_bytes s input))) none ∙ e.0, e.1))
+  abbrev later_ones : Bool → List ℕ → List (List ℕ)
+  later_ones ends_then rest = messages names ends_then begun_then (to_come c_then rest)
+
+  some-taken : (message : MessageValue) → IsNext names begun c input begun_then c_then left (Some message) → IsTaken found input (after_that ends) left (Some message)
+  some-taken message next = (
+    next.0,
+    next.1,
+    empty,
+    ap (λ w. after_unsent w first_ones) none ∙ ap (λ (s : List (List ℕ) × Option Fault). s.0) (next.2 ends)
+        ∙ ap (λ w. message.bytes ∷ after_unsent w (later_ones ends next.0)) (sym empty),
+    ap (λ (s : List (List ℕ) × Option Fault). s.1) (next.2 ends),
+  )
+
+  pub taken-some : (message : MessageValue) (o : Option MessageValue) → o ≡ Some message → IsNext names begun c input begun_then c_then left o
+      → IsTaken p input (after_that ends) left (Some message)
+  taken-some message o e next =
+      subst (λ q. IsTaken q input (after_that ends) left (Some message)) is
+      (some-taken message (subst (IsNext names begun c input begun_then c_then left) e next))
+
+  module _ (o : Option MessageValue) (no_more : o ≡ None) (next : IsNext names begun c input begun_then c_then left o) where
+    last : IsNext names begun c input begun_then c_then left None
+    last = subst (IsNext names begun c input begun_then c_then left) no_more next
+
+    last_ones : sent_of names ends begun (to_come c input) ≡ sent_of names ends begun_then (record { pieces = []; fault = None })
+    last_ones = last.0.2 ends ∙ ap (sent_of names ends begun_then) (over-none c_then last.0.0 last.1)
+
+    all_ones : messages_to_come found input ≡ last_texts names None ends
+    all_ones = ap (λ w. after_unsent w first_ones) none ∙ ap (λ (s : List (List ℕ) × Option Fault). s.0) last_ones
+
+    pub taken-none : ends ≡ false → IsTaken p input (after_that ends) left None
+    taken-none off =
+        subst (λ q. IsTaken q input (after_that ends) left None) is
+        (all_ones ∙ ap (last_texts names None) off, ap (λ (s : List (List ℕ) × Option Fault). s.1) last_ones)
+
+    pub taken-end : ends ≡ true → (message : MessageValue) → message ≡ end_message names → IsTaken p input (after_that false) left (Some message)
+    taken-end on message e =
+        subst (λ q. IsTaken q input (after_that false) left (Some message)) is (
+          last.0.0,
+          last.0.1,
+          empty,
+          all_ones ∙ ap (last_texts names None) on ∙ ap (λ (m : MessageValue). m.bytes ∷ []) (sym e)
+              ∙ ap (λ o. message.bytes ∷ messages names false begun_then o) (sym (over-none c_then last.0.0 last.1))
+              ∙ ap (λ w. message.bytes ∷ after_unsent w (later_ones false last.0.0)) (sym empty),
+          ap (λ (s : List (List ℕ) × Option Fault). s.1) (last.0.2 ends),
+        )
 
 -- ---- faults
 
@@ -159,13 +199,9 @@ goes-first p input link left e = record {
   are = refl;
 }
 
-pub first-fault : (p : PublisherValue) (input : List ℕ) (sent : List (List ℕ)) (s : PublisherValue) (left : Option (List ℕ)) (after : PublisherValue) (fault : Fault)
-    → GoesOn p input sent s left → ((rest : List ℕ) → left ≡ Some rest → IsFirstFault s rest after fault) → IsFirstFault p input after fault
-first-fault p input sent s left after fault goes first = by_kind (first goes.rest goes.is_left)
-  where
-    by_kind : IsFirstFault s goes.rest after fault → IsFirstFault p input after fault
-    by_kind (inl e) = inl (goes.fault ∙ e)
-    by_kind (inr e) = inr (goes.fault ∙ e.0, e.1)
+pub first-fault : (p : PublisherValue) (input : List ℕ) (sent : List (List ℕ)) (s : PublisherValue) (left : Option (List ℕ)) (fault : Fault)
+    → GoesOn p input sent s left → ((rest : List ℕ) → left ≡ Some rest → IsFirstFault s rest fault) → IsFirstFault p input fault
+first-fault p input sent s left fault goes first = goes.fault ∙ first goes.rest goes.is_left
 
 -- some were, and no more
 pub some-sent : (p : PublisherValue) (input : List ℕ) (first : LinkValue) (s : PublisherValue) (left : Option (List ℕ)) (mid : LinkValue) (accepted : Bool) (n : ℕ)
@@ -190,109 +226,86 @@ many-sent p input first s left mid accepted n m h e = record {
 
 module _ (p : PublisherValue) (input : List ℕ) (first : LinkValue) (s : PublisherValue) (left : Option (List ℕ)) (mid : LinkValue) (accepted : Bool) (n : ℕ)
     (so_far : SoFar p input first s left mid accepted n)
-    (after : PublisherValue) (then : Option (List ℕ)) (message : MessageValue)
-    (taken : (rest : List ℕ) → left ≡ Some rest → IsTaken s rest after then message) where
-  abbrev one : IsTaken s so_far.goes.rest after then message
-  one = taken so_far.goes.rest so_far.goes.is_left
+    (after : PublisherValue) (left_then : Option (List ℕ)) (o : Option MessageValue)
+    (taken : (rest : List ℕ) → left ≡ Some rest → IsTaken s rest after left_then o) where
+  -- there was none
+  pub message-none : o ≡ None → AreExchanged (messages_to_come p input) first mid × (fault_to_come p input ≡ None)
+  message-none is =
+      let none = subst (IsTaken s so_far.goes.rest after left_then) is (taken so_far.goes.rest so_far.goes.is_left) in (
+        subst (λ l. AreExchanged l first mid)
+            (sym (so_far.goes.messages ∙ ap (λ l. so_far.sent ++ l) none.0 ∙ append-nil so_far.sent)) so_far.exchanged,
+        so_far.goes.fault ∙ none.1,
+      )
 
-  abbrev later : Told
-  later = told_in (with_bytes after.splitter one.0)
+  module _ (message : MessageValue) (is : o ≡ Some message) where
+    one : IsTaken s so_far.goes.rest after left_then (Some message)
+    one = subst (IsTaken s so_far.goes.rest after left_then) is (taken so_far.goes.rest so_far.goes.is_left)
 
-  abbrev next_ones : List (List ℕ)
-  next_ones = after_message s.names message.said later
+    abbrev next_ones : List (List ℕ)
+    next_ones = messages_to_come after one.0
 
-  -- all that was to be sent: what was sent, this message, and what comes after it
-  in_all : messages_to_come p input ≡ so_far.sent ++ message.bytes ∷ next_ones
-  in_all = so_far.goes.messages ∙ ap (λ l. so_far.sent ++ l) one.4
+    -- all that was to be sent: what was sent, this message, and what comes after it
+    in_all : messages_to_come p input ≡ so_far.sent ++ message.bytes ∷ next_ones
+    in_all = so_far.goes.messages ∙ ap (λ l. so_far.sent ++ l) one.3
 
-  fault_is : fault_to_come p input ≡ fault_after message.said later
-  fault_is = so_far.goes.fault ∙ one.5
+    fault_is : fault_to_come p input ≡ fault_to_come after one.0
+    fault_is = so_far.goes.fault ∙ one.4
 
-  abbrev up_to : HasSentUpTo p input first
-  up_to = record { sent = so_far.sent; message = message.bytes; later = next_ones; all = in_all; mid = mid; exchanged = so_far.exchanged }
+    abbrev up_to : HasSentUpTo p input first
+    up_to = record { sent = so_far.sent; message = message.bytes; later = next_ones; all = in_all; mid = mid; exchanged = so_far.exchanged }
 
-  module _ (last : LinkValue) where
-    -- a prefix of this one was sent
-    pub message-cut : AppendsPrefix mid.written last.written message.bytes → AppendsPrefix first.written last.written (text_to_come p input)
-    message-cut q =
-        prefix-on first.written mid.written last.written (concat so_far.sent) (message.bytes ++ concat next_ones) (text_to_come p input)
-        (ap concat in_all ∙ concat-append so_far.sent (message.bytes ∷ next_ones)) so_far.exchanged.sent
-        (q.0, q.1 ++ concat next_ones, ap (λ l. l ++ concat next_ones) q.2 ∙ append_assoc q.0 q.1 (concat next_ones), q.3)
+    module _ (last : LinkValue) where
+      -- a prefix of this one was sent
+      pub message-cut : AppendsPrefix mid.written last.written message.bytes → AppendsPrefix first.written last.written (text_to_come p input)
+      message-cut q =
+          prefix-on first.written mid.written last.written (concat so_far.sent) (message.bytes ++ concat next_ones) (text_to_come p input)
+          (ap concat in_all ∙ concat-append so_far.sent (message.bytes ∷ next_ones)) so_far.exchanged.sent
+          (q.0, q.1 ++ concat next_ones, ap (λ l. l ++ concat next_ones) q.2 ∙ append_assoc q.0 q.1 (concat next_ones), q.3)
 
-    -- it has no answer
-    pub message-failed : (fault : PushFault) → IsUnanswered message.bytes mid last fault → HasFailed p input first last fault
-    message-failed fault why = record { at = up_to; why = why }
+      -- it has no answer
+      pub message-failed : (fault : PushFault) → IsUnanswered message.bytes mid last fault → HasFailed p input first last fault
+      message-failed fault why = record { at = up_to; why = why }
 
-    -- nothing of it was
-    pub message-kept : (same : MessageValue) → same ≡ message → IsGone mid last → HasGone p input first (record after { unsent = Some same }) then last accepted
-    message-kept same is gone = record {
-      sent = so_far.sent;
-      goes = record {
-        rest = one.0;
-        is_left = one.1;
-        messages =
-            in_all ∙ ap (λ n. so_far.sent ++ message.bytes ∷ after_message n message.said later) (sym one.2)
-            ∙ ap (λ (m : MessageValue). so_far.sent ++ m.bytes ∷ after_message after.names m.said later) (sym is);
-        fault = fault_is ∙ ap (λ (m : MessageValue). fault_after m.said later) (sym is);
-      };
-      mid = mid;
-      exchanged = so_far.exchanged;
-      gone = gone;
-      some = so_far.some;
-    }
+      -- nothing of it was
+      pub message-kept : (same : MessageValue) → same ≡ message → IsGone mid last → HasGone p input first (record after { unsent = Some same }) left_then last accepted
+      message-kept same e gone = record {
+        sent = so_far.sent;
+        goes = record {
+          rest = one.0;
+          is_left = one.1;
+          messages =
+              in_all ∙ ap (λ u. so_far.sent ++ message.bytes ∷ after_unsent u (messages after.names after.ends after.begun (to_come after.cutter one.0))) one.2
+              ∙ ap (λ (m : MessageValue). so_far.sent ++ m.bytes ∷ messages after.names after.ends after.begun (to_come after.cutter one.0)) (sym e);
+          fault = fault_is;
+        };
+        mid = mid;
+        exchanged = so_far.exchanged;
+        gone = gone;
+        some = so_far.some;
+      }
 
-    -- this one was refused
-    pub message-refused : (text : List ℕ) → ((line : List ℕ) × IsExchanged message.bytes line mid last × ((text ≡ line) × (refuses line ≡ true))) → HasRefused p input first last text
-    message-refused text said = record {
-      at = up_to;
-      last_one = subst (λ l. IsExchanged message.bytes l mid last) (sym said.2.0) said.1;
-      refuses = ap refuses said.2.0 ∙ said.2.1;
-    }
+      -- this one was refused
+      pub message-refused : (text : List ℕ) → ((line : List ℕ) × IsExchanged message.bytes line mid last × ((text ≡ line) × (refuses line ≡ true))) → HasRefused p input first last text
+      message-refused text said = record {
+        at = up_to;
+        last_one = subst (λ l. IsExchanged message.bytes l mid last) (sym said.2.0) said.1;
+        refuses = ap refuses said.2.0 ∙ said.2.1;
+      }
 
-    module _ (line : List ℕ) (answered : IsExchanged message.bytes line mid last) where
-      module _ (ok : accepts line ≡ true) where
-        with_it : AreExchanged (so_far.sent ++ message.bytes ∷ []) first last
-        with_it = exchanged-more so_far.sent message.bytes line first mid last so_far.exchanged answered ok
-
-        -- it was the end
-        pub message-last : ends message.said ≡ true → AreExchanged (messages_to_come p input) first last × (fault_to_come p input ≡ None)
-        message-last is_last =
-            let e = last-by message.said is_last in (
-              subst (λ l. AreExchanged l first last)
-                  (ap (λ w. so_far.sent ++ message.bytes ∷ after_message s.names w later) (sym e) ∙ sym in_all) with_it,
-              fault_is ∙ ap (λ w. fault_after w later) e,
-            )
-          where
-            last-by : (w : Said) → ends w ≡ true → w ≡ said.End
-            last-by said.End h = refl
-            last-by said.Init h = absurd (cc)
-            last-by (said.Part duration finishes) h = absurd (cc)
-
-        -- it wasn't
-        pub message-more : ends message.said ≡ false → SoFar p input first after then last true (n + 1)
-        message-more other =
-            let e = more-by message.said other in record {
-              sent = so_far.sent ++ message.bytes ∷ [];
-              goes = record {
-                rest = one.0;
-                is_left = one.1;
-                messages =
-                    in_all
-                    ∙ ap (λ l. so_far.sent ++ message.bytes ∷ l)
-                    (e.0 s.names later ∙ ap (λ n. messages n later) (sym one.2) ∙ ap (λ u. messages_by after.names u later) (sym one.3))
-                    ∙ sym (append_assoc so_far.sent (message.bytes ∷ []) (messages_to_come after one.0));
-                fault = fault_is ∙ e.1 later ∙ ap (λ u. fault_by u later) (sym one.3);
-              };
-              exchanged = with_it;
-              some = sym (some-by (length (so_far.sent ++ message.bytes ∷ [])) (length-append so_far.sent (message.bytes ∷ [])));
-              are = length-append so_far.sent (message.bytes ∷ []) ∙ ap (λ k. k + 1) so_far.are;
-            }
-          where
-            more-by : (w : Said) → ends w ≡ false
-                → ((names : Names) (t : Told) → after_message names w t ≡ messages names t) × ((t : Told) → fault_after w t ≡ t.fault)
-            more-by said.End h = absurd (cc)
-            more-by said.Init h = ((λ names t. refl), (λ t. refl))
-            more-by (said.Part duration finishes) h = ((λ names t. refl), (λ t. refl))
-
-            some-by : (n : ℕ) → n ≡ length so_far.sent + 1 → nat_le 1 n ≡ true
-            some-by n h = grind (arith, nat_tests)
+      -- it was accepted
+      pub message-more : (line : List ℕ) → IsExchanged message.bytes line mid last → accepts line ≡ true → SoFar p input first after left_then last true (n + 1)
+      message-more line answered ok = record {
+        sent = so_far.sent ++ message.bytes ∷ [];
+        goes = record {
+          rest = one.0;
+          is_left = one.1;
+          messages = in_all ∙ sym (append_assoc so_far.sent (message.bytes ∷ []) next_ones);
+          fault = fault_is;
+        };
+        exchanged = exchanged-more so_far.sent message.bytes line first mid last so_far.exchanged answered ok;
+        some = sym (some-by (length (so_far.sent ++ message.bytes ∷ [])) (length-append so_far.sent (message.bytes ∷ [])));
+        are = length-append so_far.sent (message.bytes ∷ []) ∙ ap (λ k. k + 1) so_far.are;
+      }
+        where
+          some-by : (m : ℕ) → m ≡ length so_far.sent + 1 → nat_le 1 m ≡ true
+          some-by m h = grind (arith, nat_tests)

@@ -1,57 +1,36 @@
 -- What is still to be sent of an encoder's bytes.
-use Rattle.std.specs.Prelude.{◌≡◌, ◌⊎◌, ℕ, Bool, true, false, List, [], ◌∷◌, ◌++◌, Option, Some, None, is_some, length, nat_le}
+use Rattle.std.specs.Prelude.{◌≡◌, ℕ, Bool, true, false, List, ◌∷◌, ◌++◌, Option, Some, None, length, nat_le}
 use Rattle.std.specs.List.{concat}
 use Rattle.ll_mp4.specs.declared.fault.Fault.{Fault}
-use Rattle.ll_mp4.specs.declared.fault.Fault.TheVariants as input
+use Rattle.ll_parts.specs.Stream.{CutterValue, begun_cutter, to_come}
+use Rattle.ll_parts.specs.declared.lengths.Lengths.{Lengths}
 use Rattle.ll_push.specs.Answers.{refuses}
 use Rattle.ll_push.specs.Exchanges.{AreExchanged, IsExchanged, IsGone, IsUnanswered, LinkValue}
-use Rattle.ll_push.specs.Messages.{MessageValue, Names, end_text, piece_texts}
+use Rattle.ll_push.specs.Messages.{MessageValue, Names, messages}
 use Rattle.ll_push.specs.declared.fault.PushFault.{PushFault}
 use Rattle.ll_push.specs.declared.publisher.Step.{Step}
 use Rattle.ll_push.specs.declared.publisher.Step.TheVariants.{Whole, Refused, Gone}
-use Rattle.ll_push.specs.declared.watch.Said.{Said}
-use Rattle.ll_push.specs.declared.watch.Said.TheVariants as said
-use Rattle.ll_mp4.specs.Streams.{SplitterValue, Told, end_fault, fresh, told, told_in, with_bytes}
-use Rattle.ll_mp4.specs.declared.pace.Pace.{Pace}
 
--- the messages of what is told: those of its pieces, and then the end's
-abbrev pub messages : Names → Told → List (List ℕ)
-messages names told = piece_texts names told.pieces ++ (end_text names ∷ [])
-
--- the messages after one that announces this
-abbrev pub after_message : Names → Said → Told → List (List ℕ)
-after_message names said.End later = []
-after_message names said.Init later = messages names later
-after_message names (said.Part duration finishes) later = messages names later
-
--- and the fault that ends them
-abbrev pub fault_after : Said → Told → Option Fault
-fault_after said.End later = None
-fault_after said.Init later = later.fault
-fault_after (said.Part duration finishes) later = later.fault
-
--- ---- a publisher
-
--- where it publishes, what it has of the encoder's bytes, and a message that no connection took anything of
+-- where it publishes, whether the rendition's end is still to be sent after the last piece, whether a movie has begun, what it has of the encoder's bytes, and a
+-- message that no connection took anything of
 pub record PublisherValue : Type 0 where
   pub names : Names
-  pub splitter : SplitterValue
+  pub ends : Bool
+  pub begun : Bool
+  pub cutter : CutterValue
   pub unsent : Option MessageValue
 
-abbrev pub at_start : Names → Pace → PublisherValue
-at_start names pace = record { names = names; splitter = fresh pace; unsent = None }
+abbrev pub at_start : Names → Lengths → Bool → PublisherValue
+at_start names lengths ends = record { names = names; ends = ends; begun = false; cutter = begun_cutter lengths 0; unsent = None }
 
-abbrev pub messages_by : Names → Option MessageValue → Told → List (List ℕ)
-messages_by names None later = messages names later
-messages_by names (Some message) later = message.bytes ∷ after_message names message.said later
-
-abbrev pub fault_by : Option MessageValue → Told → Option Fault
-fault_by None later = later.fault
-fault_by (Some message) later = fault_after message.said later
+-- with a message before others, where there is one
+abbrev pub after_unsent : Option MessageValue → List (List ℕ) → List (List ℕ)
+after_unsent None later = later
+after_unsent (Some message) later = message.bytes ∷ later
 
 -- the messages that are still to be sent, where these bytes of the encoder are still to come
 abbrev pub messages_to_come : PublisherValue → List ℕ → List (List ℕ)
-messages_to_come p input = messages_by p.names p.unsent (told_in (with_bytes p.splitter input))
+messages_to_come p input = after_unsent p.unsent (messages p.names p.ends p.begun (to_come p.cutter input))
 
 -- as one text
 abbrev pub text_to_come : PublisherValue → List ℕ → List ℕ
@@ -59,7 +38,7 @@ text_to_come p input = concat (messages_to_come p input)
 
 -- the fault that ends it, where one does
 abbrev pub fault_to_come : PublisherValue → List ℕ → Option Fault
-fault_to_come p input = fault_by p.unsent (told_in (with_bytes p.splitter input))
+fault_to_come p input = (to_come p.cutter input).fault
 
 -- what is still to be sent are the messages after these
 pub record GoesOn (before : PublisherValue) (input : List ℕ) (sent : List (List ℕ)) (after : PublisherValue) (left : Option (List ℕ)) : Type 0 where
@@ -112,16 +91,6 @@ IsStep before input first after left last Whole = AreExchanged (messages_to_come
 IsStep before input first after left last (Refused line) = HasRefused before input first last line
 IsStep before input first after left last (Gone accepted) = HasGone before input first after left last accepted
 
--- the fault of where the bytes end, these being left: amid a box or a part, or before an initialization section
-abbrev pub ending_by : Option Fault → Bool → Option Fault
-ending_by (Some fault) begun = Some fault
-ending_by None false = Some input.NoMoov
-ending_by None true = None
-
-abbrev pub ending_fault : SplitterValue → Option Fault
-ending_fault s = ending_by (end_fault s.unread) (is_some s.known.track)
-
--- this is the first fault: of a box or a fragment, or of where the bytes end
-abbrev pub IsFirstFault : PublisherValue → List ℕ → PublisherValue → Fault → Type 0
-IsFirstFault before input after fault =
-    (fault_to_come before input ≡ Some fault) ⊎ ((fault_to_come before input ≡ None) × (ending_fault after.splitter ≡ Some fault))
+-- this is the fault that ends it
+abbrev pub IsFirstFault : PublisherValue → List ℕ → Fault → Type 0
+IsFirstFault before input fault = fault_to_come before input ≡ Some fault

@@ -42,7 +42,6 @@ fn input_name(fault: Fault) -> &'static str {
         Fault::BadBox => "BadBox",
         Fault::TooLarge => "TooLarge",
         Fault::NoMoov => "NoMoov",
-        Fault::SecondMoov => "SecondMoov",
         Fault::Missing(_) => "Missing",
         Fault::Several(_) => "Several",
         Fault::NoTimeScale => "NoTimeScale",

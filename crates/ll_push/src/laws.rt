@@ -2,8 +2,8 @@
 ghost use Rattle.ll_push.specs.Laws.{AreLines, FromTheStart};
 ghost use Rattle.ll_push.specs.Worked.{WorkedMessages};
 
-/// What a publisher has to send before anything was read are the messages of what all the encoder's bytes tell, and the fault that ends them is
-/// theirs.
+/// Says that what a publisher has to send before anything was read are the messages of what is published of all the encoder's bytes, and that the fault that
+/// ends them is theirs.
 pub fn publisher_law()
     ensures { FromTheStart }
 {}
@@ -13,7 +13,7 @@ pub fn answer_law()
     ensures { AreLines }
 {}
 
-/// The definitions at a worked example.
+/// Shows the definitions at a worked example.
 pub fn worked_messages()
     ensures { WorkedMessages }
 {}

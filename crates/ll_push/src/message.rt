@@ -5,12 +5,11 @@ ghost use Rattle.ll_item.specs.ItemLines.{line_text};
 ghost use Rattle.ll_item.specs.Items.{flags_text};
 ghost use Rattle.ll_push.specs.Messages as spec;
 ghost use Rattle.ll_push.specs.Meaning.{named};
-ghost use Rattle.ll_mp4.specs.Meaning.{meant};
 
 use crate::place::Place;
 use crate::watch::Said;
 use ll_item::ItemLine;
-use ll_mp4::{Part, Piece};
+use ll_parts::{Part, Piece};
 use std::alloc::{AllocError, Global};
 use std::marker::Model;
 
@@ -30,28 +29,50 @@ impl Model for Message {
 }
 
 impl Message {
-    /// Returns the message of `piece` at `place`.
-    pub(crate) fn of(
-        alloc: Global,
-        place: &Place<'_>,
-        piece: &Piece<'_>,
-    ) -> Result<Message, AllocError>
-        ensures { IfOk result (λ m. m ≡ spec.piece_message (named place.now) (meant piece.now)) }
+    /// Returns the message of `piece` at `place`; of `Begin`, where another movie came before.
+    pub(crate) fn of(alloc: Global, place: &Place<'_>, piece: &Piece) -> Result<Message, AllocError>
+        ensures { IfOk result (λ m. m ≡ spec.piece_message (named place.now) piece.now) }
     {
         let Place { channel, rendition } = *place;
         match piece {
             Piece::Init(bytes) => Ok(Message {
-                bytes: item_text(alloc, channel, ItemLine::Init { rendition }, bytes)?,
+                bytes: item_text(
+                    alloc,
+                    channel,
+                    ItemLine::Init { rendition },
+                    bytes.as_slice(),
+                )?,
                 said: Said::Init,
             }),
             Piece::Media(part) => Ok(Message {
-                bytes: item_text(alloc, channel, part_line(rendition, part), part.bytes)?,
+                bytes: item_text(
+                    alloc,
+                    channel,
+                    part_line(rendition, part),
+                    part.bytes.as_slice(),
+                )?,
                 said: Said::Part {
                     duration: part.duration,
                     finishes: part.finishes,
                 },
             }),
+            Piece::Begin | Piece::Break(_) => Message::of_break(alloc, place),
         }
+    }
+
+    /// Returns the message of a break at `place`, which sets no time.
+    fn of_break(alloc: Global, place: &Place<'_>) -> Result<Message, AllocError>
+        ensures { IfOk result (λ m. m ≡ spec.break_message (named place.now)) }
+    {
+        let Place { channel, rendition } = *place;
+        let line = ItemLine::Break {
+            rendition,
+            time: None,
+        };
+        Ok(Message {
+            bytes: bare_text(alloc, channel, line)?,
+            said: Said::Break,
+        })
     }
 
     /// Returns the message that nothing more comes at `place`.
@@ -65,14 +86,14 @@ impl Message {
         })
     }
 
-    /// Its bytes.
+    /// Returns its bytes.
     pub(crate) fn bytes(&self) -> &[u8]
         ensures { result.now ≡ self.now.bytes }
     {
         &self.bytes
     }
 
-    /// What it announces.
+    /// Returns what it announces.
     pub(crate) fn said(&self) -> Said
         ensures { result ≡ self.now.said }
     {
@@ -106,7 +127,7 @@ fn bare_text(alloc: Global, channel: &str, line: ItemLine<'_>) -> Result<Vec<u8>
 }
 
 /// Returns the line of `part` in the rendition of this name, without the number of its bytes.
-fn part_line<'a>(rendition: &'a str, part: &Part<'_>) -> ItemLine<'a>
+fn part_line<'a>(rendition: &'a str, part: &Part) -> ItemLine<'a>
     ensures { line_text result ≡ lines.part_line rendition.now part.now.duration (flags_text part.now.independent part.now.finishes) }
 {
     ItemLine::Part {

@@ -7,9 +7,10 @@ ghost use Rattle.ll_push.specs.declared.fault.PushFault.{PushFault};
 ghost use Rattle.ll_push.specs.Answers.{StepsByAnswer};
 ghost use Rattle.ll_push.specs.Exchanges.{IsGone, IsUnanswered, link_value};
 ghost use Rattle.ll_push.specs.Faults.{IsOfLink, IsOfSource, most};
-ghost use Rattle.ll_push.specs.Messages as spec;
 ghost use Rattle.ll_push.specs.Meaning.{named};
-ghost use Rattle.ll_push.specs.Next.{FrontGives, IsEndFault, IsFaultNext, IsFed, IsFrontFault, IsNext, IsOwn, IsSent, IsTaken, is_refusal};
+ghost use Rattle.ll_parts.specs.Stream.{advanced_cutter, to_come};
+ghost use Rattle.ll_push.specs.Next as spec;
+ghost use Rattle.ll_push.specs.Next.{IsFed, IsFront, IsNext, IsNextPiece, IsOwn, IsPieceFault, IsSent, IsTaken, IsUnitFault, is_refusal};
 ghost use Rattle.ll_push.specs.Publishing.{HasFailed, HasSent, IsFirstFault, IsStep, at_start, text_to_come};
 
 use crate::answer::{Answer, read_answer};
@@ -19,7 +20,7 @@ use crate::place::Place;
 use crate::watch::Watch;
 use ll_attr::Text;
 use ll_device::{Link, Reader, write_all};
-use ll_mp4::{Fault, Pace, Splitter};
+use ll_parts::{Cutter, Lengths, Piece};
 use std::alloc::Global;
 use std::marker::Model;
 
@@ -31,7 +32,11 @@ const PIECE: usize = 65_536;
 pub struct Publisher<'a> {
     alloc: Global,
     place: Place<'a>,
-    splitter: Splitter,
+    /// Whether the rendition's end is still to be sent after the last piece.
+    ends: bool,
+    /// Whether a movie has begun.
+    begun: bool,
+    cutter: Cutter,
     /// A message that the last connection took nothing of.
     unsent: Option<Message>,
 }
@@ -64,18 +69,20 @@ impl<'a> Model for Publisher<'a> {
 
     ghost Value = { PublisherValue };
 
-    ghost view = { λ p. record { names = named p.place; splitter = p.splitter; unsent = p.unsent } };
+    ghost view = { λ p. record { names = named p.place; ends = p.ends; begun = p.begun; cutter = p.cutter; unsent = p.unsent } };
 }
 
 impl<'a> Publisher<'a> {
-    /// Nothing was read so far.
-    pub fn new(alloc: Global, place: Place<'a>, pace: Pace) -> Publisher<'a>
-        ensures { result ≡ at_start (named place.entry) pace }
+    /// Returns one that has read nothing so far; `ends` says whether the rendition is ended after the last piece.
+    pub fn new(alloc: Global, place: Place<'a>, lengths: Lengths, ends: bool) -> Publisher<'a>
+        ensures { result ≡ at_start (named place.entry) lengths ends }
     {
         Publisher {
             alloc,
             place,
-            splitter: Splitter::new(alloc, pace),
+            ends,
+            begun: false,
+            cutter: Cutter::new(alloc, lengths, 0),
             unsent: None,
         }
     }
@@ -91,7 +98,7 @@ impl<'a> Publisher<'a> {
         ensures step { (input : List ℕ) → R.left source.old ≡ Some input
             → IfOk result (IsStep self.old input (link_value P.written P.inward P.failures link.old) self.new (R.left source.new) (link_value P.written P.inward P.failures link.new)) }
         ensures cut { (input : List ℕ) → R.left source.old ≡ Some input → OnErr result (AppendsPrefix (P.written link.old) (P.written link.new) (text_to_come self.old input)) }
-        ensures refused { (input : List ℕ) (fault : Fault) → R.left source.old ≡ Some input → IsErrOf result (PushFault.Input fault) → IsFirstFault self.old input self.new fault }
+        ensures refused { (input : List ℕ) (fault : Fault) → R.left source.old ≡ Some input → IsErrOf result (PushFault.Input fault) → IsFirstFault self.old input fault }
         ensures read_failed { IsErrOf result PushFault.Read → R.failures source.old < R.failures source.new }
         ensures steady { OnOk result (R.failures source.new ≡ R.failures source.old) }
         ensures unanswered { (input : List ℕ) (fault : PushFault) → R.left source.old ≡ Some input → IsErrOf result fault → IsOfLink fault
@@ -104,7 +111,9 @@ impl<'a> Publisher<'a> {
     {
         let (mut accepted, mut refused) = (false, false);
         for _ in 0..u64::MAX {
-            let message = self.message(source)?;
+            let Some(message) = self.message(source)? else {
+                return Ok(Step::Whole);
+            };
             let (said, len) = (message.said(), message.bytes().len());
             match exchange(self.alloc, link, message, &mut refused)? {
                 Sent::Answered(Answer::Accepted) => watch.accepted(said, len),
@@ -114,40 +123,53 @@ impl<'a> Publisher<'a> {
                     return Ok(Step::Gone { accepted });
                 }
             }
-            if said.ends() {
-                return Ok(Step::Whole);
-            }
             accepted = true;
         }
         Err(PushFault::Endless)
     }
 
-    /// The next message: the one that is unsent, that of the encoder's next piece, or, after the last one, the end.
-    fn message<R: Reader>(&mut self, source: &mut R) -> Result<Message, PushFault>
+    /// Returns the next message: the one that is unsent, that of the encoder's next piece, or, after the last one, the end where it is to be sent; none, where all is
+    /// published.
+    fn message<R: Reader>(&mut self, source: &mut R) -> Result<Option<Message>, PushFault>
         ensures next { (input : List ℕ) → R.left source.old ≡ Some input → IfOk result (IsTaken self.old input self.new (R.left source.new)) }
-        ensures refused { (input : List ℕ) (fault : Fault) → R.left source.old ≡ Some input → IsErrOf result (PushFault.Input fault) → IsFirstFault self.old input self.new fault }
+        ensures refused { (input : List ℕ) (fault : Fault) → R.left source.old ≡ Some input → IsErrOf result (PushFault.Input fault) → IsFirstFault self.old input fault }
         ensures read_failed { IsErrOf result PushFault.Read → R.failures source.old < R.failures source.new }
         ensures steady { OnOk result (R.failures source.new ≡ R.failures source.old) }
         ensures own { IfErr result IsOfSource }
         ensures endless { IsErrOf result PushFault.Endless → R.reads source.old + most ≤ R.reads source.new }
         ensures later { R.reads source.old ≤ R.reads source.new }
     {
-        match self.unsent.take() {
-            Some(message) => Ok(message),
-            None => next_message(self.alloc, &self.place, source, &mut self.splitter),
+        if let Some(message) = self.unsent.take() {
+            return Ok(Some(message));
         }
+        if let Some(message) = next_message(
+            self.alloc,
+            &self.place,
+            source,
+            &mut self.begun,
+            &mut self.cutter,
+        )? {
+            return Ok(Some(message));
+        }
+        if !self.ends {
+            return Ok(None);
+        }
+        let message = Message::end(self.alloc, &self.place)?;
+        self.ends = false;
+        Ok(Some(message))
     }
 }
 
-/// The message of an encoder's next piece, or, after its last one, the end.
+/// Returns the message of an encoder's next piece, or none after its last one; `begun` says whether a movie has begun.
 fn next_message<R: Reader>(
     alloc: Global,
     place: &Place<'_>,
     source: &mut R,
-    splitter: &mut Splitter,
-) -> Result<Message, PushFault>
-    ensures next { (input : List ℕ) → R.left source.old ≡ Some input → IfOk result (IsNext (named place.now) splitter.old input splitter.new (R.left source.new)) }
-    ensures refused { (input : List ℕ) (fault : Fault) → R.left source.old ≡ Some input → IsErrOf result (PushFault.Input fault) → IsFaultNext splitter.old input splitter.new fault }
+    begun: &mut bool,
+    cutter: &mut Cutter,
+) -> Result<Option<Message>, PushFault>
+    ensures next { (input : List ℕ) → R.left source.old ≡ Some input → IfOk result (IsNext (named place.now) begun.old cutter.old input begun.new cutter.new (R.left source.new)) }
+    ensures refused { (input : List ℕ) (fault : Fault) → R.left source.old ≡ Some input → IsErrOf result (PushFault.Input fault) → (to_come cutter.old input).fault ≡ Some fault }
     ensures read_failed { IsErrOf result PushFault.Read → R.failures source.old < R.failures source.new }
     ensures steady { OnOk result (R.failures source.new ≡ R.failures source.old) }
     ensures own { IfErr result IsOfSource }
@@ -155,48 +177,68 @@ fn next_message<R: Reader>(
     ensures later { R.reads source.old ≤ R.reads source.new }
 {
     for _ in 0..u64::MAX {
-        if let Some(message) = front_message(alloc, place, splitter)? {
-            return Ok(message);
+        if let Some(piece) = next_piece(begun, cutter)? {
+            return Ok(Some(Message::of(alloc, place, &piece)?));
         }
-        if !read_more(source, splitter)? {
-            return end_message(alloc, place, splitter);
+        if cutter.is_over() {
+            return Ok(None);
         }
+        read_more(source, cutter)?;
     }
     Err(PushFault::Endless)
 }
 
-/// The message that nothing more comes. It would end the rendition for good, so it is not sent where not even an initialization section came: an
-/// encoder that failed at its start writes nothing.
-fn end_message(alloc: Global, place: &Place<'_>, splitter: &Splitter) -> Result<Message, PushFault>
-    ensures end { IfOk result (λ message. message ≡ spec.end_message (named place.now)) }
-    ensures fault { IfErr result (IsEndFault splitter.now) }
+/// Returns the first piece that has a message, where all of it was read: the first movie begins without one. Sets `begun` where a movie begins.
+fn next_piece(begun: &mut bool, cutter: &mut Cutter) -> Result<Option<Piece>, PushFault>
+    ensures piece { IfOk result (IsNextPiece begun.old cutter.old begun.new cutter.new) }
+    ensures fault { IfErr result (IsPieceFault cutter.old) }
 {
-    splitter.finish()?;
-    if !splitter.has_begun() {
-        return Err(PushFault::Input(Fault::NoMoov));
+    let piece = front_piece(cutter)?;
+    if !begins_first(&piece, *begun) {
+        return Ok(piece);
     }
-    Ok(Message::end(alloc, place)?)
+    *begun = true;
+    Ok(front_piece(cutter)?)
 }
 
-/// The message of the piece at the front, where all of it was read.
-fn front_message(
-    alloc: Global,
-    place: &Place<'_>,
-    splitter: &mut Splitter,
-) -> Result<Option<Message>, PushFault>
-    ensures piece { IfOk result (λ message. FrontGives (named place.now) splitter.old splitter.new message) }
-    ensures fault { IfErr result (λ fault. IsFrontFault splitter.old splitter.new fault) }
+/// Returns whether `piece` begins the first movie; `begun` says whether one has begun.
+fn begins_first(piece: &Option<Piece>, begun: bool) -> bool
+    ensures { result ≡ spec.begins_first begun piece.now }
 {
-    match splitter.next()? {
-        Some(piece) => Ok(Some(Message::of(alloc, place, &piece)?)),
-        None => Ok(None),
+    matches!(piece, Some(Piece::Begin)) && !begun
+}
+
+/// Returns the first piece, where all of it was read.
+fn front_piece(cutter: &mut Cutter) -> Result<Option<Piece>, PushFault>
+    ensures piece { IfOk result (IsFront cutter.old cutter.new) }
+    ensures fault { IfErr result (IsPieceFault cutter.old) }
+{
+    loop {
+        if let Some(piece) = cutter.pop() {
+            return Ok(Some(piece));
+        }
+        if !take_unit(cutter)? {
+            return Ok(None);
+        }
     }
 }
 
-/// Reads once more, and answers whether that gave anything.
-fn read_more<R: Reader>(source: &mut R, splitter: &mut Splitter) -> Result<bool, PushFault>
+/// Takes one more unit of what was read, and returns whether one was there.
+fn take_unit(cutter: &mut Cutter) -> Result<bool, PushFault>
+    ensures taken { IfOk result (λ taken. (taken, cutter.new) ≡ advanced_cutter cutter.old) }
+    ensures going { OnOk result (cutter.old.progress.fault ≡ None) }
+    ensures fault { IfErr result (IsUnitFault cutter.old) }
+{
+    if let Some(fault) = cutter.fault() {
+        return Err(fault.into());
+    }
+    Ok(cutter.advance()?)
+}
+
+/// Reads once more, and has `cutter` take what came, or the end.
+fn read_more<R: Reader>(source: &mut R, cutter: &mut Cutter) -> Result<(), PushFault>
     ensures once { R.reads source.new ≡ R.reads source.old + 1 }
-    ensures fed { IfOk result (IsFed splitter.old (R.left source.old) splitter.new (R.left source.new)) }
+    ensures fed { OnOk result (IsFed cutter.old (R.left source.old) cutter.new (R.left source.new)) }
     ensures faults { IfErr result (λ fault. fault ≢ PushFault.Memory → (fault ≡ PushFault.Read) × (R.failures source.old < R.failures source.new)) }
     ensures steady { OnOk result (R.failures source.new ≡ R.failures source.old) }
 {
@@ -204,8 +246,12 @@ fn read_more<R: Reader>(source: &mut R, splitter: &mut Splitter) -> Result<bool,
     let Ok(count) = source.read(&mut piece) else {
         return Err(PushFault::Read);
     };
-    splitter.feed(&piece[..count])?;
-    Ok(count > 0)
+    if count == 0 {
+        cutter.close()?;
+        return Ok(());
+    }
+    cutter.feed(&piece[..count])?;
+    Ok(())
 }
 
 /// Sends a message, unless the other end is gone, and reads its answer. After one that is refused nothing is sent.

@@ -1,6 +1,3 @@
-ghost use Rattle.std.specs.Prelude.{◌≡◌};
-ghost use Rattle.ll_push.specs.Messages.{ends};
-
 /// What a message announces.
 #[derive(Clone, Copy, Debug, PartialEq, Eq)]
 pub enum Said {
@@ -13,20 +10,10 @@ pub enum Said {
         /// Whether it is the last of its segment.
         finishes: bool,
     },
+    /// A break.
+    Break,
     /// The end of the rendition.
     End,
-}
-
-impl Said {
-    /// Whether nothing comes after it.
-    pub(crate) fn ends(self) -> bool
-        ensures { result ≡ ends self }
-    {
-        match self {
-            Said::Init | Said::Part { .. } => false,
-            Said::End => true,
-        }
-    }
 }
 
 /// Who watches how publishing goes on.

@@ -6,6 +6,8 @@ mod attr_tests;
 #[cfg(test)]
 mod attribute_tests;
 #[cfg(test)]
+mod cut_tests;
+#[cfg(test)]
 mod directive_tests;
 #[cfg(test)]
 mod fault_tests;
@@ -31,8 +33,6 @@ mod read_tests;
 mod rows;
 #[cfg(test)]
 mod session_tests;
-#[cfg(test)]
-mod split_tests;
 #[cfg(test)]
 mod time_tests;
 #[cfg(test)]

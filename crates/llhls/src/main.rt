@@ -1,6 +1,6 @@
 //! `llhls`: an origin for Low-Latency HLS. `llhls serve SETTINGS` serves publishers and players over TCP, `llhls replay` replays a
 //! script, `llhls check FILE` checks the record of a channel, `llhls upgrade FILE` writes it in format 2, `llhls explain FILE` tells what it holds, `llhls apply BASE DELTA` applies a
-//! delta update to a playlist, `llhls push ADDRESS CHANNEL RENDITION part=US segment=US` publishes what an encoder writes.
+//! delta update to a playlist, `llhls push ADDRESS CHANNEL RENDITION part=US segment=US [most=US] [end]` publishes what an encoder writes.
 #![tactic(auto)]
 
 ghost use Rattle.std.specs.Prelude.{◌≡◌, IfErr};
@@ -15,11 +15,10 @@ use crate::serve::serve;
 use crate::words::words;
 use ll_attr::Text;
 use ll_command::{
-    Command, Fault, fault_of, run_script, write_applied, write_checked, write_explained,
+    Command, Fault, Plan, fault_of, run_script, write_applied, write_checked, write_explained,
     write_summary, write_upgraded,
 };
 use ll_device::{CountedReader, CountedWriter};
-use ll_mp4::Pace;
 use ll_push::{Ending as Published, Place};
 use std::marker::Brand;
 use std::net::SocketAddrV4;
@@ -85,13 +84,13 @@ fn called(rt: &HostRuntime) -> Result<Ending, Fault> {
             address,
             channel,
             rendition,
-            pace,
+            plan,
         } => {
             let place = Place {
                 channel: channel.as_str(),
                 rendition: rendition.as_str(),
             };
-            publish_input(rt, address.as_str(), place, pace)
+            publish_input(rt, address.as_str(), place, plan)
         }
     }
 }
@@ -146,12 +145,12 @@ fn publish_input(
     rt: &HostRuntime,
     address: &str,
     place: Place<'_>,
-    pace: Pace,
+    plan: Plan,
 ) -> Result<Ending, Fault> {
     let Ok(address) = address.parse::<SocketAddrV4>() else {
         return Err(Fault::Usage);
     };
-    match publish::<Brand>(rt, address, place, pace, Blank::new(2))? {
+    match publish::<Brand>(rt, address, place, plan, Blank::new(2))? {
         Published::Whole => Ok(Ending::Done),
         Published::Refused(answer) => Ok(Ending::Refused(answer)),
     }

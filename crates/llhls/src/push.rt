@@ -1,9 +1,8 @@
 //! Publishing what an encoder writes to standard input.
 ghost use Rattle.std.specs.Prelude.{◌≡◌};
 
-use ll_command::Fault;
+use ll_command::{Fault, Plan};
 use ll_device::{CountedReader, Dial};
-use ll_mp4::Pace;
 use ll_push::{Ending, Place, Said, Watch, push};
 use std::io::{self, IsTerminal};
 use std::net::SocketAddrV4;
@@ -95,7 +94,7 @@ pub(crate) fn publish<L: Ledger>(
     rt: &HostRuntime,
     address: SocketAddrV4,
     place: Place<'_>,
-    pace: Pace,
+    plan: Plan,
     reads: Blank,
 ) -> Result<Ending, Fault>
     requires name { reads.name ≡ L.name }
@@ -108,7 +107,8 @@ pub(crate) fn publish<L: Ledger>(
     let done = push(
         rt.alloc(),
         place,
-        pace,
+        plan.lengths,
+        plan.ends,
         &mut source,
         &mut origin,
         &mut meter,

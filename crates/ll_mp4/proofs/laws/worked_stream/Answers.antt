@@ -1,4 +1,4 @@
--- The worked example.
+-- The worked examples.
 use Rattle.ll_mp4.proofs.WorkedExamples.{worked}
 use Rattle.ll_mp4.proofs.laws.worked_stream.Goals as goal
 

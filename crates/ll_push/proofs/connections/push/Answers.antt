@@ -26,12 +26,10 @@ returns-in_err-publish_on-clause-unanswered g c input fault l e of =
     (ap (λ f. Err f) (same-fault c.from_residual.result c.in_err-publish_on.field-0.0 fault c.from_residual.ensures.1 e)) of)
 
 pub returns-in_err-publish_on-clause-refused : goal.returns-in_err-publish_on-clause-refused
-returns-in_err-publish_on-clause-refused g c input fault l e = (
-  c.publish_on.new.self,
-  first-of _ _ _ _ _ _ _ _ _ _ (c.loop.invariant.went input l) c.publish_on.new.self fault
-      (λ rest left. c.in_err-publish_on.ensures.refused rest fault left
-      (ap (λ f. Err f) (same-fault c.from_residual.result c.in_err-publish_on.field-0.0 (Input fault) c.from_residual.ensures.1 e))),
-)
+returns-in_err-publish_on-clause-refused g c input fault l e =
+    first-of _ _ _ _ _ _ _ _ _ _ (c.loop.invariant.went input l) fault
+    (λ rest left. c.in_err-publish_on.ensures.refused rest fault left
+    (ap (λ f. Err f) (same-fault c.from_residual.result c.in_err-publish_on.field-0.0 (Input fault) c.from_residual.ensures.1 e)))
 
 pub returns-in_err-publish_on-clause-endless : goal.returns-in_err-publish_on-clause-endless
 returns-in_err-publish_on-clause-endless g c input l e =
@@ -56,7 +54,7 @@ returns-in-Refused-clause-went g c input l =
 pub returns-then-idle-eq-TRIES-clause-gave_up : goal.returns-then-idle-eq-TRIES-clause-gave_up
 returns-then-idle-eq-TRIES-clause-gave_up g c input l e =
     gave-up _ _ _ _ _ _ _ _ c.idle_after-idle.result _
-    (then-gone g.S.Source.next_gives (link_value g.S.Peer.Writer.written g.S.Peer.Writer.inward g.S.Peer.Writer.failures) (at_start (named c.args.place) c.args.pace) input c.args.origin.now
+    (then-gone g.S.Source.next_gives (link_value g.S.Peer.Writer.written g.S.Peer.Writer.inward g.S.Peer.Writer.failures) (at_start (named c.args.place) c.args.lengths c.args.ends) input c.args.origin.now
     c.loop.publisher (g.R.Reader.left c.loop.source) c.loop.origin c.loop.idle c.loop.counter (c.loop.invariant.went input l) c.loop.invariant.few c.next.new.self c.in-Some.link
     c.publish_on.new.link c.in-Some.ensures c.publish_on.new.self (g.R.Reader.left c.publish_on.new.source) c.in_ok-publish_on.field-0 c.in_ok-publish_on.ensures.step
     c.in-Gone.accepted c.in-Gone.is c.idle_after-idle.result c.idle_after-idle.ensures) c.if-idle-eq-TRIES.true
@@ -64,7 +62,7 @@ returns-then-idle-eq-TRIES-clause-gave_up g c input l e =
 pub loop-preserved : goal.loop-preserved
 loop-preserved g c = record {
   went =
-      λ input l. then-gone g.S.Source.next_gives (link_value g.S.Peer.Writer.written g.S.Peer.Writer.inward g.S.Peer.Writer.failures) (at_start (named c.args.place) c.args.pace) input
+      λ input l. then-gone g.S.Source.next_gives (link_value g.S.Peer.Writer.written g.S.Peer.Writer.inward g.S.Peer.Writer.failures) (at_start (named c.args.place) c.args.lengths c.args.ends) input
       c.args.origin.now c.loop.publisher (g.R.Reader.left c.loop.source) c.loop.origin c.loop.idle c.loop.counter (c.loop.invariant.went input l) c.loop.invariant.few c.next.new.self
       c.in-Some.link c.publish_on.new.link c.in-Some.ensures c.publish_on.new.self (g.R.Reader.left c.publish_on.new.source) c.in_ok-publish_on.field-0
       c.in_ok-publish_on.ensures.step c.in-Gone.accepted c.in-Gone.is c.idle_after-idle.result c.idle_after-idle.ensures;

@@ -9,7 +9,7 @@ use Rattle.ll_push.proofs.connections.push.Given as goal
 abbrev pub invariant-loop : goal.invariant-loop
 invariant-loop g l = record {
   went : (input : List ℕ) → g.R.Reader.left l.fn.source ≡ Some input
-      → Went g.S.Source.next_gives (link_value g.S.Peer.Writer.written g.S.Peer.Writer.inward g.S.Peer.Writer.failures) (at_start (named l.fn.place) l.fn.pace) input
+      → Went g.S.Source.next_gives (link_value g.S.Peer.Writer.written g.S.Peer.Writer.inward g.S.Peer.Writer.failures) (at_start (named l.fn.place) l.fn.lengths l.fn.ends) input
       l.fn.origin l.publisher (g.R.Reader.left l.source) l.origin l.idle l.counter;
   later : g.R.Reader.reads l.fn.source ≤ g.R.Reader.reads l.source;
   few : l.idle < 20;

@@ -3,4 +3,4 @@ use Rattle.std.proofs.Common.{refl}
 use Rattle.ll_push.proofs.laws.publisher_law.Goals as goal
 
 pub returns : goal.returns
-returns c names pace input = (refl, refl)
+returns c names lengths ends input = (refl, refl)

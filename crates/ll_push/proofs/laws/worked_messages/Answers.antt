@@ -1,10 +1,10 @@
 -- The worked example.
 use Rattle.std.proofs.Common.{refl}
 use Rattle.std.specs.Fmt.{digits}
-use Rattle.ll_item.specs.ItemLines.{end_line, init_line, part_line}
+use Rattle.ll_item.specs.ItemLines.{break_line, end_line, init_line, part_line}
 use Rattle.ll_push.specs.Messages.{sent_line}
 use Rattle.ll_push.proofs.laws.worked_messages.Goals as goal
 
 pub returns : goal.returns
-unfolding digits end_line init_line part_line sent_line
-returns c = refl
+unfolding digits break_line end_line init_line part_line sent_line
+returns c = (refl, refl, refl)

@@ -1,0 +1,70 @@
+//! What a unit is.
+ghost use Rattle.std.specs.Prelude.{◌≡◌, option_map};
+ghost use Rattle.ll_mp4.specs.Boxes.{contents_in};
+ghost use Rattle.ll_mp4.specs.Elements as spec;
+ghost use Rattle.ll_mp4.specs.Elements.{IsMovie, element_of, has_some};
+ghost use Rattle.ll_mp4.specs.Meaning.{AnswersButForMemory};
+ghost use Rattle.ll_mp4.specs.declared.kind.Kind.TheVariants.{Moof};
+
+use crate::boxes::{at_most_one, next_of};
+use crate::fault::Fault;
+use crate::kind::Kind;
+use crate::movie::{Movie, read_movie};
+use crate::timing::{Moment, Timing, read_moment, read_timing};
+use std::alloc::Global;
+
+/// What a unit is.
+#[derive(Drop)]
+pub enum Element {
+    /// A movie.
+    Movie(Movie),
+    /// A fragment with the timing of the governing track.
+    Fragment(Timing),
+    /// A unit without the governing track: a fragment of other tracks, with the first decode time that it tells, or samples alone.
+    Beside(Option<Moment>),
+}
+
+/// Reads what `unit` is, where `known` is the movie that came last. It fails where no memory is found for a movie that has no other fault.
+pub fn read_element(alloc: Global, known: Option<&Movie>, unit: &[u8]) -> Result<Element, Fault>
+    ensures { let asked = element_of (option_map (λ movie. movie.now) known.entry) unit.now in
+        AnswersButForMemory asked (IsMovie asked) result }
+{
+    let Some(moov) = at_most_one(Kind::Moov, unit)? else {
+        return fragment_by(known, unit);
+    };
+    let after_fragment = !matches!(next_of(Kind::Moof, unit), Ok(None));
+    movie_by(alloc, known, after_fragment, moov)
+}
+
+/// Reads a movie, before which a fragment stands in its unit or doesn't.
+fn movie_by(
+    alloc: Global,
+    known: Option<&Movie>,
+    after_fragment: bool,
+    moov: &[u8],
+) -> Result<Element, Fault>
+    ensures { let asked = spec.movie_by (option_map (λ movie. movie.now) known.entry) after_fragment moov.now in
+        AnswersButForMemory asked (IsMovie asked) result }
+{
+    if after_fragment && known.is_none() {
+        return Err(Fault::NoMoov);
+    }
+    if after_fragment {
+        return Err(Fault::Missing(Kind::Mdat));
+    }
+    let movie = read_movie(alloc, moov)?;
+    Ok(Element::Movie(movie))
+}
+
+/// Reads a fragment.
+fn fragment_by(known: Option<&Movie>, unit: &[u8]) -> Result<Element, Fault>
+    ensures { result ≡ spec.fragment_by (option_map (λ movie. movie.now) known.entry) unit.now }
+{
+    let Some(movie) = known else {
+        return Err(Fault::NoMoov);
+    };
+    match read_timing(movie, unit)? {
+        Some(timing) => Ok(Element::Fragment(timing)),
+        None => Ok(Element::Beside(read_moment(movie, unit))),
+    }
+}

@@ -1,0 +1,3 @@
+pub mod OtherLemmas
+pub mod StreamLemmas
+pub mod TimeLemmas

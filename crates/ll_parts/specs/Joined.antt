@@ -1,0 +1,240 @@
+-- The pieces of a stream: its movies, fragment by fragment, where of each fragment of the governing track the next one is known.
+use Rattle.std.specs.Prelude.{◌&&◌, ℕ, ⊤, ◌≡◌, take, drop, ◌+◌, ◌-◌, Bool, true, false, List, [], ◌∷◌, ◌++◌, length, nat_lt, min, ◌^◌, if◌then◌else◌, not, Option, Some, None}
+use Rattle.ll_parts.specs.Times.{at_tick, cut_before, duration_to, is_counted, ends_run, joined_to, lasts, micros, next_at, rendition_end, said_to, since_origin, size_limit, time_of, times_after, times_from}
+use Rattle.ll_parts.specs.Others.{bytes_of, leads, stay}
+use Rattle.ll_mp4.specs.Movies.{MovieValue}
+use Rattle.ll_mp4.specs.declared.fault.Fault.{Fault}
+use Rattle.ll_mp4.specs.declared.fault.Fault.TheVariants.{TooLarge, TooLong}
+use Rattle.ll_parts.specs.declared.lengths.Lengths.{Lengths}
+use Rattle.ll_parts.specs.declared.pieces.Piece.{Piece}
+use Rattle.ll_parts.specs.declared.pieces.Piece.TheVariants.{Begin, Init, Media, Break}
+use Rattle.ll_parts.specs.declared.heading.Heading.{Heading}
+use Rattle.ll_parts.specs.declared.stage.Held.{Held}
+use Rattle.ll_shift.specs.Moved.{moved}
+use Rattle.ll_shift.specs.declared.shift.Shift.{Shift}
+use Rattle.ll_parts.specs.declared.others.Other.{Other}
+use Rattle.ll_parts.specs.declared.stage.Parting.{Parting}
+use Rattle.ll_parts.specs.declared.stage.Stage.{Stage}
+use Rattle.ll_parts.specs.declared.stage.Stage.TheVariants.{Silent, Under}
+use Rattle.ll_parts.specs.declared.times.Cut.{Cut}
+use Rattle.ll_parts.specs.declared.times.Cut.TheVariants as cut
+use Rattle.ll_parts.specs.declared.times.Judged.{Judged}
+use Rattle.ll_parts.specs.declared.times.Next.{Next}
+use Rattle.ll_parts.specs.declared.times.Next.TheVariants.{Over, Back, At}
+use Rattle.ll_parts.specs.declared.times.Times.{Times}
+use Rattle.ll_parts.specs.declared.stage.Onward.{Onward}
+use Rattle.ll_parts.specs.declared.stage.Group.{Group}
+use Rattle.ll_mp4.specs.declared.timing.Timing.{Timing}
+
+-- ---- what a stream has
+
+-- where the rendition ended as the movie began, in microseconds
+pub record Joining : Type 0 where
+  pub lengths : Lengths
+  pub heading : Heading
+  pub end : ℕ
+  pub stage : Stage
+
+-- before any movie, of a rendition that ends there
+abbrev pub at_start : Lengths → ℕ → Joining
+at_start lengths end = record { lengths = lengths; heading = record { section = []; scales = []; scale = 1 }; end = end; stage = Silent [] }
+
+-- ---- a fragment of which it is known what comes after it
+
+abbrev pub judged_by : Lengths → ℕ → Times → ℕ → ℕ → Bool → ℕ → Next → (begin said lasts : ℕ) → Judged
+judged_by lengths scale t size ticks sync more next begin said lasts =
+    record { begin = begin; lasts = lasts; end = min (begin + lasts) (2 ^ 64 - 1); cut = cut_before lengths t size begin lasts sync more; ends = ends_run lengths said next }
+
+abbrev pub judged_said : Lengths → ℕ → Times → ℕ → ℕ → Bool → ℕ → Next → ℕ → Judged
+judged_said lengths scale t size ticks sync more next said =
+    judged_by lengths scale t size ticks sync more next (at_tick scale t t.position) said (lasts lengths scale t ticks said)
+
+-- the part under way has `size` bytes, the fragment with what goes with it `more`
+abbrev pub judged : Lengths → ℕ → Times → ℕ → ℕ → Bool → ℕ → Next → Judged
+judged lengths scale t size ticks sync more next = judged_said lengths scale t size ticks sync more next (said_to scale t ticks next)
+
+-- how the times of a run are moved
+abbrev pub shift_of : ℕ → Times → Shift
+shift_of scale t = record { base = t.base; scale = scale; end = t.end }
+
+-- a part of these bytes
+abbrev pub part_of : Heading → Times → List ℕ → ℕ → Bool → Piece
+part_of h t bytes duration finishes = Media (record {
+  bytes = moved (shift_of h.scale t) h.scales bytes;
+  duration = duration;
+  independent = t.independent;
+  finishes = finishes;
+})
+
+-- what ends before the fragment
+abbrev pub said_before : Heading → Times → List ℕ → ℕ → Cut → List Piece
+said_before h t under begin cut.Joins = []
+said_before h t under begin cut.Part = part_of h t under (duration_to t begin) false ∷ []
+said_before h t under begin cut.Segment = part_of h t under (duration_to t begin) true ∷ []
+
+-- the bytes of the part under way with it
+abbrev pub with_group : Cut → List ℕ → List ℕ → List ℕ
+with_group cut.Joins under bytes = under ++ bytes
+with_group cut.Part under bytes = bytes
+with_group cut.Segment under bytes = bytes
+
+-- after the last part of a run
+abbrev pub ending : Heading → Times → Next → List Piece
+ending h t Over = []
+ending h t (Back tick) = Break None ∷ Init h.section ∷ []
+ending h t (At tick) = Break (Some (since_origin h.scale t tick)) ∷ Init h.section ∷ []
+
+-- what is said where the run ends at this microsecond of it
+abbrev pub said_after : Heading → Times → List ℕ → ℕ → Bool → Next → List Piece
+said_after h t under end false next = []
+said_after h t under end true next = part_of h t under (duration_to t end) true ∷ ending h t next
+
+-- the pieces that a fragment brings, and what goes on after it
+pub record Step : Type 0 where
+  pub pieces : List Piece
+  pub onward : Onward
+
+abbrev pub onward_after : Times → List ℕ → ℕ → Bool → Next → Onward
+onward_after t under end ends next = record { times = times_after t end ends next; bytes = if ends then [] else under; end = rendition_end t end }
+
+-- with the times that the fragment joined, and the bytes of its part
+abbrev pub step_joined : Heading → List Piece → Times → List ℕ → ℕ → Bool → Next → Step
+step_joined h before t under end ends next = record {
+  pieces = before ++ said_after h t under end ends next;
+  onward = onward_after t under end ends next;
+}
+
+abbrev pub step_by : Heading → Times → List ℕ → Group → Next → Judged → Step
+step_by h t under group next judged =
+    step_joined h (said_before h t under judged.begin judged.cut) (joined_to judged.cut t (length under) judged.begin judged.lasts group.sync)
+    (with_group judged.cut under group.bytes) judged.end judged.ends next
+
+abbrev pub step_of : Lengths → Heading → Times → List ℕ → Group → Next → Step
+step_of lengths h t under group next = step_by h t under group next (judged lengths h.scale t (length under) group.ticks group.sync (length group.bytes) next)
+
+-- ---- one more element
+
+-- a fragment with these others
+abbrev pub group_of : Held → List Other → Group
+group_of held others = record { bytes = held.bytes ++ bytes_of others; ticks = held.ticks; sync = held.sync }
+
+abbrev pub held_of : List ℕ → List ℕ → Timing → Held
+held_of lead bytes timing = record { bytes = lead ++ bytes; ticks = timing.ticks; sync = timing.sync; since = [] }
+
+abbrev pub on_stage : Joining → Stage → Joining
+on_stage j stage = record j { stage = stage }
+
+-- the pieces that an element brings, and the movie under way then
+pub record Taken : Type 0 where
+  pub pieces : List Piece
+  pub after : Joining
+
+-- the tick at which the next fragment begins
+abbrev pub place_of : Next → ℕ
+place_of Over = 0
+place_of (Back tick) = tick
+place_of (At tick) = tick
+
+-- what comes after a fragment, and how many of those that came since go with it
+abbrev pub parting_by : ℕ → Held → Times → Next → Bool → Parting
+parting_by scale held t next ends = record { next = next; ends = ends; count = stay ends (leads scale t.position (place_of next)) held.since }
+
+abbrev pub parting_at : Lengths → ℕ → Held → Times → Next → Parting
+parting_at lengths scale held t next = parting_by scale held t next (ends_run lengths (said_to scale t held.ticks next) next)
+
+abbrev pub parting : Lengths → ℕ → Held → Times → Option ℕ → Parting
+parting lengths scale held t time = parting_at lengths scale held t (next_at lengths scale t.position (time_of t held.ticks time))
+
+abbrev pub after_step : Joining → List ℕ → List ℕ → Timing → Step → Taken
+after_step j lead bytes timing step = record { pieces = step.pieces; after = on_stage j (Under (held_of lead bytes timing) step.onward.times step.onward.bytes) }
+
+-- the next fragment begins there
+abbrev pub followed : Joining → Held → Times → List ℕ → List ℕ → Timing → Parting → Taken
+followed j held t under bytes timing p =
+    after_step j (bytes_of (drop p.count held.since)) bytes timing (step_of j.lengths j.heading t under (group_of held (take p.count held.since)) p.next)
+
+abbrev pub first_time : Option ℕ → ℕ
+first_time None = 0
+first_time (Some time) = time
+
+abbrev pub heard : Joining → Stage → List ℕ → Timing → Taken
+heard j (Silent lead) bytes timing = record {
+  pieces = [];
+  after = on_stage j (Under (held_of lead bytes timing) (times_from (first_time timing.time) j.end (first_time timing.time)) []);
+}
+heard j (Under held t under) bytes timing = followed j held t under bytes timing (parting j.lengths j.heading.scale held t timing.time)
+
+-- why a fragment is refused that ends at this tick, and has so many bytes with those that go with it
+abbrev pub refusal_of : ℕ → ℕ → ℕ → Option Fault
+refusal_of scale end size = if not (is_counted scale end) then Some TooLong else if nat_lt size_limit size then Some TooLarge else None
+
+-- one that begins a run is no longer than a part may be: what is longer amid a run is a gap after it
+abbrev pub is_long : Lengths → ℕ → Bool → ℕ → Bool
+is_long lengths scale begins ticks = begins && nat_lt lengths.part (micros scale ticks)
+
+abbrev pub refusal_by : Bool → Option Fault → Option Fault
+refusal_by true other = Some TooLong
+refusal_by false other = other
+
+abbrev pub refusal_after : Lengths → ℕ → Held → ℕ → ℕ → Parting → Option Fault
+refusal_after lengths scale held size ticks p =
+    refusal_by (is_long lengths scale p.ends ticks)
+    (refusal_of scale (place_of p.next + ticks) (length (bytes_of (drop p.count held.since)) + size))
+
+-- a fragment with so many bytes
+unfoldable pub refusal : Joining → Stage → ℕ → Timing → Option Fault
+refusal j (Silent lead) size timing =
+    refusal_by (is_long j.lengths j.heading.scale true timing.ticks)
+    (refusal_of j.heading.scale (first_time timing.time + timing.ticks) (length lead + size))
+refusal j (Under held t under) size timing =
+    refusal_after j.lengths j.heading.scale held size timing.ticks (parting j.lengths j.heading.scale held t timing.time)
+
+-- how many bytes go together with what comes next of other tracks
+abbrev pub size_of : Stage → ℕ
+size_of (Silent lead) = length lead
+size_of (Under held t under) = length held.bytes + length (bytes_of held.since)
+
+-- why so many bytes without a fragment of the governing track are refused: with those that they go with they are too many
+abbrev pub refusal_beside : Stage → ℕ → Option Fault
+refusal_beside stage size = if nat_lt size_limit (size_of stage + size) then Some TooLarge else None
+
+abbrev pub beside : Stage → Other → Stage
+beside (Silent lead) other = Silent (lead ++ other.bytes)
+beside (Under held t under) other = Under (record held { since = held.since ++ other ∷ [] }) t under
+
+-- ---- where a movie ends
+
+abbrev pub over : Joining → Stage → List Piece
+over j (Silent lead) = []
+over j (Under held t under) = (step_of j.lengths j.heading t under (group_of held held.since) Over).pieces
+
+-- where the rendition ends then
+abbrev pub end_of : Joining → Stage → ℕ
+end_of j (Silent lead) = j.end
+end_of j (Under held t under) = (step_of j.lengths j.heading t under (group_of held held.since) Over).onward.end
+
+abbrev pub finished : Joining → Joining
+finished j = record j { end = end_of j j.stage; stage = Silent [] }
+
+abbrev pub heading_of : List ℕ → MovieValue → Heading
+heading_of section movie = record { section = section; scales = movie.scales; scale = movie.governing.scale }
+
+abbrev pub begun : Joining → List ℕ → MovieValue → Taken
+begun j section movie = record {
+  pieces = over j j.stage ++ Begin ∷ Init section ∷ [];
+  after = record (finished j) { heading = heading_of section movie };
+}
+
+abbrev pub silent : List ℕ → Stage
+silent lead = Silent lead
+
+abbrev pub empty_stage : Stage
+empty_stage = Silent []
+
+abbrev pub under : Held → Times → List ℕ → Stage
+under held t bytes = Under held t bytes
+
+-- where the samples of the fragment that is held end can be counted
+abbrev pub IsCounted : ℕ → Stage → Type 0
+IsCounted scale (Silent lead) = ⊤
+IsCounted scale (Under held t under) = is_counted scale (t.position + held.ticks) ≡ true

@@ -1,0 +1,5 @@
+pub mod Joined
+pub mod Laws
+pub mod Others
+pub mod Stream
+pub mod Times

@@ -1,0 +1,56 @@
+//! What a movie's pieces are made with.
+ghost use Rattle.std.specs.Prelude.{◌≡◌, [], IfOk};
+
+use crate::bytes::Bytes;
+use ll_mp4::TimeScale;
+use std::alloc::{AllocError, Global};
+use std::marker::Model;
+
+/// What a movie's pieces are made with.
+#[derive(Drop)]
+pub(crate) struct Heading {
+    /// The initialization section.
+    pub(crate) section: Bytes,
+    /// The tracks' time scales.
+    pub(crate) scales: Scales,
+    /// How many ticks a second of the governing track has.
+    pub(crate) scale: u32,
+}
+
+/// The time scales of a movie's tracks.
+#[derive(Drop)]
+pub(crate) struct Scales(Vec<TimeScale>);
+
+impl Model for Scales {
+    ghost use Rattle.std.specs.Prelude.{List};
+    ghost use Rattle.ll_mp4.specs.declared.track.TimeScale.{TimeScale};
+
+    ghost Value = { List TimeScale };
+
+    ghost view = { λ s. s.0.items };
+}
+
+impl Scales {
+    /// Returns none.
+    pub(crate) fn new(alloc: Global) -> Scales
+        ensures { result ≡ [] }
+    {
+        Scales(Vec::new(alloc))
+    }
+
+    /// Returns a copy of `scales`.
+    pub(crate) fn of(alloc: Global, scales: &[TimeScale]) -> Result<Scales, AllocError>
+        ensures { IfOk result (λ copy. copy ≡ scales.now) }
+    {
+        let mut copy = Vec::new(alloc);
+        copy.extend_from_slice(scales)?;
+        Ok(Scales(copy))
+    }
+
+    /// Returns the time scales.
+    pub(crate) fn as_slice(&self) -> &[TimeScale]
+        ensures { result.now ≡ self.now }
+    {
+        &self.0
+    }
+}

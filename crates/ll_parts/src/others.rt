@@ -1,0 +1,129 @@
+//! What stands between two fragments of the governing track.
+ghost use Rattle.std.specs.Prelude.{◌≡◌, ◌+◌, ◌<◌, ◌≤◌, ◌^◌, ◌++◌, ◌∷◌, [], IfOk, IfSome, drop, length, position, take};
+ghost use Rattle.ll_parts.specs.Others.{bytes_of, leads};
+ghost use Rattle.ll_parts.specs.Others as spec;
+
+use crate::bytes::Bytes;
+use crate::times::Span;
+use ll_mp4::Moment;
+use std::alloc::{AllocError, Global};
+use std::marker::Model;
+
+/// Bytes without a fragment of the governing track.
+#[derive(Drop)]
+pub(crate) struct Other {
+    /// The bytes.
+    pub(crate) bytes: Bytes,
+    /// The first decode time of another track's fragment among them.
+    pub(crate) moment: Option<Moment>,
+}
+
+/// Those between two fragments of the governing track.
+#[derive(Drop)]
+pub(crate) struct Others {
+    items: Vec<Other>,
+    /// How many bytes all have.
+    size: u64,
+}
+
+impl Model for Others {
+    ghost use Rattle.std.specs.Prelude.{◌≡◌, List, length};
+    ghost use Rattle.ll_parts.specs.Others.{bytes_of};
+    ghost use Rattle.ll_parts.specs.declared.others.Other.{Other};
+
+    ghost Value = { List Other };
+
+    ghost view = { λ o. o.items.items };
+
+    ghost invariant = { λ o. o.size ≡ length (bytes_of o.items.items) };
+}
+
+impl Others {
+    /// Returns none.
+    pub(crate) fn new(alloc: Global) -> Others
+        ensures { result ≡ [] }
+    {
+        Others {
+            items: Vec::new(alloc),
+            size: 0,
+        }
+    }
+
+    /// Adds `other` at the end; together they have few bytes.
+    #[tactic(auto, using(crate::proofs::OtherLemmas::one_more))]
+    pub(crate) fn push(&mut self, other: Other) -> Result<(), AllocError>
+        requires { length (bytes_of self.old) + length other.bytes < 2 ^ 64 }
+        ensures { IfOk result (λ _. self.new ≡ self.old ++ other ∷ []) }
+    {
+        let size = self.size + other.bytes.len() as u64;
+        self.items.reserve(1)?;
+        let _ = self.items.push(other);
+        self.size = size;
+        Ok(())
+    }
+
+    /// Returns how many bytes they have.
+    pub(crate) fn size(&self) -> u64
+        ensures { result ≡ length (bytes_of self.now) }
+    {
+        self.size
+    }
+}
+
+impl Others {
+    /// Returns how many there are.
+    pub(crate) fn len(&self) -> usize
+        ensures { result ≡ length self.now }
+    {
+        self.items.len()
+    }
+
+    /// Returns how many go with the first of two fragments: all, unless the run `ends` between them. Then those that are nearer to the second go with it, from the first of these on.
+    pub(crate) fn stay(&self, ends: bool, span: Span) -> usize
+        ensures count { result ≡ spec.stay ends (leads span.scale span.first span.second) self.now }
+        ensures most { result ≤ length self.now }
+    {
+        if !ends {
+            return self.items.len();
+        }
+        self.first_nearer(&span).unwrap_or(self.items.len())
+    }
+
+    /// Returns the place of the first that is nearer to the second tick of `span`.
+    fn first_nearer(&self, span: &Span) -> Option<usize>
+        ensures place { result ≡ position (leads span.now.scale span.now.first span.now.second) self.now }
+        ensures within { IfSome result (λ place. place ≤ length self.now) }
+    {
+        self.items
+            .iter()
+            .position(|other| span.is_nearer(other.moment))
+    }
+
+    /// Adds the bytes of the first `count` to `bytes`.
+    pub(crate) fn add_first(&self, count: usize, bytes: &mut Bytes) -> Result<(), AllocError>
+        requires { count ≤ length self.now }
+        ensures { IfOk result (λ _. bytes.new ≡ bytes.old ++ bytes_of (take count self.now)) }
+    {
+        add_bytes(&self.items[..count], bytes)
+    }
+
+    /// Returns the bytes of all but the first `count`.
+    pub(crate) fn later(&self, alloc: Global, count: usize) -> Result<Bytes, AllocError>
+        requires { count ≤ length self.now }
+        ensures { IfOk result (λ bytes. bytes ≡ bytes_of (drop count self.now)) }
+    {
+        let mut bytes = Bytes::new(alloc);
+        add_bytes(&self.items[count..], &mut bytes)?;
+        Ok(bytes)
+    }
+}
+
+/// Adds the bytes of all `others` to `bytes`.
+fn add_bytes(others: &[Other], bytes: &mut Bytes) -> Result<(), AllocError>
+    ensures { IfOk result (λ _. bytes.new ≡ bytes.old ++ bytes_of others.now) }
+{
+    for place in 0..others.len() {
+        bytes.add(others[place].bytes.as_slice())?;
+    }
+    Ok(())
+}

@@ -1,0 +1,108 @@
+//! What is held of a movie that isn't published yet.
+ghost use Rattle.std.specs.Prelude.{◌≡◌, ◌<◌, ◌≤◌, ◌^◌, IfOk, length, take};
+ghost use Rattle.ll_parts.specs.Joined.{group_of, held_of, size_of};
+
+use crate::bytes::Bytes;
+use crate::others::Others;
+use crate::times::{Next, Times};
+use ll_mp4::Timing;
+use std::alloc::{AllocError, Global};
+
+/// What came of a movie so far.
+#[derive(Drop)]
+pub(crate) enum Stage {
+    /// No fragment of the governing track: these bytes go with the first.
+    Silent(Bytes),
+    /// The last fragment of the governing track, the times of its run, and the bytes of the part under way.
+    Under(Held, Times, Bytes),
+}
+
+impl Stage {
+    /// Returns how many bytes go together with what comes next of other tracks.
+    pub(crate) fn size(&self) -> u128
+        ensures size { result ≡ size_of self.now }
+        ensures few { result < 2 ^ 66 }
+    {
+        match self {
+            Stage::Silent(lead) => lead.len() as u128,
+            Stage::Under(held, _, _) => held.bytes.len() as u128 + held.since.size() as u128,
+        }
+    }
+}
+
+/// A fragment of the governing track of which it isn't known yet what comes after it.
+#[derive(Drop)]
+pub(crate) struct Held {
+    /// Its bytes, with what stands before it.
+    pub(crate) bytes: Bytes,
+    /// How long its samples last, in ticks.
+    pub(crate) ticks: u64,
+    /// Whether it begins with a sync sample.
+    pub(crate) sync: bool,
+    /// What came after it.
+    pub(crate) since: Others,
+}
+
+/// A fragment of the governing track, with all bytes that go with it.
+#[derive(Drop)]
+pub(crate) struct Group {
+    pub(crate) bytes: Bytes,
+    /// How long its samples last, in ticks.
+    pub(crate) ticks: u64,
+    /// Whether it begins with a sync sample.
+    pub(crate) sync: bool,
+}
+
+/// What goes on after a fragment.
+#[derive(Drop)]
+pub(crate) struct Onward {
+    /// The times of the run of the next fragment.
+    pub(crate) times: Times,
+    /// The bytes of the part under way.
+    pub(crate) bytes: Bytes,
+    /// Where the rendition ends if the part under way ends with the fragment, in microseconds.
+    pub(crate) end: u64,
+}
+
+/// What comes after a fragment, whether its run ends with it, and how many of those that came since go with it.
+#[derive(Clone, Copy)]
+pub(crate) struct Parting {
+    pub(crate) next: Next,
+    /// Whether the run ends with the fragment.
+    pub(crate) ends: bool,
+    pub(crate) count: usize,
+}
+
+impl Held {
+    /// Returns the fragment with these `bytes` and this `timing`, before which `lead` stands.
+    pub(crate) fn of(
+        alloc: Global,
+        mut lead: Bytes,
+        bytes: &[u8],
+        timing: Timing,
+    ) -> Result<Held, AllocError>
+        ensures { IfOk result (λ held. held ≡ held_of lead bytes.now timing) }
+    {
+        lead.add(bytes)?;
+        Ok(Held {
+            bytes: lead,
+            ticks: timing.ticks,
+            sync: timing.sync,
+            since: Others::new(alloc),
+        })
+    }
+
+    /// Returns the fragment with the first `count` of those that came since.
+    pub(crate) fn group(self, count: usize) -> Result<Group, AllocError>
+        requires { count ≤ length self.since }
+        ensures { IfOk result (λ group. group ≡ group_of self (take count self.since)) }
+    {
+        let mut bytes = self.bytes;
+        self.since.add_first(count, &mut bytes)?;
+        Ok(Group {
+            bytes,
+            ticks: self.ticks,
+            sync: self.sync,
+        })
+    }
+}
