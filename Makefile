@@ -48,6 +48,7 @@ bench: kit
 	@$(HERE)bench/serve.sh
 	@$(HERE)bench/media.sh
 	@$(HERE)bench/rotate.sh
+	@$(HERE)bench/push.sh
 	@$(HERE)bench/soak.sh
 
 demo: kit

@@ -2,9 +2,11 @@
 """What tests/push.sh needs beside the shell: inputs that are made by hand, the messages that they are to become, peers that behave so and so, and a player.
 
 push.py input NAME              writes the input of this name
-push.py messages NAME           writes the messages of that input, for cam and hi
+push.py messages FILE [end]     writes the messages of what this file holds, for cam and hi; with `end`, the rendition's end too
+push.py published FILE          writes the sections and the parts of these messages, as players get them
+push.py fault FILE              writes the fault that ends it, where one does
 push.py slowly NAME             writes the input with a pause before each fragment
-push.py begin NAME COUNT        writes the beginning of the input, up to the end of so many parts
+push.py begin NAME COUNT        writes the beginning of the input, up to the end of so many fragments
 push.py damaged SEED            writes the input `many` with some bytes changed, or cut off
 push.py peer FILE RECORD PLAN   is an origin: writes its port to FILE, and to RECORD what it took. PLAN has for each connection, separated by `/`, what becomes of each
                                 message, separated by `,`: `ok`; `drop` takes it and hangs up; `half` takes some of it and hangs up; `close` hangs up before it; else the answer
@@ -22,37 +24,8 @@ import sys
 import time
 import urllib.request
 
-
-def box(kind, *contents):
-    body = b''.join(contents)
-    return struct.pack('>I4s', 8 + len(body), kind) + body
-
-
-def numbers(*values):
-    return struct.pack('>%dI' % len(values), *values)
-
-
-def track(number, scale):
-    return box(b'trak', box(b'tkhd', numbers(7, 0, 0, number)), box(b'mdia', box(b'mdhd', numbers(0, 0, 0, scale))))
-
-
-def movie(*tracks):
-    return box(b'moov', box(b'mvhd', numbers(0)), *tracks, box(b'mvex', box(b'trex', numbers(0, 1, 1, 0, 0, 0))))
-
-
-def moof(durations, flags=0, number=1):
-    run = box(b'trun', numbers(0x104, len(durations), flags, *durations))
-    return box(b'moof', box(b'mfhd', numbers(0, 1)), box(b'traf', box(b'tfhd', numbers(0, number)), run))
-
-
-PLAIN = 0x10000
-FTYP = box(b'ftyp', b'cmfc', numbers(0))
-MOOV = movie(track(1, 1000))
-MDAT = box(b'mdat', b'\n\0m\xff')
-
-
-def fragment(durations, flags=0):
-    return moof(durations, flags) + MDAT
+import push_model
+from push_made import FTYP, MDAT, MOOV, PLAIN, box, fragment, moof, movie, numbers, track
 
 
 # A movie of 1,000 ticks a second, and then fragments: the ticks of their samples, and whether each begins with a sync sample.
@@ -64,49 +37,78 @@ STREAMS = {
     'nothing': [],
 }
 
-# Inputs that are refused after the movie and a fragment, or at once.
+# Sound of 48,000 ticks a second and a picture of 12,800, which governs.
+BOTH = movie(track(1, 48000, b'soun'), track(2, 12800, b'vide'), defaults=(1, 2))
+
+
+def picture(tick, sync):
+    return moof([512], 0 if sync else PLAIN, 2, tick) + box(b'mdat', b'picture at %d' % tick)
+
+
+def sound(tick):
+    return moof([1024, 1024], 0, 1, tick) + box(b'mdat', b'sound at %d' % tick)
+
+
+def both(ticks, jump=0):
+    """A picture of 25 frames a second from these ticks on, with a sync sample each second, and sound beside it."""
+    return [[picture(tick, n % 25 == 0), sound(tick * 48000 // 12800 + jump)] for n, tick in enumerate(ticks)]
+
+
+def whole(fragments, first=BOTH):
+    return FTYP + first + b''.join(b''.join(each) for each in fragments)
+
+
 BEFORE = FTYP + MOOV + fragment([500])
-REFUSED = {
+INPUTS = {
+    # inputs that are refused after the movie and a fragment, or at once
     'bad_box': BEFORE + numbers(7) + b'free',
     'endless_box': BEFORE + numbers(0) + b'mdat',
     'large_box': BEFORE + numbers(1 << 21) + b'free',
     'empty': b'',
     'no_more_than_its_type': FTYP,
     'no_movie': FTYP + fragment([500]),
-    'second_movie': BEFORE + MOOV,
     'no_track': FTYP + movie(),
-    'two_tracks': FTYP + movie(track(1, 1000), track(2, 1000)),
     'no_scale': FTYP + movie(track(1, 0)),
     'other_track': BEFORE + moof([500], 0, 2) + MDAT,
-    'long': BEFORE + fragment([501]),
+    'long': FTYP + MOOV + fragment([200, 301]),
     'two_moofs': BEFORE + moof([100]) + moof([100]) + MDAT,
-    'no_moof': BEFORE + MDAT,
     'cut': BEFORE + fragment([500])[:-1],
     'no_mdat': BEFORE + moof([500]),
-    'empty_part': BEFORE + fragment([0]),
+    # and such that aren't
+    'second_movie': BEFORE + FTYP + MOOV + fragment([400]),
+    'two_tracks': FTYP + movie(track(1, 1000), track(2, 1000)) + fragment([500]),
+    'samples_alone': BEFORE + MDAT + fragment([400]),
+    'empty_fragment': BEFORE + fragment([0]) + fragment([400]),
+    'sound_and_picture': whole(both(range(0, 512 * 60, 512))),
+    'gap': whole(both(range(0, 512 * 30, 512)) + both(range(512 * 130, 512 * 160, 512))),
+    'times_go_back': whole(both(range(512 * 50, 512 * 80, 512)) + both(range(0, 512 * 30, 512))),
+    'late_times': whole(both(range((1 << 32) - 512 * 40, (1 << 32) - 512, 512), -((1 << 32) * 48000 // 12800) + (1 << 31))),
+    'indexes': FTYP + MOOV + box(b'styp', b'cmfs') + box(b'sidx', b'x' * 32) + fragment([500]) + box(b'mfra', b'x' * 3000) + fragment([500]),
 }
 
 
 def pieces(name):
-    """The initialization section and the parts of a stream."""
+    """The initialization section and the fragments of a stream."""
     return [FTYP + MOOV] + [fragment(ticks, 0 if sync else PLAIN) for ticks, sync in STREAMS[name]]
 
 
 def input_of(name):
-    return REFUSED[name] if name in REFUSED else b''.join(pieces(name)) + box(b'mfra', b'x')
+    return INPUTS[name] if name in INPUTS else b''.join(pieces(name)) + box(b'mfra', b'x')
 
 
-def messages(name):
-    """Parts end a segment where it has 2 seconds or more."""
-    section, *parts = pieces(name)
-    written = b'cam init hi %d\n%s\n' % (len(section), section)
-    ticks = 0
-    for part, (durations, sync) in zip(parts, STREAMS[name]):
-        ticks += sum(durations)
-        flags = ('i' if sync else '') + ('f' if ticks >= 2000 else '')
-        written += b'cam part hi %d000 %s %d\n%s\n' % (sum(durations), (flags or '-').encode(), len(part), part)
-        ticks = 0 if ticks >= 2000 else ticks
-    return written + b'cam end hi\n'
+LENGTHS = push_model.Lengths(part=500000, segment=2000000, most=3000000)
+
+
+def sent(name, ends=False):
+    """The messages of what a file holds, and the fault that ends it."""
+    with open(name, 'rb') as file:
+        return push_model.messages(file.read(), LENGTHS, ends=ends)
+
+
+def published(name):
+    """The sections and parts of its messages. A player gets a section that is sent again after a break again."""
+    bodies = [message.partition(b'\n')[2][:-1] for message in sent(name)[0]]
+    return b''.join(bodies)
 
 
 def damaged(seed):
@@ -217,7 +219,11 @@ command, *words = sys.argv[1:]
 if command == 'input':
     sys.stdout.buffer.write(input_of(*words))
 elif command == 'messages':
-    sys.stdout.buffer.write(messages(*words))
+    sys.stdout.buffer.write(b''.join(sent(words[0], words[1:] == ['end'])[0]))
+elif command == 'published':
+    sys.stdout.buffer.write(published(*words))
+elif command == 'fault':
+    print(sent(*words)[1] or '')
 elif command == 'slowly':
     try:
         slowly(*words)

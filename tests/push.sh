@@ -9,9 +9,11 @@ make() {
     python3 "$here/push.py" "$@"
 }
 
-# push ADDRESS [CHANNEL]: the program publishes standard input.
+# push ADDRESS [CHANNEL [WORD..]]: the program publishes standard input, and ends the rendition, or what other words say.
 push() {
-    timeout 60 "$program" push "$1" "${2-cam}" hi part=500000 segment=2000000 >"$room/stdout" 2>"$room/stderr"
+    local words=("${@:3}")
+    [ "$#" -ge 3 ] || words=(end)
+    timeout 60 "$program" push "$1" "${2-cam}" hi part=500000 segment=2000000 "${words[@]}" >"$room/stdout" 2>"$room/stderr"
 }
 
 # pushes STATUS FAULT ADDRESS: it does so and ends with this status, and the last line that it tells is this fault, where there is one.
@@ -32,9 +34,14 @@ to_server() {
     pushes "$1" "$2" "127.0.0.1:$publish_port" <"$room/input"
 }
 
-# What the server then has are the input's bytes.
+# What the server then has are the bytes of the input's messages.
 is_served_whole() {
-    to_server 0 '' "$1" && make play "$port" cam "$room/input"
+    to_server 0 '' "$1" && plays_input
+}
+
+# plays_input [CHANNEL]: players get what was published of the input.
+plays_input() {
+    make published "$room/input" >"$room/published" && make play "$port" "${1-cam}" "$room/published"
 }
 
 # peer PLAN: starts an origin that behaves so (tests/push.py), at `peer`.
@@ -52,13 +59,12 @@ peer() {
 
 # to_peer PLAN NAME STATUS FAULT: an input goes to such an origin.
 to_peer() {
-    peer "$1" || return 1
-    make input "$2" | pushes "$3" "$4" "$peer"
+    peer "$1" && make input "$2" >"$room/input" && pushes "$3" "$4" "$peer" <"$room/input"
 }
 
 # took NAME: what the origin took are the messages of an input.
 took() {
-    make messages "$1" | cmp - "$room/taken"
+    make input "$1" >"$room/input" && make messages "$room/input" end | cmp - "$room/taken"
 }
 
 sends_its_messages() {
@@ -88,7 +94,7 @@ has_taken() {
 took_first() {
     wait "${servers[-1]}"
     servers=()
-    make messages "$2" >"$room/all"
+    make input "$2" >"$room/input" && make messages "$room/input" end >"$room/all"
     head -c "$(wc -c <"$room/taken")" "$room/all" | cmp - "$room/taken" && has_taken "$1"
 }
 
@@ -130,17 +136,19 @@ tells_how_it_goes() {
         [ "$(tail -n +2 "$room/plain")" = 'llhls: no 4 TooLong' ] || { cat "$room/plain"; return 1; }
 }
 
-# A damaged input is published whole, or ends in a fault that has a name.
+# A damaged input is published as far as it goes, and ends in its fault.
 damaged() {
-    local status
+    local status fault
     make damaged "$1" >"$room/input"
+    fault=$(make fault "$room/input")
     push "127.0.0.1:$publish_port" "c$1" <"$room/input"
     status=$?
-    if [ "$status" = 0 ]; then
-        make play "$port" "c$1" "$room/input"
+    if [ "$status" = $((${#fault} ? 3 : 0)) ] && [ "$(<"$room/stderr")" = "${fault:+llhls: $fault}" ]; then
+        plays_input "c$1"
     else
-        [ "$status" = 3 ] && grep -qxE 'llhls: (BadBox|TooLarge|NoMoov|SecondMoov|(Missing|Several) [a-z]{4}|NoTimeScale|OtherTrack|TooLong|Cut|no 3 BadDuration)' "$room/stderr"
-    fi || { echo "status $status: $(<"$room/stderr")"; return 1; }
+        echo "status $status, and the fault is '$fault': $(<"$room/stderr")"
+        return 1
+    fi
 }
 
 all_damaged() {
@@ -173,13 +181,14 @@ lists() {
     [ "$words" = "$*" ] || { echo "the playlist has $words"; return 1; }
 }
 
-# begin ADDRESS COUNT: starts a push, `pushing`. Its input is so many parts of `many` and the next one but for its last byte, and then neither goes on nor ends.
+# begin ADDRESS COUNT: starts a push, `pushing`, which publishes so many parts of `many`: a part is known to be whole once two more fragments have come. Of the next one its input has all but the last byte, and
+# then neither goes on nor ends.
 begin() {
     local pipe
     rm -f "$room/pipe"
     mkfifo "$room/pipe" || return 1
     exec {pipe}<>"$room/pipe"
-    make begin many "$(($2 + 1))" | head -c -1 >&"$pipe"
+    make begin many "$(($2 + 3))" | head -c -1 >&"$pipe"
     # (what a script starts in the background ignores SIGINT otherwise)
     env --default-signal=INT "$program" push "$1" cam hi part=500000 segment=2000000 <&"$pipe" >"$room/stdout" 2>"$room/stderr" &
     pushing=$!
@@ -261,7 +270,24 @@ plays_both() {
 # A further push after one whose input has ended is refused, and nothing changes.
 comes_after_end() {
     to_server 0 '' two && lists init0 s0.{0,1} s0=1.000000 ENDLIST && again 3 'no 2 Ended' init0 s0.{0,1} s0=1.000000 ENDLIST &&
-        make input two >"$room/input" && make play "$port" cam "$room/input"
+        make input two >"$room/input" && plays_input
+}
+
+# encoder_comes_so NAME: what an encoder wrote comes to an origin as its messages, and ends as the input does.
+encoder_comes_so() {
+    local fault status
+    cp "$here/push/$1.mp4" "$room/input"
+    fault=$(make fault "$room/input")
+    peer "$(printf 'ok%.0s,' {1..100})ok" || return 1
+    push "$peer" <"$room/input"
+    status=$?
+    [ "$status" = $((${#fault} ? 3 : 0)) ] && [ "$(<"$room/stderr")" = "${fault:+llhls: $fault}" ] && make messages "$room/input" end | cmp - "$room/taken"
+}
+
+# Without the word `end` nothing is ended, and the next push begins a segment.
+ends_nothing() {
+    serve "$program" 'workers 4' "$cam" && make input two >"$room/input" && push "127.0.0.1:$publish_port" cam most=3000000 <"$room/input" &&
+        lists init0 s0.{0,1} s0=1.000000 then s1.0 && again 0 '' init0 s0.{0,1} s0=1.000000 s1.{0..3} s1=2.000000 s2.{0..3} s2=2.000000 s3.{0,1} s3=1.000000 ENDLIST
 }
 
 # encoder: 9 seconds of a test pattern, as docs/OPERATING.md has it.
@@ -274,7 +300,7 @@ encoder() {
 encoder_is_served() {
     serve "$program" 'workers 4' "$cam" || return 1
     encoder | tee "$room/input" | pushes 0 '' "127.0.0.1:$publish_port" || return 1
-    make play "$port" cam "$room/input" || return 1
+    plays_input || return 1
     ask /cam/hi/live.m3u8 | tr -d '\r' >"$room/playlist"
     [ "$(grep -c '^#EXTINF:2.000000,$' "$room/playlist")" = 4 ] && [ "$(grep -c '^#EXT-X-PART:DURATION=0.500000,' "$room/playlist")" = 18 ] ||
         { cat "$room/playlist"; return 1; }
@@ -283,6 +309,12 @@ encoder_is_served() {
 for name in one two many short; do
     try is_served_whole "$name"
     try sends_its_messages "$name" "$(printf 'ok%.0s,' {1..32})ok"
+done
+for name in second_movie two_tracks samples_alone empty_fragment sound_and_picture gap times_go_back late_times indexes; do
+    try sends_its_messages "$name" "$(printf 'ok%.0s,' {1..32})ok"
+done
+for name in cut vfr lost restart; do
+    try encoder_comes_so "$name"
 done
 while read -r name fault; do
     try to_server 3 "$fault" "$name"
@@ -293,17 +325,13 @@ large_box TooLarge
 empty NoMoov
 no_more_than_its_type NoMoov
 no_movie NoMoov
-second_movie SecondMoov
 no_track Missing trak
-two_tracks Several trak
 no_scale NoTimeScale
 other_track OtherTrack
 long TooLong
 two_moofs Several moof
-no_moof Missing moof
 cut Cut
 no_mdat Missing mdat
-empty_part no 3 BadDuration
 END
 try to_server 3 'no 4 TooLong' two "${cam/ part=1000000 / part=400000 }"
 try to_server 3 'no 14 UnknownChannel' one "${cam/ cam / other }"
@@ -353,7 +381,7 @@ for name in TERM INT; do
     try stopped "$name" "$cam" 6 "${six[@]}"
     try sends_no_end "$name"
 done
-for name in goes_on_in_segment fills_segment begins_anew_amid begins_anew_between comes_after_end; do
+for name in goes_on_in_segment fills_segment begins_anew_amid begins_anew_between comes_after_end ends_nothing; do
     try "$name"
 done
 
@@ -375,6 +403,11 @@ localhost:1 cam hi part=1 segment=1
 127.0.0.1:1 cam hi part=1s segment=1
 127.0.0.1:1 cam hi part=1 segment=-1
 127.0.0.1:1 cam hi part=1 segment=18446744073709551616
+127.0.0.1:1 cam hi part=1 segment=1 most=
+127.0.0.1:1 cam hi part=2 segment=2 most=1
+127.0.0.1:1 cam hi part=1 segment=1 end most=1
+127.0.0.1:1 cam hi part=1 segment=1 end end
+127.0.0.1:1 cam hi part=1 segment=1 most=1 end more
 END
 
 if command -v ffmpeg >/dev/null; then

@@ -1,0 +1,807 @@
+#!/usr/bin/env python3
+"""What `llhls push` sends of an encoder's output, written a second time: tests/push.py compares the program with it.
+
+    elements(data)                     the units of the stream, read one by one; the fault that ends it, where one does
+    joined(elements, lengths, end)     the pieces: initialization sections, parts, breaks; and the fault
+    sent(part)                         the bytes of a part as they are sent
+
+Numbers are natural numbers: `//` cuts, `minus` is 0 where it would be negative. It reads the whole stream at once, and recurses over its fragments, where the program takes a unit at a time.
+"""
+from typing import NamedTuple, Optional
+
+LIMIT = 1048576          # the most bytes of an initialization section or a part
+SECOND = 1000000         # microseconds
+TOP = (1 << 64) - 1
+
+
+class Refused(Exception):
+    """Err fault"""
+
+    def __init__(self, fault):
+        self.fault = fault
+
+
+def minus(a, b):
+    return a - b if a > b else 0
+
+
+def number(count, data, place):
+    """the number of so many bytes at a place; BadBox where bytes of it are missing"""
+    if len(data) < place + count:
+        raise Refused('BadBox')
+    return int.from_bytes(data[place:place + count], 'big')
+
+
+# =====================================================================================================================
+# Boxes (ISO/IEC 14496-12, 4.2)
+
+class Box(NamedTuple):
+    kind: bytes
+    head: int            # the bytes of its header: 8 or 16
+    data: bytes          # all of it, with its header
+
+    @property
+    def content(self):
+        return self.data[self.head:]
+
+
+class Head(NamedTuple):
+    kind: bytes
+    head: int
+    size: int
+
+
+def header_at(data, at):
+    """the header at a place: None where bytes of it are missing; BadBox where the size is less than the header's (0 too)"""
+    if len(data) < at + 8:
+        return None
+    size, kind, head = number(4, data, at), data[at + 4:at + 8], 8
+    if size == 1:
+        if len(data) < at + 16:
+            return None
+        size, head = number(8, data, at + 8), 16
+    if size < head:
+        raise Refused('BadBox')
+    return Head(kind, head, size)
+
+
+def inside(content):
+    """the boxes of a box's content, where nothing but boxes may stand, and whether what is left is none"""
+    at, found = 0, []
+    while at < len(content):
+        try:
+            h = header_at(content, at)
+        except Refused:
+            return found, True
+        if h is None or len(content) < at + h.size:
+            return found, True
+        found.append(Box(h.kind, h.head, content[at:at + h.size]))
+        at += h.size
+    return found, False
+
+
+def every(kind, content):
+    """the contents of the boxes of a type; BadBox where anything else than boxes stands there"""
+    found, broken = inside(content)
+    if broken:
+        raise Refused('BadBox')
+    return [box.content for box in found if box.kind == kind]
+
+
+def only(kind, content):
+    """the content of the only box of a type; that there are several is told before BadBox"""
+    found, broken = inside(content)
+    these = [box.content for box in found if box.kind == kind]
+    if len(these) > 1:
+        raise Refused('Several ' + kind.decode('latin1'))
+    if broken:
+        raise Refused('BadBox')
+    if not these:
+        raise Refused('Missing ' + kind.decode('latin1'))
+    return these[0]
+
+
+# =====================================================================================================================
+# 1. Elements
+
+# ---- units: the boxes up to the end of the first `moov` or `mdat`
+
+class Open(NamedTuple):               # no unit's end is there
+    left: tuple                       # the whole boxes that are
+    torn: bool                        # whether bytes stand after them
+
+
+class Closed(NamedTuple):
+    boxes: tuple
+    end: int                          # where the next unit begins
+
+
+def unit_at(data, at):
+    """the unit that begins at a place. An `mfra` before its first box belongs to none, and counts nothing, be it whole or torn"""
+    boxes, size = [], 0
+    while at < len(data):
+        h = header_at(data, at)
+        if h is None:
+            return Open(tuple(boxes), True)
+        kept = boxes or h.kind != b'mfra'
+        size += h.size if kept else 0
+        if size > LIMIT:
+            raise Refused('TooLarge')
+        if len(data) < at + h.size:
+            return Open(tuple(boxes), True)
+        if kept:
+            boxes.append(Box(h.kind, h.head, data[at:at + h.size]))
+        at += h.size
+        if h.kind in (b'moov', b'mdat'):
+            return Closed(tuple(boxes), at)
+    return Open(tuple(boxes), False)
+
+
+def bytes_of(boxes):
+    return b''.join(box.data for box in boxes)
+
+
+# ---- movies
+
+class Track(NamedTuple):
+    id: int
+    scale: int           # ticks of a second
+    video: bool          # its handler is `vide`
+    duration: Optional[int]    # a sample's, and a sample's flags, where fragments tell none: the governing track's alone
+    flags: Optional[int]
+
+
+def timed_field(content):
+    """the field after a version, flags and two times, which have 32 bits in version 0 and 64 in version 1"""
+    version = number(4, content, 0) >> 24
+    if version > 1:
+        raise Refused('BadBox')
+    return number(4, content, 20 if version else 12)
+
+
+def track_in(trak):
+    track = timed_field(only(b'tkhd', trak))
+    mdia = only(b'mdia', trak)
+    scale = timed_field(only(b'mdhd', mdia))
+    if scale == 0:
+        raise Refused('NoTimeScale')
+    handlers = every(b'hdlr', mdia)
+    video = bool(handlers) and number(4, handlers[0], 8) == int.from_bytes(b'vide', 'big')
+    return Track(track, scale, video, None, None)
+
+
+def with_defaults(moov, track):
+    """a track with the defaults that its movie has for it"""
+    for trex in every(b'trex', only(b'mvex', moov)):
+        of_track, duration, flags = number(4, trex, 4), number(4, trex, 12), number(4, trex, 20)
+        if of_track == track.id:
+            return track._replace(duration=duration, flags=flags)
+    raise Refused('Missing trex')
+
+
+def tracks_in(moov):
+    traks = every(b'trak', moov)
+    if not traks:
+        raise Refused('Missing trak')
+    tracks = tuple(track_in(trak) for trak in traks)
+    governing = governing_of(tracks)
+    return tuple(with_defaults(moov, track) if track is governing else track for track in tracks)
+
+
+def track_of(tracks, number_of):
+    """the first track of this ID, or None"""
+    for track in tracks:
+        if track.id == number_of:
+            return track
+    return None
+
+
+def governing_of(tracks):
+    """the first `vide` track, else the first"""
+    for track in tracks:
+        if track.video:
+            return track
+    return tracks[0]
+
+
+# ---- fragments (8.8)
+
+def has(flags, flag):
+    return flags & flag != 0
+
+
+def room(flags, flag, size):
+    return size if has(flags, flag) else 0
+
+
+def time_in(traf):
+    """the decode time of a `tfdt`, or None without one"""
+    tfdts = every(b'tfdt', traf)
+    if len(tfdts) > 1:
+        raise Refused('Several tfdt')
+    if not tfdts:
+        return None
+    version = number(1, tfdts[0], 0)
+    if version > 1:
+        raise Refused('BadBox')
+    return number(8 if version else 4, tfdts[0], 4)
+
+
+def samples_in(track, traf):
+    """the ticks of all samples, and the flags of the first"""
+    tfhd = only(b'tfhd', traf)
+    fl = number(4, tfhd, 0)
+    at = 8 + room(fl, 0x01, 8) + room(fl, 0x02, 4)
+    duration = number(4, tfhd, at) if has(fl, 0x08) else track.duration
+    at += room(fl, 0x08, 4) + room(fl, 0x10, 4)
+    default = number(4, tfhd, at) if has(fl, 0x20) else track.flags
+    ticks, first = 0, None
+    for trun in every(b'trun', traf):
+        rf, count = number(4, trun, 0), number(4, trun, 4)
+        place = 8 + room(rf, 0x01, 4)
+        told = number(4, trun, place) if has(rf, 0x04) else 0
+        place += room(rf, 0x04, 4)
+        width = room(rf, 0x100, 4) + room(rf, 0x200, 4) + room(rf, 0x400, 4) + room(rf, 0x800, 4)
+        if len(trun) < place + count * width:
+            raise Refused('BadBox')
+        if has(rf, 0x100):
+            ticks += sum(number(4, trun, place + n * width) for n in range(count))
+        else:
+            ticks += count * duration
+        if first is None and count:
+            flags_at = place + room(rf, 0x100, 4) + room(rf, 0x200, 4)
+            first = told if has(rf, 0x04) else number(4, trun, flags_at) if has(rf, 0x400) else default
+    return ticks, default if first is None else first
+
+
+def is_sync(flags):
+    return not has(flags, 0x00010000)
+
+
+# ---- what a unit is
+
+class Movie(NamedTuple):
+    data: bytes
+    tracks: tuple
+
+    @property
+    def governing(self):
+        return governing_of(self.tracks)
+
+
+class Heard(NamedTuple):              # of the governing track
+    time: Optional[int]               # its `tfdt`
+    ticks: int                        # by its samples
+    sync: bool                        # of its first sample
+
+
+class When(NamedTuple):
+    time: int
+    scale: int
+
+
+class Fragment(NamedTuple):
+    data: bytes
+    size: int
+    heard: Optional[Heard]            # None: without the governing track
+    when: Optional[When]              # the first decode time in it of any track
+
+
+class Lone(NamedTuple):               # samples without a fragment before them: more of the fragment before
+    data: bytes
+    size: int
+
+
+class Fault(NamedTuple):              # ends the stream
+    fault: str
+
+
+def fragment_of(movie, data, size, moof):
+    heard, when = None, None
+    trafs = every(b'traf', moof)
+    if not trafs:
+        raise Refused('Missing traf')
+    for traf in trafs:
+        track = track_of(movie.tracks, number(4, only(b'tfhd', traf), 4))
+        if track is None:
+            raise Refused('OtherTrack')
+        time = time_in(traf)
+        if when is None and time is not None:
+            when = When(time, track.scale)
+        if track.id == movie.governing.id:
+            if heard is not None:
+                raise Refused('Several traf')
+            ticks, flags = samples_in(track, traf)
+            heard = Heard(time, ticks, is_sync(flags))
+    return Fragment(data, size, heard, when)
+
+
+def element_of(movie, boxes):
+    """what a unit is, after this movie, or None before any"""
+    data, last = bytes_of(boxes), boxes[-1]
+    moofs = [box for box in boxes if box.kind == b'moof']
+    try:
+        if last.kind == b'moov':
+            if moofs:
+                return Fault('Missing mdat' if movie else 'NoMoov')
+            return Movie(data, tracks_in(last.content))
+        if movie is None:
+            return Fault('NoMoov')
+        size = len(data)
+        if not moofs:
+            return Lone(data, size)
+        if len(moofs) > 1:
+            return Fault('Several moof')
+        return fragment_of(movie, data, size, moofs[0].content)
+    except Refused as refused:
+        return Fault(refused.fault)
+
+
+def ending(left):
+    """what is wrong where the input ends and these boxes are left: a `moof` without its `mdat`, or a box that is cut"""
+    if any(box.kind == b'moof' for box in left.left):
+        return [Fault('Cut' if left.torn else 'Missing mdat')]
+    return [Fault('Cut')] if left.torn else []
+
+
+def elements(data):
+    """all elements of a stream, of which the last may be a fault. (A loop over `unit_at` and `element_of`: the movie is all that is kept.)"""
+    movie, at, found = None, 0, []
+    while True:
+        try:
+            unit = unit_at(data, at)
+        except Refused as refused:
+            return found + [Fault(refused.fault)]
+        if isinstance(unit, Open):
+            return found + ending(unit)
+        element = element_of(movie, unit.boxes)
+        found.append(element)
+        if isinstance(element, Fault):
+            return found
+        if isinstance(element, Movie):
+            movie = element
+        at = unit.end
+
+
+# =====================================================================================================================
+# 2. Joined
+
+class Lengths(NamedTuple):
+    part: int
+    segment: int
+    most: int
+
+
+class Shift(NamedTuple):              # how the times of a run are moved
+    tracks: tuple                     # (ID, scale) of each track
+    scale: int                        # of the governing one
+    base: int                         # its tick where the run begins
+    end: int                          # where the rendition ends then, in microseconds
+
+
+class Init(NamedTuple):
+    data: bytes
+
+
+class Part(NamedTuple):
+    units: tuple                      # as they came, without what is left out
+    duration: int
+    independent: bool
+    finishes: bool
+    shift: Shift
+
+
+class Break(NamedTuple):
+    since: Optional[int]              # how far the program's time is from its origin, in microseconds rounded up; None: times go back
+
+
+class Start(NamedTuple):              # a movie begins
+    pass
+
+
+class Group(NamedTuple):              # a governing fragment with those that go with it
+    heard: Heard
+    time: int                         # its decode time; without `tfdt` where the one before ended
+    units: tuple
+    size: int
+
+
+class Over(NamedTuple):
+    pass
+
+
+class Back(NamedTuple):
+    tick: int
+
+
+class At(NamedTuple):
+    tick: int
+
+
+class Run(NamedTuple):
+    base: int
+    position: int
+    start: int                        # of the part under way, in microseconds of the run
+    units: tuple                      # its units; none without one
+    size: int
+    sync: bool                        # of its first governing fragment
+    segment: int                      # where its segment begins
+    before: int
+    end: int                          # where the rendition ends as the run begins
+    origin: int                       # the tick from which the program's time is counted
+
+
+def run_from(tick, end, origin):
+    return Run(tick, tick, 0, (), 0, False, 0, 0, end, origin)
+
+
+def at_tick(scale, run, tick):
+    return minus(tick, run.base) * SECOND // scale
+
+
+def goes_back(lengths, scale, position, time):
+    return lengths.part * scale < minus(position, time) * SECOND
+
+
+def next_at(lengths, scale, position, time):
+    return Back(time) if goes_back(lengths, scale, position, time) else At(max(position, time))
+
+
+def said_to(scale, run, ticks, next):
+    tick = next.tick if isinstance(next, At) else run.position + ticks
+    return minus(at_tick(scale, run, tick), at_tick(scale, run, run.position))
+
+
+def or_part(lengths, before):
+    return lengths.part if before == 0 else min(before, lengths.part)
+
+
+def lasts_of(lengths, scale, run, ticks, said):
+    if said <= lengths.part:
+        return said
+    return min(or_part(lengths, run.before), minus(at_tick(scale, run, run.position + ticks), at_tick(scale, run, run.position)))
+
+
+def ends_segment(lengths, so_far, lasts, sync):
+    return lengths.segment <= so_far and sync or lengths.most < so_far + lasts
+
+
+def cut_before(lengths, run, begin, lasts, group):
+    """'joins', 'parts' or 'segments'"""
+    if not (run.size > 0 and (run.start < begin or LIMIT < run.size + group.size)):
+        return 'joins'
+    if ends_segment(lengths, minus(begin, run.segment), lasts, group.heard.sync):
+        return 'segments'
+    if lengths.part < minus(begin + lasts, run.start) or LIMIT < run.size + group.size:
+        return 'parts'
+    return 'joins'
+
+
+def shift_of(movie, run):
+    return Shift(tuple((track.id, track.scale) for track in movie.tracks), movie.governing.scale, run.base, run.end)
+
+
+def part_of(movie, run, duration, last):
+    return Part(run.units, duration, run.sync, last, shift_of(movie, run))
+
+
+def last_part(movie, run, end):
+    return part_of(movie, run, max(1, minus(end, run.start)), True)
+
+
+def rounded_up(a, b):
+    return (a + b - 1) // b
+
+
+class Step(NamedTuple):
+    pieces: tuple
+    run: Run
+
+
+def joined_to(cut, run, begin, lasts, group):
+    if cut == 'joins':
+        return run._replace(units=run.units + group.units, size=run.size + group.size, sync=run.sync if run.units else group.heard.sync, before=lasts)
+    segment = begin if cut == 'segments' else run.segment
+    return run._replace(start=begin, units=group.units, size=group.size, sync=group.heard.sync, segment=segment, before=lasts)
+
+
+def judged(lengths, movie, run, group, next):
+    """what a group at the run's position comes to, of which it is known what comes after it, and the run after it"""
+    scale = movie.governing.scale
+    said = said_to(scale, run, group.heard.ticks, next)
+    begin = at_tick(scale, run, run.position)
+    lasts = lasts_of(lengths, scale, run, group.heard.ticks, said)
+    cut = cut_before(lengths, run, begin, lasts, group)
+    before = () if cut == 'joins' else (part_of(movie, run, max(1, minus(begin, run.start)), cut == 'segments'),)
+    run = joined_to(cut, run, begin, lasts, group)
+    end = begin + lasts
+    if isinstance(next, At) and said <= lengths.part:
+        return Step(before, run._replace(position=next.tick))
+    last = last_part(movie, run, end)
+    if isinstance(next, Over):
+        return Step(before + (last,), run)
+    stands = run.end + run.start + last.duration
+    if isinstance(next, Back):
+        return Step(before + (last, Break(None), Init(movie.data)), run_from(next.tick, stands, next.tick))
+    since = rounded_up(minus(next.tick, run.origin) * SECOND, scale)
+    return Step(before + (last, Break(since), Init(movie.data)), run_from(next.tick, stands, run.origin))
+
+
+def jumps(lengths, scale, run, ticks, next):
+    """whether a run ends between a fragment and the next one of its movie"""
+    return isinstance(next, Back) or isinstance(next, At) and said_to(scale, run, ticks, next) > lengths.part
+
+
+# ---- which fragments of other tracks go with which
+
+def nearer(scale, position, tick, element):
+    """whether what came between two fragments belongs to the second, which begins at `tick`; what has no time doesn't"""
+    when = element.when if isinstance(element, Fragment) else None
+    if when is None:
+        return False
+    at = when.time * scale
+    return abs(at - tick * when.scale) < abs(at - position * when.scale)
+
+
+def shared(scale, position, tick, between):
+    """those that stay with the first, and from the first one that is nearer to the second on those that lead it"""
+    for n, element in enumerate(between):
+        if nearer(scale, position, tick, element):
+            return between[:n], between[n:]
+    return between, ()
+
+
+def time_of(run, before, heard):
+    """a fragment's decode time: as it is told, or where the one before it ends by its samples, or 0"""
+    if heard.time is not None:
+        return heard.time
+    return run.position + before.ticks if before is not None else 0
+
+
+def group_of(time, lead, fragment, followers):
+    units = tuple(lead) + (fragment,) + tuple(followers)
+    return Group(fragment.heard, time, tuple(u.data for u in units), sum(u.size for u in units))
+
+
+def sizes(units):
+    return sum(u.size for u in units)
+
+
+# ---- the whole list
+
+def movies_of(found):
+    """(movie, its elements) for each movie, and the fault"""
+    movies, fault = [], None
+    for element in found:
+        if isinstance(element, Movie):
+            movies.append((element, []))
+        elif isinstance(element, Fault):
+            fault = element.fault
+        else:
+            movies[-1][1].append(element)
+    return movies, fault
+
+
+def is_governing(element):
+    return isinstance(element, Fragment) and element.heard is not None
+
+
+def until_governing(found):
+    for n, element in enumerate(found):
+        if is_governing(element):
+            return found[:n], found[n:]
+    return found, []
+
+
+def fitting(size, units):
+    """as many of these, from the front, as fit with so many bytes"""
+    for n, unit in enumerate(units):
+        size += unit.size
+        if size > LIMIT:
+            return units[:n], True
+    return units, False
+
+
+def joined_movie(lengths, movie, end, found):
+    """(pieces, the rendition's end, fault) of a movie's elements"""
+    lead, rest = until_governing(found)
+    lead, full = fitting(0, lead)
+    if full:
+        return (), end, 'TooLarge'
+    if not rest:
+        return (), end, None
+    fault = refused(lengths, movie, True, lead, rest[0])
+    if fault:
+        return (), end, fault
+    time = time_of(None, None, rest[0].heard)
+    return said_of(lengths, movie, run_from(time, end, time), tuple(lead), time, rest)
+
+
+def refused(lengths, movie, begins, lead, fragment):
+    """why a fragment that begins a run or doesn't, led by these, can't be published"""
+    if begins and lengths.part < fragment.heard.ticks * SECOND // movie.governing.scale:
+        return 'TooLong'
+    return 'TooLarge' if LIMIT < sizes(lead) + fragment.size else None
+
+
+def said_of(lengths, movie, run, lead, time, found):
+    """the same, where the first is a governing fragment at the run's position, led by these. (Recursion; a loop for Python's sake.)"""
+    scale, pieces = movie.governing.scale, ()
+    while True:
+        fragment, (between, rest) = found[0], until_governing(found[1:])
+        between, full = fitting(sizes(lead) + fragment.size, between)
+        fault, next, mine, theirs = 'TooLarge' if full else None, Over(), between, ()
+        if rest and not full:
+            later = time_of(run, fragment.heard, rest[0].heard)
+            next = next_at(lengths, scale, run.position, later)
+            begins = jumps(lengths, scale, run, fragment.heard.ticks, next)
+            if begins:
+                mine, theirs = shared(scale, run.position, next.tick, between)
+            fault = refused(lengths, movie, begins, theirs, rest[0])
+            if fault:
+                next, mine = Over(), between
+        step = judged(lengths, movie, run, group_of(time, lead, fragment, mine), next)
+        pieces += step.pieces
+        if isinstance(next, Over):
+            return pieces, ended_at(step), fault
+        run, lead, time, found = step.run, tuple(theirs), later, rest
+
+
+def ended_at(step):
+    """where the rendition ends after the last part of a run"""
+    last = step.pieces[-1] if step.pieces else None
+    return step.run.end + step.run.start + last.duration if last is not None else step.run.end
+
+
+def joined(found, lengths, end=0):
+    """the pieces of a stream's elements for a rendition that ends there, and the fault that ends it"""
+    movies, fault = movies_of(found)
+    pieces = ()
+    for movie, these in movies:
+        more, end, full = joined_movie(lengths, movie, end, these)
+        pieces += (Start(), Init(movie.data)) + more
+        if full:
+            return pieces, full
+    return pieces, fault
+
+
+# =====================================================================================================================
+# 3. Moved
+
+def moved_time(shift, scale, time):
+    """a time of a track of this scale; the greatest of 64 bits stands for any above it"""
+    return min(TOP, minus(time + shift.end * scale // SECOND, shift.base * scale // shift.scale))
+
+
+def scale_of(shift, track):
+    for number_of, scale in shift.tracks:
+        if number_of == track:
+            return scale
+    return None
+
+
+def boxed(box, content):
+    """the box with this content: its size in as many bytes as it was told in"""
+    size = box.head + len(content)
+    if box.head == 16:
+        return box.data[:8] + size.to_bytes(8, 'big') + content
+    return size.to_bytes(4, 'big') + box.data[4:8] + content
+
+
+def with_time(content, place, time):
+    """a content whose time stands there, of 32 bits in version 0 and else of 64: the same with this time, with 64 bits where it needs them"""
+    if content[0] == 0 and time < 1 << 32:
+        return content[:place] + time.to_bytes(4, 'big') + content[place + 4:]
+    if content[0] == 0:
+        return b'\1' + content[1:place] + time.to_bytes(8, 'big') + content[place + 4:]
+    return content[:place] + time.to_bytes(8, 'big') + content[place + 8:]
+
+
+def has_time(content, place):
+    return len(content) >= place + 4 and content[0] == 0 or len(content) >= place + 8 and content[0] == 1
+
+
+def moved_within(content, scale, place, shift):
+    """a content with a time at a place, moved; as it is where it has none"""
+    if scale is None or not has_time(content, place):
+        return content
+    time = int.from_bytes(content[place:place + (8 if content[0] else 4)], 'big')
+    return with_time(content, place, moved_time(shift, scale, time))
+
+
+def moved_tfdts(traf, shift):
+    """a `traf`'s content with its time moved"""
+    boxes = inside(traf)[0]
+    ids = [number(4, box.content, 4) for box in boxes if box.kind == b'tfhd' and len(box.content) >= 8]
+    scale = scale_of(shift, ids[0]) if ids else None
+    return b''.join(boxed(box, moved_within(box.content, scale, 4, shift)) if box.kind == b'tfdt' else box.data for box in boxes)
+
+
+def offset_by(content, more):
+    """a `trun` whose samples begin so many bytes later than it tells"""
+    if more == 0 or len(content) < 12 or not has(int.from_bytes(content[:4], 'big'), 0x01):
+        return content
+    offset = (int.from_bytes(content[8:12], 'big') + more) % (1 << 32)
+    return content[:8] + offset.to_bytes(4, 'big') + content[12:]
+
+
+def counts_from_moof(traf, first):
+    """whether the offsets of a `traf` are relative to the `moof`: not to a told place, nor to where the samples of the `traf` before end"""
+    for box in inside(traf)[0]:
+        if box.kind == b'tfhd' and len(box.content) >= 4:
+            flags = int.from_bytes(box.content[:4], 'big')
+            return not has(flags, 0x000001) and (first or has(flags, 0x020000))
+    return False
+
+
+def offsets_in(traf, more):
+    return b''.join(boxed(box, offset_by(box.content, more)) if box.kind == b'trun' else box.data for box in inside(traf)[0])
+
+
+def moved_moof(content, shift):
+    boxes = inside(content)[0]
+    trafs = [box for box in boxes if box.kind == b'traf']
+    times = [moved_tfdts(traf.content, shift) for traf in trafs]
+    grown = sum(len(new) - len(old.content) for new, old in zip(times, trafs))
+    news = [offsets_in(new, grown) if counts_from_moof(new, n == 0) else new for n, new in enumerate(times)]
+    written, n = b'', 0
+    for box in boxes:
+        if box.kind == b'traf':
+            written += boxed(box, news[n])
+            n += 1
+        else:
+            written += box.data
+    return written
+
+
+def moved_box(box, shift):
+    if box.kind == b'moof':
+        return boxed(box, moved_moof(box.content, shift))
+    if box.kind == b'prft' and len(box.content) >= 8:
+        scale = scale_of(shift, int.from_bytes(box.content[4:8], 'big'))
+        return boxed(box, moved_within(box.content, scale, 16, shift))
+    if box.kind == b'emsg' and box.content[:1] == b'\1' and len(box.content) >= 16:
+        return boxed(box, moved_within(box.content, int.from_bytes(box.content[4:8], 'big'), 8, shift))
+    return box.data
+
+
+def moved(data, shift):
+    """the bytes of whole boxes as they are sent: two kinds, whose numbers would be wrong, are left out"""
+    return b''.join(moved_box(box, shift) for box in inside(data)[0] if box.kind not in (b'sidx', b'mfra'))
+
+
+def sent(part):
+    return b''.join(moved(unit, part.shift) for unit in part.units)
+
+
+# =====================================================================================================================
+# 4. Messages
+
+def message(place, word, *words, data=None):
+    """a line, and the bytes and LF after it where it has any"""
+    channel, rendition = place
+    line = ' '.join([channel, word, rendition, *words] + ([str(len(data))] if data is not None else []))
+    return line.encode() + b'\n' + (data + b'\n' if data is not None else b'')
+
+
+def messages(data, lengths, place=('cam', 'hi'), ends=False):
+    """what is sent of an encoder's output, a message each, and the fault that ends it"""
+    pieces, fault = joined(elements(data), lengths)
+    sends, begun = [], False
+    for piece in pieces:
+        if isinstance(piece, Start):
+            if begun:
+                sends.append(message(place, 'break'))
+            begun = True
+        elif isinstance(piece, Init):
+            sends.append(message(place, 'init', data=piece.data))
+        elif isinstance(piece, Break):
+            sends.append(message(place, 'break'))
+        else:
+            flags = ('i' if piece.independent else '') + ('f' if piece.finishes else '')
+            sends.append(message(place, 'part', str(piece.duration), flags or '-', data=sent(piece)))
+    if fault is None and not begun:
+        fault = 'NoMoov'
+    if ends and fault is None:
+        sends.append(message(place, 'end'))
+    return sends, fault
