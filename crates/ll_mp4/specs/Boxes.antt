@@ -68,7 +68,7 @@ after Nothing = []
 after (Part header) = []
 after (Whole kind size content rest) = rest
 
--- so many at most
+-- the first of these, up to a number of them
 abbrev pub boxes_by : ℕ → List ℕ → Boxes
 boxes_by zero bytes = Done
 boxes_by (suc n) bytes = and_then (front_of bytes) (boxes_by n (after (front_of bytes)))

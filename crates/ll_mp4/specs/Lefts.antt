@@ -15,7 +15,7 @@ pub record Left : Type 0 where
 abbrev pub at_front : List ℕ → Left
 at_front bytes = record { skip = 0; unread = bytes }
 
--- what is left of bytes when so many are dropped
+-- what is left of bytes when the first n are dropped
 abbrev pub dropped : ℕ → List ℕ → Left
 dropped n bytes = record { skip = n - length bytes; unread = drop n bytes }
 

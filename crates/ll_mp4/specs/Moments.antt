@@ -8,7 +8,7 @@ use Rattle.ll_mp4.specs.declared.fault.Fault.{Fault}
 use Rattle.ll_mp4.specs.declared.kind.Kind.TheVariants.{Moof, Traf, Tfhd}
 use Rattle.ll_mp4.specs.declared.timing.Moment.{Moment}
 
--- a decode time of a track with so many ticks a second, where both are told
+-- a decode time and its track's ticks a second, if both are told
 abbrev pub moment_by : Option ℕ → Option ℕ → Option Moment
 moment_by (Some scale) (Some time) = Some (record { time = time; scale = scale })
 moment_by (Some scale) None = None

@@ -21,7 +21,7 @@ large_number_at place bytes = if nat_lt (length bytes) (place + 8) then Err BadB
 abbrev pub has : ℕ → ℕ → Bool
 has flags flag = not (bit_and flags flag == 0)
 
--- the bytes that a field of so many takes, which stands where the flags hold a flag
+-- the bytes that a field takes: none unless the flags hold its flag
 abbrev pub room : ℕ → ℕ → ℕ → ℕ
 room flags flag bytes = if has flags flag then bytes else 0
 

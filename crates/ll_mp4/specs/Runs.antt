@@ -16,7 +16,7 @@ abbrev pub first_so_far : Option ℕ → Track → spec.Run → Option ℕ
 first_so_far (Some first) track run = Some first
 first_so_far None track run = if run.count == 0 then None else Some (spec.first_of track run)
 
--- samples after others that have so many ticks, and of which the first has these flags where there is one
+-- samples after others: the ticks of those before, and the flags of the first of them if there is one
 abbrev pub after_samples : ℕ → Option ℕ → Result spec.Samples Fault → Result Samples Fault
 after_samples ticks first (Err fault) = Err fault
 after_samples ticks first (Ok later) = Ok (record { ticks = min (ticks + later.ticks) tick_limit; flags = unwrap_or first later.flags })

@@ -56,7 +56,7 @@ run_of trun = do
   table ← table_of flags count trun
   Ok (record { flags = flags; count = count; first = first; table = table })
 
--- the sum of the durations of so many samples, whose fields have so many bytes and begin with the duration
+-- the sum of the durations of some samples, by the bytes of a sample's fields, which begin with its duration, and by how many samples there are
 abbrev pub durations : ℕ → ℕ → List ℕ → ℕ
 durations bytes zero table = 0
 durations bytes (suc n) table = big_number 4 table + durations bytes n (drop bytes table)

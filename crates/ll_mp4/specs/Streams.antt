@@ -42,7 +42,7 @@ and_told ((Err fault), left) later = record { units = []; fault = Some fault }
 and_told ((Ok None), left) later = record { units = []; fault = end_fault left }
 and_told ((Ok (Some unit)), left) later = record later { units = unit ∷ later.units }
 
--- so many at most
+-- the first of these, up to a number of them
 abbrev pub told_by : ℕ → Left → Told
 told_by zero left = record { units = []; fault = end_fault left }
 told_by (suc n) left = and_told (front left) (told_by n (front left).1)

@@ -14,14 +14,14 @@ size_limit = 1048576
 abbrev pub is_last : ℕ → Bool
 is_last kind = (kind == code Moov) || (kind == code Mdat)
 
--- what stands at the front of the bytes: so many bytes up to the end of the first box that is the last of its unit; or not all of them
+-- what stands at the front of the bytes: how many bytes there are up to the end of the first box that is the last of its unit; or not all of them
 -- have come; or they are refused
 pub data Unit : Type 0 where
   Open : Unit
   Refused : Fault → Unit
   Closed : ℕ → Unit
 
--- a unit of so many bytes or more
+-- a unit of at least `size` bytes
 abbrev pub within : ℕ → Unit → Unit
 within size unit = if nat_lt size_limit size then Refused TooLarge else unit
 
@@ -30,7 +30,7 @@ torn before (Ok None) = Open
 torn before (Ok (Some head)) = within (before + head.size) Open
 torn before (Err fault) = Refused fault
 
--- the unit that these boxes go on with, of which so many bytes stand before them
+-- the unit that these boxes go on with, and how many of its bytes stand before them
 abbrev pub unit_from : ℕ → Boxes → Unit
 unit_from before Done = Open
 unit_from before (Torn header) = torn before header
@@ -39,7 +39,7 @@ unit_from before (Box kind size content later) = within (before + size) (if is_l
 abbrev pub unit_of : List ℕ → Unit
 unit_of bytes = unit_from 0 (boxes bytes)
 
--- a unit of so many bytes, where it was found
+-- a unit of which this was found
 abbrev pub unit_found : Result (Option ℕ) Fault → Unit
 unit_found (Ok None) = Open
 unit_found (Ok (Some size)) = Closed size

@@ -24,7 +24,7 @@ box kind content = word (length content + 8) ++ name kind ++ content
 
 -- ---- a movie
 
--- a track with an ID, so many ticks a second and a type of media
+-- a track with an ID, its ticks a second and a type of media
 abbrev pub trak : ℕ → ℕ → List ℕ → List ℕ
 trak id scale media =
     box Trak (box Tkhd (replicate 12 0 ++ word id) ++ box Mdia (box Mdhd (replicate 12 0 ++ word scale) ++ box Hdlr (replicate 8 0 ++ media)))

@@ -34,7 +34,7 @@ pub(crate) fn has(flags: u32, flag: u32) -> bool
     flags & flag != 0
 }
 
-/// Returns how many bytes a field of so many takes, which stands where `flags` hold `flag`.
+/// Returns how many bytes a field of `bytes` takes: none unless `flags` hold `flag`.
 pub(crate) fn room(flags: u32, flag: u32, bytes: u32) -> u32
     ensures told { result ≡ spec.room flags flag bytes }
     ensures few { result ≤ bytes }

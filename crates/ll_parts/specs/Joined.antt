@@ -164,7 +164,7 @@ heard j (Silent lead) bytes timing = record {
 }
 heard j (Under held t under) bytes timing = followed j held t under bytes timing (parting j.lengths j.heading.scale held t timing.time)
 
--- why a fragment is refused that ends at this tick, and has so many bytes with those that go with it
+-- why a fragment is refused, by the tick at which it ends and by how many bytes it has with those that go with it
 abbrev pub refusal_of : ℕ → ℕ → ℕ → Option Fault
 refusal_of scale end size = if not (is_counted scale end) then Some TooLong else if nat_lt size_limit size then Some TooLarge else None
 
@@ -181,7 +181,7 @@ refusal_after lengths scale held size ticks p =
     refusal_by (is_long lengths scale p.ends ticks)
     (refusal_of scale (place_of p.next + ticks) (length (bytes_of (drop p.count held.since)) + size))
 
--- a fragment with so many bytes
+-- a fragment with `size` bytes
 unfoldable pub refusal : Joining → Stage → ℕ → Timing → Option Fault
 refusal j (Silent lead) size timing =
     refusal_by (is_long j.lengths j.heading.scale true timing.ticks)
@@ -194,7 +194,7 @@ abbrev pub size_of : Stage → ℕ
 size_of (Silent lead) = length lead
 size_of (Under held t under) = length held.bytes + length (bytes_of held.since)
 
--- why so many bytes without a fragment of the governing track are refused: with those that they go with they are too many
+-- why `size` bytes without a fragment of the governing track are refused: with those that they go with they are too many
 abbrev pub refusal_beside : Stage → ℕ → Option Fault
 refusal_beside stage size = if nat_lt size_limit (size_of stage + size) then Some TooLarge else None
 

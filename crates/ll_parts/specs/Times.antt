@@ -66,7 +66,7 @@ lasts lengths scale t ticks said = if nat_le said lengths.part then said else mi
 
 -- ---- what ends before a fragment
 
--- a segment ends before a fragment that begins so many microseconds after its first part, and lasts so many
+-- whether a segment ends before a fragment, by how long after the segment's first part it begins and by how long it lasts, in microseconds
 abbrev pub ends_segment : Lengths → ℕ → ℕ → Bool → Bool
 ends_segment lengths so_far lasts sync = nat_le lengths.segment so_far && sync || nat_lt lengths.most (so_far + lasts)
 
@@ -80,7 +80,7 @@ cut_by true false false = cut.Joins
 abbrev pub may_end : Times → ℕ → ℕ → ℕ → Bool
 may_end t size begin more = nat_lt 0 size && (nat_lt t.start begin || nat_lt size_limit (size + more))
 
--- what ends before a fragment that begins at this microsecond of the run, lasts so many, and has so many bytes with those that go with it; the part under way has `size` bytes
+-- what ends before a fragment that begins at microsecond `begin` of the run, lasts `lasts`, and has `more` bytes with those that go with it; the part under way has `size` bytes
 abbrev pub cut_before : Lengths → Times → ℕ → ℕ → ℕ → Bool → ℕ → Cut
 cut_before lengths t size begin lasts sync more =
     cut_by (may_end t size begin more)

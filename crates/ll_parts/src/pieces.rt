@@ -15,7 +15,8 @@ pub enum Piece {
     Init(Bytes),
     /// A part.
     Media(Part),
-    /// A break. The program's time is so many microseconds, rounded up, after that at which its movie began, or at which times went back last; none, if times go back now.
+    /// A break: by how many microseconds, rounded up, the program's time is later than that at which its movie began, or at which times went back last; `None` if times go back
+    /// now.
     Break(Option<u64>),
 }
 

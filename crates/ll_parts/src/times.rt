@@ -58,7 +58,7 @@ pub enum Cut {
     Segment,
 }
 
-/// What a fragment comes to, of which it is known what comes after it.
+/// Where a fragment stands of which it is known what comes after it.
 #[derive(Clone, Copy, Debug, PartialEq, Eq)]
 pub(crate) struct Judged {
     /// The microsecond of the run at which it begins.

@@ -17,7 +17,7 @@ abbrev pub counts : Option (List ℕ) → Bool
 counts (Some count) = is_some (number_in 20 count)
 counts None = false
 
--- a message is accepted, with which the channel has so many
+-- a message is accepted: the number is how many items the channel has with it
 abbrev pub accepts : List ℕ → Bool
 accepts line = counts (after (codes "ok ") line)
 

@@ -18,7 +18,7 @@ pub enum Said {
 
 /// Who watches how publishing goes on.
 pub trait Watch {
-    /// The origin has accepted a message that announces this, of so many bytes.
+    /// Tells that the origin has accepted a message of `bytes` bytes that announces this.
     fn accepted(&mut self, said: Said, bytes: usize);
 
     /// The connection is lost, and another one is tried.

@@ -50,7 +50,7 @@ counts_from_moof first traf = counts_by first (first_word 0 (contents_in Tfhd tr
 abbrev pub has_offset : List ℕ → Bool
 has_offset trun = not (nat_lt (length trun) 12) && has (big_number 4 trun) 0x000001
 
--- one whose samples stand so many bytes later, modulo 2^32
+-- one whose samples stand `more` bytes later, modulo 2^32
 abbrev pub later : ℕ → Box → List ℕ
 later more b =
     if has_offset b.content then b.header ++ (take 8 b.content ++ (big_bytes 4 (big_number 4 (drop 8 b.content) + more) ++ drop 12 b.content))
@@ -70,7 +70,7 @@ total f (b ∷ boxes) = f b + total f boxes
 abbrev pub traf_growth : Shift → List TimeScale → List ℕ → ℕ
 traf_growth shift scales traf = total (box_growth shift (scale_in scales traf)) (pieces traf).boxes
 
--- a box of it, of a track with so many ticks a second, whose samples stand so many bytes later
+-- a box of it, by its track's ticks a second and by how many bytes later its samples stand
 abbrev pub moved_in_traf : Shift → Option ℕ → ℕ → Box → List ℕ
 moved_in_traf shift scale more b =
     if is Tfdt b then timed shift scale 4 b
@@ -90,7 +90,7 @@ growth_in_moof shift scales b = if is Traf b then traf_growth shift scales b.con
 abbrev pub moof_growth : Shift → List TimeScale → List ℕ → ℕ
 moof_growth shift scales moof = total (growth_in_moof shift scales) (pieces moof).boxes
 
--- a box of one that has so many bytes more; the first of its tracks' fragments, or another
+-- a box of one, by how many bytes more it has; the first of its tracks' fragments, or another
 abbrev pub moved_in_moof : Shift → List TimeScale → ℕ → Bool → Box → List ℕ
 moved_in_moof shift scales more first b =
     if is Traf b then moved_traf shift scales (if counts_from_moof first b.content then more else 0) b else whole b

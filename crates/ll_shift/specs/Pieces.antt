@@ -46,7 +46,7 @@ abbrev pub after_front : Option Front → List ℕ
 after_front None = []
 after_front (Some f) = f.after
 
--- so many boxes at most
+-- the first boxes, up to a number of them
 abbrev pub pieces_by : ℕ → List ℕ → Pieces
 pieces_by zero bytes = record { boxes = []; rest = bytes }
 pieces_by (suc n) bytes = and_front bytes (front bytes) (pieces_by n (after_front (front bytes)))
@@ -69,6 +69,6 @@ each f bytes = flat_map f (pieces bytes).boxes ++ (pieces bytes).rest
 abbrev pub resized : List ℕ → ℕ → List ℕ
 resized header size = if length header == 16 then take 8 header ++ big_bytes 8 size else big_bytes 4 size ++ drop 4 header
 
--- the header of a box that gets so many bytes more
+-- the header of a box that gets more bytes
 abbrev pub grown : Box → ℕ → List ℕ
 grown b more = resized b.header (length b.header + length b.content + more)

@@ -8,11 +8,11 @@ use Rattle.ll_shift.specs.declared.shift.Shift.{Shift}
 
 -- ---- times
 
--- where the run begins, in the ticks of a track with so many a second, cut to a whole number; 0 where the governing track has none
+-- where the run begins, in the ticks of a track by how many a second has, cut to a whole number; 0 where the governing track has none
 abbrev pub base_in : Shift → ℕ → ℕ
 base_in shift scale = if shift.scale == 0 then 0 else shift.base * scale / shift.scale
 
--- A time of a track with so many ticks a second: as much later than the rendition's end, cut to a whole tick, as it was later than where the run
+-- A time of a track, by its ticks a second: as much later than the rendition's end, cut to a whole tick, as it was later than where the run
 -- begins; 0 where that is negative, and 2^64 - 1 at most.
 abbrev pub moved_time : Shift → ℕ → ℕ → ℕ
 moved_time shift scale time = min (time + shift.end * scale / 1000000 - base_in shift scale) (2 ^ 64 - 1)
@@ -37,7 +37,7 @@ abbrev pub target : ℕ → Bool → Target
 target time was_long =
     record { was_long = was_long; is_long = was_long || not (nat_lt time (2 ^ 32)); time = time }
 
--- what becomes of the time at a place of a content, of a track with so many ticks a second, where it is known
+-- what becomes of the time at a place of a content, by its track's ticks a second if they are known
 abbrev pub target_by : Shift → ℕ → Option Field → Option Target
 target_by shift scale None = None
 target_by shift scale (Some field) = Some (target (moved_time shift scale field.time) field.is_long)

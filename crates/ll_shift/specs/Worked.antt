@@ -20,7 +20,7 @@ earlier = record { base = 100; scale = 25; end = 2000000 }
 abbrev pub one_tick : Shift
 one_tick = record { base = 0; scale = 25; end = 40000 }
 
--- a track's fragment, whose flags are told, and whose samples stand so many bytes away
+-- a track's fragment, whose flags are told, and how many bytes away its samples stand
 abbrev pub traf : ℕ → ℕ → List ℕ → ℕ → List ℕ
 traf flags id tfdt offset = box Traf (box Tfhd (word flags ++ word id) ++ tfdt ++ box Trun (word 1 ++ word 0 ++ word offset))
 

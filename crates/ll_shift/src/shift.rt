@@ -2,7 +2,7 @@
 ghost use Rattle.std.specs.Prelude.{◌≡◌};
 ghost use Rattle.ll_shift.specs.Times as spec;
 
-/// How the times of a run of fragments are moved: the tick of a movie's governing track at which the run begins comes to where the rendition ends.
+/// How the times of a run of fragments are moved: the tick of a movie's governing track at which the run begins is moved to where the rendition ends.
 #[derive(Clone, Copy, Debug, PartialEq, Eq)]
 pub struct Shift {
     /// The governing track's tick at which the run begins.
@@ -14,7 +14,7 @@ pub struct Shift {
 }
 
 impl Shift {
-    /// Returns where a time of a track with `scale` ticks a second comes to; 0 where that is negative, and 2^64 - 1 at most.
+    /// Returns `time` of a track with `scale` ticks a second, moved: 0 if that is negative, and 2^64 - 1 at most.
     pub fn moved_time(&self, scale: u32, time: u64) -> u64
         ensures { result ≡ spec.moved_time self.now scale time }
     {
