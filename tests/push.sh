@@ -306,6 +306,22 @@ encoder_is_served() {
         { cat "$room/playlist"; return 1; }
 }
 
+# both: 7 seconds of a test pattern and a tone, a fragment for each frame, as README.md has it.
+both() {
+    ffmpeg -v error -f lavfi -i testsrc2=size=320x180:rate=25 -f lavfi -i sine=frequency=440 -t 7 -c:v libx264 -preset ultrafast -tune zerolatency -pix_fmt yuv420p -g 50 -c:a aac \
+        -f mp4 -movflags +delay_moov+default_base_moof -frag_duration 1000 - </dev/null
+}
+
+# Sound and picture come to players, an encoder that is started anew goes on after a break, each segment begins with a key frame, and ffmpeg plays each frame of both.
+both_are_served() {
+    serve "$program" 'workers 4' "$cam" || return 1
+    { both && both; } | tee "$room/input" | pushes 0 '' "127.0.0.1:$publish_port" && plays_input || return 1
+    ask /cam/hi/live.m3u8 | tr -d '\r' >"$room/playlist"
+    [ "$(grep -c '^#EXT-X-DISCONTINUITY$' "$room/playlist")" = 1 ] && [ "$(grep -c '^#EXTINF:2.000000,$' "$room/playlist")" = 6 ] &&
+        ! grep -B 1 '^#EXT-X-PART:.*URI="s[0-9]*\.0\.m4s"$' "$room/playlist" || { cat "$room/playlist"; return 1; }
+    [ "$(ffmpeg -nostdin -v error -i "http://127.0.0.1:$port/cam/hi/live.m3u8" -map 0:v -f framemd5 - | grep -vc '^#')" = 350 ]
+}
+
 for name in one two many short; do
     try is_served_whole "$name"
     try sends_its_messages "$name" "$(printf 'ok%.0s,' {1..32})ok"
@@ -412,6 +428,7 @@ END
 
 if command -v ffmpeg >/dev/null; then
     try encoder_is_served
+    try both_are_served
 else
     echo 'no ffmpeg: what a real encoder writes is not tried'
 fi
