@@ -2,8 +2,9 @@
 """publish.py [--loop] HOST:PORT CHANNEL RENDITION FILE: publishes a fragmented MP4 file of one track to a running `llhls serve`, as an encoder would while it makes it.
 
 What stands before the first `moof` box is the Media Initialization Section. Each `moof` with what comes after it, up to the next, is a part; it is sent when its time is over. A
-segment ends where the next part begins with a key frame, so there has to be one at least every target duration. With --loop the file begins anew where it ends, each time after a
-`break`, since the times in its parts go back to 0 there; without it, the rendition ends. A refusal is shown, and ends it."""
+segment ends where the next part begins with a key frame, so there has to be one at least every target duration. It asks first where the rendition stands: an open segment is
+finished, and parts that are there already end with a break at the present time. The times in its parts go on from there, also with --loop, which begins the file anew where it ends;
+without it, the rendition ends. A refusal is shown, and ends it."""
 import socket
 import struct
 import sys
@@ -30,8 +31,18 @@ def numbers(data, box, count, skip=0):
     return struct.unpack_from(f">{1 + count}I", data, box[2])[0] & 0xFFFFFF, list(struct.unpack_from(f">{count}I", data, box[2] + 4 + skip))
 
 
+def later(data, ticks):
+    """A part whose decode time (`tfdt`, of 32 bits in version 0 and else of 64) is so many ticks later."""
+    moof = next(box for box in boxes(data, 0, len(data)) if box[0] == b"moof")
+    place = within(data, moof, [b"traf", b"tfdt"])[2]
+    form = ">Q" if data[place] else ">I"
+    moved = bytearray(data)
+    struct.pack_into(form, moved, place + 4, struct.unpack_from(form, data, place + 4)[0] + ticks)
+    return bytes(moved)
+
+
 def parts(data):
-    """The bytes before the first part; and for each part its microseconds, whether it begins with a key frame, and its bytes."""
+    """The bytes before the first part; the ticks of a second and of all parts; and for each part its microseconds, whether it begins with a key frame, and its bytes."""
     top = list(boxes(data, 0, len(data)))
     starts = [box[1] for box in top if box[0] == b"moof"] + [len(data)]
     moov = next(box for box in top if box[0] == b"moov")
@@ -55,35 +66,42 @@ def parts(data):
         # (so that they don't drift, durations are differences of times)
         found.append(((done + length) * 1000000 // scale - done * 1000000 // scale, not flags & 0x10000, data[starts[number]:starts[number + 1]]))
         done += length
-    return data[:starts[0]], found
+    return data[:starts[0]], scale, done, found
 
 
 def main(loop, host, port, channel, rendition, name):
     with open(name, "rb") as file:
-        section, found = parts(file.read())
+        section, scale, ticks, found = parts(file.read())
     with socket.create_connection((host, port)) as publisher:
         answers = publisher.makefile("r")
 
-        def send(words, media=None):
+        def send(words, media=None, wanted="ok "):
             line = f"{channel} {words}" if media is None else f"{channel} {words} {len(media)}"
             publisher.sendall(f"{line}\n".encode() + (b"" if media is None else media + b"\n"))
             answer = answers.readline().rstrip("\n")
             print(f"{line}: {answer}", flush=True)
-            if not answer.startswith("ok "):
+            if not answer.startswith(wanted):
                 sys.exit(1)
+            return answer.split()
 
-        due = time.monotonic()
+        # (how many items, the place of the next part, the microseconds of all parts, and the least time that a break may set)
+        _, _, _, index, end, clock = send(f"at {rendition}", wanted="at ")[:6]
+        if int(index) > 0:
+            send(f"finish {rendition}")
+        if int(end) > 0:
+            now = int(time.time() * 1000)
+            send(f"break {rendition} {now}" if now >= int(clock) else f"break {rendition}")
         send(f"init {rendition}", section)
+        due, before = time.monotonic(), int(end) * scale // 1000000
         while True:
             for number, (length, key, media) in enumerate(found):
                 last = number + 1 == len(found) or found[number + 1][1]
                 due += length / 1e6
                 time.sleep(max(0, due - time.monotonic()))
-                send(f"part {rendition} {length} {'i' * key}{'f' * last}{'-' * (not key and not last)}", media)
+                send(f"part {rendition} {length} {'i' * key}{'f' * last}{'-' * (not key and not last)}", later(media, before))
             if not loop:
                 return send(f"end {rendition}")
-            send(f"break {rendition}")
-            send(f"init {rendition}", section)
+            before += ticks
 
 
 if __name__ == "__main__":

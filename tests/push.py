@@ -5,6 +5,7 @@ push.py input NAME              writes the input of this name
 push.py messages FILE [end]     writes the messages of what this file holds, for cam and hi; with `end`, the rendition's end too
 push.py published FILE          writes the sections and the parts of these messages, as players get them
 push.py fault FILE              writes the fault that ends it, where one does
+push.py later FILE MICROS       writes standard input, a part of this file, with its times so many microseconds later
 push.py slowly NAME             writes the input with a pause before each fragment
 push.py begin NAME COUNT        writes the beginning of the input, up to the end of so many fragments
 push.py damaged SEED            writes the input `many` with some bytes changed, or cut off
@@ -109,6 +110,13 @@ def published(name):
     """The sections and parts of its messages. A player gets a section that is sent again after a break again."""
     bodies = [message.partition(b'\n')[2][:-1] for message in sent(name)[0]]
     return b''.join(bodies)
+
+
+def later(name, micros):
+    with open(name, 'rb') as file:
+        movie = next(each for each in push_model.elements(file.read()) if isinstance(each, push_model.Movie))
+    tracks = tuple((track.id, track.scale) for track in movie.tracks)
+    return push_model.moved(sys.stdin.buffer.read(), push_model.Shift(tracks, movie.governing.scale, 0, int(micros)))
 
 
 def damaged(seed):
@@ -222,6 +230,8 @@ elif command == 'messages':
     sys.stdout.buffer.write(b''.join(sent(words[0], words[1:] == ['end'])[0]))
 elif command == 'published':
     sys.stdout.buffer.write(published(*words))
+elif command == 'later':
+    sys.stdout.buffer.write(later(*words))
 elif command == 'fault':
     print(sent(*words)[1] or '')
 elif command == 'slowly':

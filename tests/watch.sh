@@ -1,8 +1,8 @@
 #!/usr/bin/env bash
 # watch.sh PROGRAM: `llhls serve` with examples/media.settings, to which examples/publish.py publishes examples/pattern.mp4 in real time, once on a channel of its own and over and over
 # on another. ffmpeg plays the first from its first segment on, and has to see each frame of the file at its time, without a warning; the files of the playlist, one after another, are
-# the file. On the other one a break, a section of another name and the same bytes again follow the first eight seconds. Where ffmpeg isn't installed, it says so and tests
-# nothing. The last line is `N passed, M failed`.
+# the file. On the other one the same parts follow the first eight seconds, with their times eight seconds later; and a publisher that is killed amid a segment and started again goes on
+# after a break at the present time. Where ffmpeg isn't installed, it says so and tests nothing. The last line is `N passed, M failed`.
 . "$(dirname "${BASH_SOURCE[0]}")/server.sh" || exit 2
 take_program "$1"
 file=$root/examples/pattern.mp4
@@ -53,10 +53,31 @@ is_the_file() {
     file_of pattern live.m3u8 | grep -qx '#EXT-X-ENDLIST'
 }
 
-goes_on_after_a_break() {
-    has 18 again && file_of again s4.0.m4s | cmp - <(file_of again s0.0.m4s) || return 1
-    file_of again init1.mp4 | cmp - <(file_of again init0.mp4) || return 1
-    file_of again live.m3u8 | grep -A 1 -x '#EXT-X-DISCONTINUITY' | grep -qx '#EXT-X-MAP:URI="init1.mp4"'
+goes_on_with_later_times() {
+    has 19 again && file_of again s4.0.m4s | cmp - <(file_of again s0.0.m4s | python3 "$here/push.py" later "$file" 8000000) || return 1
+    ! file_of again live.m3u8 | grep -x '#EXT-X-DISCONTINUITY'
+}
+
+# amid: waits until the publisher of `again` has had two parts of a segment answered, of four.
+amid() {
+    local tries
+    for ((tries = 0; tries < 100; tries++)); do
+        [ $((($(grep -c ': ok ' "$room/again") - 1) % 4)) = 2 ] && return 0
+        sleep 0.05
+    done
+    return 1
+}
+
+comes_back() {
+    local now
+    amid || return 1
+    kill "${publishers[1]}"
+    wait "${publishers[1]}" 2>/dev/null
+    now=$(date +%s%3N)
+    published again --loop
+    has 5 again || return 1
+    [ "$(head -n 3 "$room/again" | sed -E 's/[0-9]+//g; s/: .*//')" = "$(printf '%s\n' 'again at video' 'again finish video' 'again break video ')" ] || { cat "$room/again"; return 1; }
+    [ "$(sed -n '3s/^.* \([0-9]*\): ok .*$/\1/p' "$room/again")" -ge "$now" ] && file_of again live.m3u8 | grep -A 1 -x '#EXT-X-DISCONTINUITY' | grep -qx '#EXT-X-MAP:URI="init1.mp4"'
 }
 
 # watched NAME: runs a test; where it failed, what it says is shown.
@@ -79,7 +100,7 @@ published pattern
 published again --loop
 # (a section and four parts: the first segment)
 has 5 pattern || give_up 'nothing is published'
-for name in plays is_the_file goes_on_after_a_break; do
+for name in plays is_the_file goes_on_with_later_times comes_back; do
     watched "$name"
 done
 kill "${publishers[@]}" 2>/dev/null
