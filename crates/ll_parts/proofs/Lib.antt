@@ -1,3 +1,4 @@
 pub mod OtherLemmas
+pub mod PartLemmas
 pub mod StreamLemmas
 pub mod TimeLemmas

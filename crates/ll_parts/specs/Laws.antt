@@ -1,7 +1,9 @@
 -- The laws of cutters.
-use Rattle.std.specs.Prelude.{◌≡◌, ℕ, List, [], ◌++◌, false, None}
-use Rattle.ll_parts.specs.Stream.{CutterValue, advanced_cutter, closed, to_come, with_bytes, with_first, with_piece}
+use Rattle.std.specs.Prelude.{◌≡◌, ◌≤◌, ⊤, ℕ, List, [], ◌++◌, false, None, All, max}
+use Rattle.ll_parts.specs.Stream.{CutterValue, advanced_cutter, closed, published, to_come, with_bytes, with_first, with_piece}
+use Rattle.ll_parts.specs.declared.lengths.Lengths.{Lengths}
 use Rattle.ll_parts.specs.declared.pieces.Piece.{Piece}
+use Rattle.ll_parts.specs.declared.pieces.Piece.TheVariants.{Begin, Init, Media, Break}
 
 -- bytes that came before others
 abbrev pub BytesCome : Type 0
@@ -22,3 +24,16 @@ UnitsCome = (c : CutterValue) (input : List ℕ) → IsGoing c → to_come c inp
 -- nor does the end of the input, where no unit was there
 abbrev pub EndComes : Type 0
 EndComes = (c : CutterValue) (input : List ℕ) → (advanced_cutter c).0 ≡ false → IsGoing c → to_come c [] ≡ to_come (closed (advanced_cutter c).1) input
+
+-- ---- parts
+
+-- a part lasts no longer than is said, but for one of a microsecond
+abbrev pub IsShort : Lengths → Piece → Type 0
+IsShort lengths Begin = ⊤
+IsShort lengths (Init section) = ⊤
+IsShort lengths (Media part) = part.duration ≤ max 1 lengths.part
+IsShort lengths (Break since) = ⊤
+
+-- no part of a stream lasts longer
+abbrev pub PartsFit : Type 0
+PartsFit = (lengths : Lengths) (end : ℕ) (input : List ℕ) → All (IsShort lengths) (published lengths end input).pieces

@@ -1,5 +1,5 @@
 -- What is published of an encoder's stream.
-use Rattle.std.specs.Prelude.{◌≡◌, ◌≢◌, ⊤, ℕ, Bool, true, false, List, [], ◌∷◌, ◌++◌, length, fold, is_some, if◌then◌else◌, Option, Some, None, Result, Ok, Err}
+use Rattle.std.specs.Prelude.{◌≡◌, ◌≢◌, ℕ, Bool, true, false, List, [], ◌∷◌, ◌++◌, length, fold, is_some, if◌then◌else◌, Option, Some, None, Result, Ok, Err}
 use Rattle.ll_mp4.specs.Elements.{element_of}
 use Rattle.ll_mp4.specs.Movies.{MovieValue}
 use Rattle.ll_mp4.specs.Numbers.{◌>>=◌}

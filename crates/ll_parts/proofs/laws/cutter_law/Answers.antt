@@ -1,4 +1,5 @@
 -- The laws of cutters.
+use Rattle.ll_parts.proofs.PartLemmas.{parts_fit}
 use Rattle.ll_parts.proofs.StreamLemmas.{bytes_come, end_comes, piece_is_first, units_come}
 use Rattle.ll_parts.proofs.laws.cutter_law.Goals as goal
 
@@ -13,3 +14,6 @@ returns-clause-units c = units_come
 
 pub returns-clause-end : goal.returns-clause-end
 returns-clause-end c = end_comes
+
+pub returns-clause-parts : goal.returns-clause-parts
+returns-clause-parts c = parts_fit
