@@ -1,90 +1,15 @@
 -- Boxes that came whole are the same boxes whatever bytes follow.
-use Rattle.std.proofs.Common.{◌≡◌, ℕ, zero, suc, ◌+◌, ◌≤◌, ◌==◌, List, [], ◌∷◌, ◌++◌, Bool, true, false, Option, Some, None, Ok, Err, refl, ap, ap₂, sym, subst, ◌∙◌, length, take, drop, nat_lt, if◌then◌else◌, length-append, length-drop, append_assoc, append-nil, take-append-drop, arith}
+use Rattle.std.proofs.Common.{◌≡◌, ℕ, zero, suc, ◌≤◌, List, [], ◌∷◌, ◌++◌, Bool, true, false, Option, Some, None, Ok, Err, refl, ap, ap₂, sym, subst, ◌∙◌, length, take, drop, nat_lt, if◌then◌else◌, length-append, append_assoc, append-nil, take-append-drop, arith}
 use Rattle.std.proofs.lemmas.Grind.{flat_map-append}
 use Rattle.std.proofs.lemmas.List.{drop-append-le, take-append-le}
 use Rattle.std.specs.List.{flat_map}
 use Rattle.std.specs.Option.{unwrap_or}
 use borrow.Author.Tests.{ltb-false, le-ltb}
-use Rattle.byteorder.specs.Endian.{big_number}
-use Rattle.byteorder.specs.Numbers.{big_from-append}
-use Rattle.ll_mp4.specs.Boxes.{Header, header_by, header_of, large_header, sized}
+use Rattle.ll_mp4.specs.Boxes.{Header, header_of}
 use Rattle.ll_mp4.specs.declared.boxes.Head.{Head}
+use Rattle.ll_mp4.proofs.MoreLemmas.{Same, header-same}
 use Rattle.ll_shift.specs.Pieces.{Box, Front, Pieces, after_front, each, front, front_by, pieces, whole}
 use Rattle.ll_shift.proofs.PieceLemmas.{after_fewer, each_more, none_left, pieces_done, pieces_more}
-
--- ---- headers
-
--- a header that has come, or isn't one, stays so
-abbrev Same : Header → Header → Type 0
-Same (Ok None) after = 0 ≤ 0
-Same (Ok (Some head)) after = after ≡ Ok (Some head)
-Same (Err fault) after = after ≡ Err fault
-
-same-is : (h : Header) → Same h h
-same-is (Ok None) = omega arith
-same-is (Ok (Some head)) = refl
-same-is (Err fault) = refl
-
--- the number at a place that has come whole
-number-same : (n place : ℕ) (bytes more : List ℕ) → place + n ≤ length bytes → big_number n (drop place (bytes ++ more)) ≡ big_number n (drop place bytes)
-number-same n place bytes more l =
-    let d = length-drop place bytes in
-    ap (big_number n) (drop-append-le place bytes more (omega (arith, l))) ∙ big_from-append n (drop place bytes) more (omega (arith, d, l))
-
-sized-same : (kind len size other-kind other-size : ℕ) → other-kind ≡ kind → other-size ≡ size → Same (sized kind len size) (sized other-kind len other-size)
-sized-same kind len size other-kind other-size k s =
-    subst (λ x. Same (sized kind len size) (sized x len other-size)) (sym k)
-    (subst (λ x. Same (sized kind len size) (sized kind len x)) (sym s) (same-is (sized kind len size)))
-
-large-same : (bytes more : List ℕ) → Same (large_header bytes) (large_header (bytes ++ more))
-large-same bytes more = by_length (nat_lt (length bytes) 16) refl
-  where
-    by_length : (b : Bool) → nat_lt (length bytes) 16 ≡ b → Same (large_header bytes) (large_header (bytes ++ more))
-    by_length true e = subst (λ h. Same h (large_header (bytes ++ more))) (sym (partial e)) (omega arith)
-      where
-        partial : nat_lt (length bytes) 16 ≡ true → large_header bytes ≡ Ok None
-        partial k = rw k refl
-    by_length false e =
-        let l = ltb-false (length bytes) 16 e in
-        let sum = length-append bytes more in
-        let full = le-ltb (length (bytes ++ more)) 16 (omega (arith, l, sum)) in
-        subst (λ h. Same h (large_header (bytes ++ more))) (sym (whole bytes e))
-        (subst (λ h. Same (sized (big_number 4 (drop 4 bytes)) 16 (big_number 8 (drop 8 bytes))) h) (sym (whole (bytes ++ more) full))
-        (sized-same (big_number 4 (drop 4 bytes)) 16 (big_number 8 (drop 8 bytes)) (big_number 4 (drop 4 (bytes ++ more))) (big_number 8 (drop 8 (bytes ++ more)))
-        (number-same 4 4 bytes more (omega (arith, l))) (number-same 8 8 bytes more (omega (arith, l)))))
-      where
-        whole : (bs : List ℕ) → nat_lt (length bs) 16 ≡ false → large_header bs ≡ sized (big_number 4 (drop 4 bs)) 16 (big_number 8 (drop 8 bs))
-        whole bs k = rw k refl
-
-by-same : (size : ℕ) (bytes more : List ℕ) → 8 ≤ length bytes → Same (header_by size bytes) (header_by size (bytes ++ more))
-by-same size bytes more l = by_large (size == 1)
-  where
-    by_large : (b : Bool)
-        → Same (if b then large_header bytes else sized (big_number 4 (drop 4 bytes)) 8 size)
-        (if b then large_header (bytes ++ more) else sized (big_number 4 (drop 4 (bytes ++ more))) 8 size)
-    by_large true = large-same bytes more
-    by_large false =
-        sized-same (big_number 4 (drop 4 bytes)) 8 size (big_number 4 (drop 4 (bytes ++ more))) size (number-same 4 4 bytes more (omega (arith, l))) refl
-
-pub header_same : (bytes more : List ℕ) → Same (header_of bytes) (header_of (bytes ++ more))
-header_same bytes more = by_length (nat_lt (length bytes) 8) refl
-  where
-    by_length : (b : Bool) → nat_lt (length bytes) 8 ≡ b → Same (header_of bytes) (header_of (bytes ++ more))
-    by_length true e = subst (λ h. Same h (header_of (bytes ++ more))) (sym (partial e)) (omega arith)
-      where
-        partial : nat_lt (length bytes) 8 ≡ true → header_of bytes ≡ Ok None
-        partial k = rw k refl
-    by_length false e =
-        let l = ltb-false (length bytes) 8 e in
-        let sum = length-append bytes more in
-        let full = le-ltb (length (bytes ++ more)) 8 (omega (arith, l, sum)) in
-        subst (λ h. Same h (header_of (bytes ++ more))) (sym (whole bytes e))
-        (subst (λ h. Same (header_by (big_number 4 bytes) bytes) h)
-        (sym (whole (bytes ++ more) full ∙ ap (λ n. header_by n (bytes ++ more)) (big_from-append 4 bytes more (omega (arith, l)))))
-        (by-same (big_number 4 bytes) bytes more l))
-      where
-        whole : (bs : List ℕ) → nat_lt (length bs) 8 ≡ false → header_of bs ≡ header_by (big_number 4 bs) bs
-        whole bs k = rw k refl
 
 -- ---- the front box
 
@@ -131,7 +56,7 @@ front-at-more head bytes more l =
 pub front_more : (bytes more : List ℕ) (f : Front) → front bytes ≡ Some f → front (bytes ++ more) ≡ Some (and_more f more)
 front_more bytes more f e =
     let found = found_by (header_of bytes) bytes f e in
-    let same : header_of (bytes ++ more) ≡ Ok (Some found.head) = subst (λ h. Same h (header_of (bytes ++ more))) found.is (header_same bytes more) in
+    let same : header_of (bytes ++ more) ≡ Ok (Some found.head) = subst (λ h. Same h (header_of (bytes ++ more))) found.is (header-same bytes more) in
     let sum = length-append bytes more in
     front_of (bytes ++ more) found.head same (omega (arith, found.full, sum))
     ∙ ap Some (front-at-more found.head bytes more found.full ∙ ap (λ g. and_more g more) found.same)
