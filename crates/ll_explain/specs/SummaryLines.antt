@@ -28,7 +28,7 @@ refused_text s =
 abbrev pub chain_text : ℕ → Summary → List ℕ
 chain_text number s = events_text number s ++ (answered_text s ++ (held_text s ++ refused_text s))
 
--- chains, of which so many stand before these
+-- chains, after `before` others
 abbrev pub chains_text : ℕ → List Summary → List ℕ
 chains_text before [] = []
 chains_text before (s ∷ more) = chain_text (before + 1) s ++ chains_text (before + 1) more

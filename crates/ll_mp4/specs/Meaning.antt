@@ -10,7 +10,7 @@ given (Ok None) = Ok None
 given (Ok (Some unit)) = Ok (Some unit.now)
 given (Err fault) = Err fault
 
--- What is asked for is answered; but for want of memory, which is told only where what is asked for needs some, and so where there is no other fault.
+-- The result is what is asked for; or Memory, if what is asked for needs some.
 abbrev pub AnswersButForMemory : {A : Type 0} → Result A Fault → Type 0 → Result A Fault → Type 0
 AnswersButForMemory asked Needs (Ok x) = asked ≡ Ok x
 AnswersButForMemory asked Needs (Err fault) = (asked ≡ Err fault) ⊎ ((fault ≡ Memory) × Needs)

@@ -20,12 +20,12 @@ abbrev pub one_later : Ending → Ending
 one_later (BadLine n) = BadLine (n + 1)
 one_later (LineTooLong n) = LineTooLong (n + 1)
 
--- what a script comes to that has one line more, and writes this
+-- a script's result `w` with one more line, and this text
 abbrev pub with_line : Script → List ℕ → Script
 with_line w text = record w { lines = w.lines + 1; text = text; ending = option_map one_later w.ending }
 
--- A line asks where a rendition stands. With it, a script comes to what it comes to without it, but for the count of its lines: the channels with all
--- their events, the requests that wait, the connections and the replies are the same, and so is the text but for the answer.
+-- If a line asks where a rendition stands, a script with it has the result of the script without it: the same channels with all their events, the same
+-- waiting requests, connections and replies. Only the count of its lines is one more, and its text has the answer.
 abbrev pub StandingLaw : Type 0
 StandingLaw = (before later : List Marked) (l : Marked) (place rendition : ℕ) → acts_in (come_to before) l ≡ At place rendition ∷ []
     → (answer : List ℕ) × (rest : List ℕ) × IsTold (come_to before) place rendition answer

@@ -33,7 +33,7 @@ pub data Part : Type 0 where
   Said : rooms.ActAnswer → Part
   -- where a rendition stands
   Stands : Standing → Part
-  -- a publisher's line is refused before it comes to a channel
+  -- a publisher's line is refused before any channel is asked
   Refused : Refusal → Part
   -- the target of a `get` line of this number wants nothing
   Faulty : ℕ → TargetFault → Part

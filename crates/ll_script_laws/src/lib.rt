@@ -33,9 +33,9 @@ pub fn replies_law()
     ensures verdicts { VerdictLaw }
 {}
 
-/// A line that asks where a rendition stands is told it, by all items that the channel has accepted, and nothing else comes of it: with the line, a
-/// script comes to the same channels, the same waiting requests, connections and replies as without it, and writes the same but for the answer.
-/// What memory is found for the other lines is the same in both scripts.
+/// Says that a line that asks where a rendition stands is answered by all items that the channel has accepted, and changes nothing: a script with
+/// the line has the same channels, waiting requests, connections and replies as without it, and the same text but for the answer.
+/// The premise is that the other lines find, or don't find, the same memory in both scripts.
 pub fn standing_law()
     ensures { StandingLaw }
 {}
