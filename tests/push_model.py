@@ -12,6 +12,7 @@ from typing import NamedTuple, Optional
 LIMIT = 1048576          # the most bytes of an initialization section or a part
 SECOND = 1000000         # microseconds
 TOP = (1 << 64) - 1
+LAST = 253402300799999999    # the last microsecond of the year 9999, from 1970 on
 
 
 class Refused(Exception):
@@ -370,6 +371,7 @@ class Lengths(NamedTuple):
     part: int
     segment: int
     most: int
+    ahead: bool = True                # whether a part waits for the fragment after it; else each fragment is a part
 
 
 class Shift(NamedTuple):              # how the times of a run are moved
@@ -393,6 +395,10 @@ class Part(NamedTuple):
 
 class Break(NamedTuple):
     since: Optional[int]              # how far the program's time is from its origin, in microseconds rounded up; None: times go back
+
+
+class Finish(NamedTuple):             # the open segment ends with the part before
+    pass
 
 
 class Start(NamedTuple):              # a movie begins
@@ -604,6 +610,8 @@ def fitting(size, units):
 
 def joined_movie(lengths, movie, end, found):
     """(pieces, the rendition's end, fault) of a movie's elements"""
+    if not lengths.ahead:
+        return paced_movie(lengths, movie, end, found)
     lead, rest = until_governing(found)
     lead, full = fitting(0, lead)
     if full:
@@ -651,6 +659,73 @@ def ended_at(step):
     """where the rendition ends after the last part of a run"""
     last = step.pieces[-1] if step.pieces else None
     return step.run.end + step.run.start + last.duration if last is not None else step.run.end
+
+
+# ---- where each fragment is a part
+
+class Pace(NamedTuple):               # a run of parts
+    base: int                         # its first tick
+    place: int                        # the tick at which the samples end that came
+    lasted: int                       # how long its parts are, in microseconds
+    segment: int                      # how long those of the open segment are; 0: none is open
+    end: int                          # where the rendition ended as the run began
+    origin: int
+
+
+def pace_from(tick, end, origin):
+    return Pace(tick, tick, 0, 0, end, origin)
+
+
+def finished(pace):
+    return (Finish(),) if pace.segment else ()
+
+
+def paced_end(pace):
+    return min(TOP, pace.end + pace.lasted)
+
+
+def to_fragment(lengths, movie, pace, heard):
+    """what is said before a fragment, and the run that it goes on with or begins: times that are told count where they are off by more than a part"""
+    away = 0 if heard.time is None else heard.time - pace.place
+    if abs(away) * SECOND <= lengths.part * movie.governing.scale:
+        return (), pace
+    if away < 0:
+        return finished(pace) + (Break(None), Init(movie.data)), pace_from(heard.time, paced_end(pace), heard.time)
+    since = rounded_up(minus(heard.time, pace.origin) * SECOND, movie.governing.scale)
+    return finished(pace) + (Break(since), Init(movie.data)), pace_from(heard.time, paced_end(pace), pace.origin)
+
+
+def paced(lengths, movie, pace, units):
+    """the part of a fragment at the run's place, the last of these units, and the run after it"""
+    heard, scale = units[-1].heard, movie.governing.scale
+    place = pace.place + heard.ticks
+    lasts = max(1, minus(minus(place, pace.base) * SECOND // scale, pace.lasted))
+    if place > TOP or place * SECOND // scale > LAST or lasts > lengths.part or pace.lasted + lasts > LAST:
+        raise Refused('TooLong')
+    if sizes(units) > LIMIT:
+        raise Refused('TooLarge')
+    segment = pace.segment + lasts
+    last = segment >= lengths.segment or segment + lengths.part > lengths.most
+    part = Part(tuple(u.data for u in units), lasts, heard.sync, last, shift_of(movie, pace))
+    return part, pace._replace(place=place, lasted=pace.lasted + lasts, segment=0 if last else segment)
+
+
+def paced_movie(lengths, movie, end, found):
+    """(pieces, the rendition's end, fault) of a movie's elements. What is left before no fragment is left out"""
+    pieces, lead, pace, fault = (), (), None, None
+    try:
+        for element in found:
+            lead += (element,)
+            if is_governing(element):
+                time = time_of(None, None, element.heard)
+                before, to = to_fragment(lengths, movie, pace, element.heard) if pace else ((), pace_from(time, end, time))
+                part, pace = paced(lengths, movie, to, lead)
+                pieces, lead = pieces + before + (part,), ()
+            elif sizes(lead) > LIMIT:
+                raise Refused('TooLarge')
+    except Refused as refused:
+        fault = refused.fault
+    return (pieces + finished(pace), paced_end(pace), fault) if pace else (pieces, end, fault)
 
 
 def joined(found, lengths, end=0):
@@ -784,22 +859,59 @@ def message(place, word, *words, data=None):
     return line.encode() + b'\n' + (data + b'\n' if data is not None else b'')
 
 
-def messages(data, lengths, place=('cam', 'hi'), ends=False):
-    """what is sent of an encoder's output, a message each, and the fault that ends it"""
-    pieces, fault = joined(elements(data), lengths)
-    sends, begun = [], False
+class Standing(NamedTuple):            # where a rendition stands: its next part, how long its parts last in microseconds, and its time in milliseconds
+    number: int = 0
+    index: int = 0
+    end: int = 0
+    time: int = 4000000000000          # far ahead of any clock, so that no break sets a time but after gaps
+
+
+def rounded_to_millis(micros):
+    return -(-micros // 1000)
+
+
+def messages(data, lengths, place=('cam', 'hi'), ends=False, stands=Standing(), now=0):
+    """what is sent of an encoder's output where the rendition stands there and the clock tells this, a message each; and the fault that ends it"""
+    pieces, fault = joined(elements(data), lengths, stands.end)
+    sends, begun, index, end = [], False, stands.index, stands.end
+    clock = origin = stands.time * 1000
+
+    def breaks(time=None):
+        nonlocal clock
+        sends.append(message(place, 'break', *([] if time is None else [str(time)])))
+        if time is not None:
+            clock = time * 1000
+
+    def finishes():
+        nonlocal index
+        sends.append(message(place, 'finish'))
+        index = 0
+
     for piece in pieces:
         if isinstance(piece, Start):
-            if begun:
-                sends.append(message(place, 'break'))
             begun = True
+            if index:
+                finishes()
+            if end:
+                breaks(now if now * 1000 >= clock else None)
+            elif now * 1000 > clock + lengths.part:
+                breaks(now)
+            origin = clock
         elif isinstance(piece, Init):
             sends.append(message(place, 'init', data=piece.data))
+        elif isinstance(piece, Break) and piece.since is None:
+            breaks()
+            origin = clock
         elif isinstance(piece, Break):
-            sends.append(message(place, 'break'))
-        else:
+            breaks(max(rounded_to_millis(origin + piece.since), rounded_to_millis(clock)))
+        elif isinstance(piece, Part):
             flags = ('i' if piece.independent else '') + ('f' if piece.finishes else '')
             sends.append(message(place, 'part', str(piece.duration), flags or '-', data=sent(piece)))
+            index = 0 if piece.finishes else index + 1
+            end += piece.duration
+            clock += piece.duration
+        else:
+            finishes()
     if fault is None and not begun:
         fault = 'NoMoov'
     if ends and fault is None:

@@ -1,4 +1,4 @@
 pub mod OtherLemmas
 pub mod PartLemmas
+pub mod SegmentLemmas
 pub mod StreamLemmas
-pub mod TimeLemmas

@@ -1,6 +1,6 @@
 -- How long parts are.
 use Rattle.std.specs.Prelude.{⊤}
-use Rattle.std.proofs.Common.{◌≡◌, ℕ, drop, fold, take, Result, Ok, Err, ◌+◌, ◌-◌, ◌^◌, ◌<◌, ◌≤◌, ◌==◌, ◌≢◌, ◌&&◌, ◌||◌, Bool, true, false, List, [], ◌∷◌, ◌++◌, length, length-append, nat_lt, nat_le, if◌then◌else◌, Option, Some, None, refl, ap, sym, subst, ◌∙◌, min, max, arith}
+use Rattle.std.proofs.Common.{◌≡◌, ℕ, drop, fold, not, take, Result, Ok, Err, ◌+◌, ◌-◌, ◌^◌, ◌<◌, ◌≤◌, ◌==◌, ◌≢◌, ◌&&◌, ◌||◌, Bool, true, false, List, [], ◌∷◌, ◌++◌, length, length-append, nat_lt, nat_le, if◌then◌else◌, Option, Some, None, refl, ap, sym, subst, ◌∙◌, min, max, arith}
 use borrow.Author.Tests.{le-leb, leb-true, ltb-false}
 use native.Mathlib.Nat.{zero-div}
 use Rattle.std.proofs.lemmas.List.Elements.{All-append, All-cons, All-nil}
@@ -13,27 +13,33 @@ use Rattle.ll_mp4.specs.Streams.{fed, told}
 use Rattle.ll_mp4.specs.declared.element.Element.{Element}
 use Rattle.ll_mp4.specs.declared.element.Element.TheVariants.{Movie, Fragment, Beside}
 use Rattle.ll_mp4.specs.declared.fault.Fault.{Fault}
+use Rattle.ll_mp4.specs.declared.fault.Fault.TheVariants.{TooLarge, TooLong}
 use Rattle.ll_mp4.specs.declared.timing.Moment.{Moment}
 use Rattle.ll_mp4.specs.declared.timing.Timing.{Timing}
-use Rattle.ll_parts.specs.Joined.{Joining, Taken, begun, beside, ending, first_time, followed, group_of, heard, on_stage, over, part_of, parting, refusal, refusal_beside, said_after, said_before, step_of, with_group}
+use Rattle.ll_parts.specs.Joined.{Joining, Taken, begun, beside, first_time, first_times, followed, group_of, heard, held_of, on_stage, over, parting, refusal, refusal_beside, said_after, said_before, step_of, with_group, with_part}
+use Rattle.ll_runs.specs.Refusals.{is_long, refusal_at, refusal_by, refusal_of}
 use Rattle.ll_parts.specs.Laws.{IsShort, PartsFit}
 use Rattle.ll_parts.specs.Others.{bytes_of}
+use Rattle.ll_parts.specs.Pieces.{ending, part_of}
+use Rattle.ll_parts.specs.Prompt.{finish, parted, said_between}
+use Rattle.ll_runs.specs.Prompt.{ends_before, is_open, is_past, next_after, part_end, part_lasts, times_at}
 use Rattle.ll_parts.specs.Stream.{Brought, Progress, Stream, advanced, advanced_by, advanced_from, all_pieces, begun_cutter, brought, brought_by, ended_by, unless, with_beside, with_element}
-use Rattle.ll_parts.specs.Times.{at_tick, by_samples, cut_before, cut_by, duration_to, ends_run, goes_back, next_at, time_of, ends_segment, joined_to, lasts, may_end, micros, or_part, rendition_end, said_to, since_origin, size_limit, times_after, times_from}
+use Rattle.ll_runs.specs.Times.{at_tick, by_samples, cut_before, cut_by, duration_to, ends_run, goes_back, next_at, time_of, ends_segment, joined_to, last_micro, lasts, is_counted, may_end, micros, or_part, rendition_end, said_to, since_origin, size_limit, times_after, times_from}
 use Rattle.ll_parts.specs.declared.heading.Heading.{Heading}
 use Rattle.ll_parts.specs.declared.others.Other.{Other}
-use Rattle.ll_parts.specs.declared.pieces.Piece.TheVariants.{Begin, Init, Break}
+use Rattle.ll_parts.specs.declared.pieces.Piece.{Piece}
+use Rattle.ll_parts.specs.declared.pieces.Piece.TheVariants.{Begin, Init, Finish, Break}
 use Rattle.ll_parts.specs.declared.stage.Group.{Group}
 use Rattle.ll_parts.specs.declared.stage.Held.{Held}
 use Rattle.ll_parts.specs.declared.stage.Parting.{Parting}
 use Rattle.ll_parts.specs.declared.stage.Stage.{Stage}
-use Rattle.ll_parts.specs.declared.stage.Stage.TheVariants.{Silent, Under}
-use Rattle.ll_parts.specs.declared.lengths.Lengths.{Lengths}
-use Rattle.ll_parts.specs.declared.times.Cut.{Cut}
-use Rattle.ll_parts.specs.declared.times.Cut.TheVariants as cut
-use Rattle.ll_parts.specs.declared.times.Next.{Next}
-use Rattle.ll_parts.specs.declared.times.Next.TheVariants.{Over, Back, At}
-use Rattle.ll_parts.specs.declared.times.Times.{Times}
+use Rattle.ll_parts.specs.declared.stage.Stage.TheVariants.{Silent, Under, Prompt}
+use Rattle.ll_runs.specs.declared.lengths.Lengths.{Lengths}
+use Rattle.ll_runs.specs.declared.times.Cut.{Cut}
+use Rattle.ll_runs.specs.declared.times.Cut.TheVariants as cut
+use Rattle.ll_runs.specs.declared.times.Next.{Next}
+use Rattle.ll_runs.specs.declared.times.Next.TheVariants.{Over, Back, At}
+use Rattle.ll_runs.specs.declared.times.Times.{Times}
 
 -- ---- a fragment lasts no longer than a part
 
@@ -52,6 +58,10 @@ lasts-fits l scale t ticks said = by_said (nat_le said l.part) refl
     by_said false e = let few = or-fits l t.before in omega (arith, few)
 
 -- ---- one that joins a part leaves it no longer than a part may be
+
+pub or-right : (a b : Bool) → (a || b) ≡ false → b ≡ false
+or-right false b e = e
+or-right true b e = absurd (cc)
 
 or-left : (a b : Bool) → (a || b) ≡ false → a ≡ false
 or-left false b e = refl
@@ -186,6 +196,7 @@ module _ (l : Lengths) (h : Heading) (t : Times) (under : List ℕ) (group : Gro
 abbrev pub StageFits : Lengths → ℕ → Stage → Type 0
 StageFits l scale (Silent lead) = ⊤
 StageFits l scale (Under held t under) = (0 < length held.bytes) × Inside l scale t (length under)
+StageFits l scale (Prompt lead t) = ⊤
 
 -- the pieces are short, and so is the part under way
 abbrev pub TakenFits : Lengths → Taken → Type 0
@@ -210,29 +221,83 @@ followed-fits j held t under bytes timing p some not (full, inside) =
       ),
     )
 
-heard-fits : (j : Joining) (stage : Stage) (bytes : List ℕ) (timing : Timing) → 0 < length bytes → StageFits j.lengths j.heading.scale stage
-    → TakenFits j.lengths (heard j stage bytes timing)
-heard-fits j (Silent lead) bytes timing some fits =
-    (refl, All-nil (IsShort j.lengths), (after-some lead bytes some, fresh-inside j.lengths j.heading.scale (first_time timing.time) j.end (first_time timing.time) 0))
-heard-fits j (Under held t under) bytes timing some fits =
+-- ---- one that is a part
+
+finish-short : (l : Lengths) (t : Times) → All (IsShort l) (finish t)
+finish-short l t = by_open (is_open t)
+  where
+    by_open : (b : Bool) → All (IsShort l) (if◌then◌else◌ {A = List Piece} b (Finish ∷ []) [])
+    by_open true = All-cons (IsShort l) Finish [] tt (All-nil (IsShort l))
+    by_open false = All-nil (IsShort l)
+
+between-short : (l : Lengths) (h : Heading) (t : Times) (next : Next) → All (IsShort l) (said_between h t next)
+between-short l h t next = by_end (ends_before t next)
+  where
+    by_end : (b : Bool) → All (IsShort l) (if◌then◌else◌ {A = List Piece} b (finish t ++ ending h t next) [])
+    by_end true = All-append (IsShort l) (finish t) (ending h t next) (finish-short l t) (ending-short l h t next)
+    by_end false = All-nil (IsShort l)
+
+pub not-long : (b : Bool) (other : Option Fault) → (if◌then◌else◌ {A = Option Fault} b (Some TooLong) other) ≡ None → b ≡ false
+not-long true other e = absurd (cc)
+not-long false other e = refl
+
+with-part-fits : (j : Joining) (before : List Piece) (t : Times) (bytes : List ℕ) (timing : Timing) (size : ℕ) → All (IsShort j.lengths) before
+    → refusal_at j.lengths j.heading.scale t timing.ticks size ≡ None → TakenFits j.lengths (with_part j before (parted j.lengths j.heading t bytes timing))
+with-part-fits j before t bytes timing size short none =
+    let part = parted j.lengths j.heading t bytes timing in
+    let lasts = part_lasts j.heading.scale t timing.ticks in
+    let uncounted = not (is_counted j.heading.scale (t.position + timing.ticks)) in
+    let none_long = not-long (uncounted || is_past j.lengths t lasts) (if nat_lt size_limit size then Some TooLarge else None) none in
+    let few = ltb-false j.lengths.part lasts (or-left (nat_lt j.lengths.part lasts) (nat_lt last_micro (part_end t lasts)) (or-right uncounted (is_past j.lengths t lasts) none_long)) in (
+      refl,
+      All-append (IsShort j.lengths) before (part.piece ∷ []) short (All-cons (IsShort j.lengths) part.piece [] (omega (arith, few)) (All-nil (IsShort j.lengths))),
+      tt,
+    )
+
+heard-fits : (j : Joining) (stage : Stage) (bytes : List ℕ) (timing : Timing) → 0 < length bytes → refusal j stage (length bytes) timing ≡ None
+    → StageFits j.lengths j.heading.scale stage → TakenFits j.lengths (heard j stage bytes timing)
+unfolding refusal
+heard-fits j (Silent lead) bytes timing some none fits = by_ahead j.lengths.ahead none
+  where
+    by_ahead : (b : Bool)
+        → (
+        if◌then◌else◌ {A = Option Fault} b
+        (refusal_by (is_long j.lengths j.heading.scale true timing.ticks) (refusal_of j.heading.scale (first_time timing.time + timing.ticks) (length lead + length bytes)))
+        (refusal_at j.lengths j.heading.scale (first_times j timing) timing.ticks (length lead + length bytes))
+        )
+        ≡ None
+        → TakenFits j.lengths (
+        if◌then◌else◌ {A = Taken} b (record { pieces = []; after = on_stage j (Under (held_of lead bytes timing) (first_times j timing) []) })
+        (with_part j [] (parted j.lengths j.heading (first_times j timing) (lead ++ bytes) timing))
+        )
+    by_ahead true e =
+        (refl, All-nil (IsShort j.lengths), (after-some lead bytes some, fresh-inside j.lengths j.heading.scale (first_time timing.time) j.end (first_time timing.time) 0))
+    by_ahead false e = with-part-fits j [] (first_times j timing) (lead ++ bytes) timing (length lead + length bytes) (All-nil (IsShort j.lengths)) e
+heard-fits j (Under held t under) bytes timing some none fits =
     followed-fits j held t under bytes timing (parting j.lengths j.heading.scale held t timing.time) some
     (not-over j.lengths j.heading.scale t.position (time_of t held.ticks timing.time)) fits
+heard-fits j (Prompt lead t) bytes timing some none fits =
+    let next = next_after j.lengths j.heading.scale t timing.time in
+    with-part-fits j (said_between j.heading t next) (times_at t next) (lead ++ bytes) timing (length lead + length bytes)
+    (between-short j.lengths j.heading t next) none
 
 over-fits : (j : Joining) (stage : Stage) → StageFits j.lengths j.heading.scale stage → All (IsShort j.lengths) (over j stage)
 over-fits j (Silent lead) fits = All-nil (IsShort j.lengths)
 over-fits j (Under held t under) (full, inside) = step-short j.lengths j.heading t under (group_of held held.since) inside Over
+over-fits j (Prompt lead t) fits = finish-short j.lengths t
 
 begun-fits : (j : Joining) (section : List ℕ) (movie : MovieValue) → StageFits j.lengths j.heading.scale j.stage → TakenFits j.lengths (begun j section movie)
 begun-fits j section movie fits = (
   refl,
-  All-append (IsShort j.lengths) (over j j.stage) (Begin ∷ Init section ∷ []) (over-fits j j.stage fits)
-      (All-cons (IsShort j.lengths) Begin (Init section ∷ []) tt (All-cons (IsShort j.lengths) (Init section) [] tt (All-nil (IsShort j.lengths)))),
+  All-append (IsShort j.lengths) (over j j.stage) (Begin section ∷ []) (over-fits j j.stage fits)
+      (All-cons (IsShort j.lengths) (Begin section) [] tt (All-nil (IsShort j.lengths))),
   tt,
 )
 
 beside-fits : (l : Lengths) (scale : ℕ) (stage : Stage) (other : Other) → StageFits l scale stage → StageFits l scale (beside stage other)
 beside-fits l scale (Silent lead) other fits = tt
 beside-fits l scale (Under held t under) other fits = fits
+beside-fits l scale (Prompt lead t) other fits = tt
 
 -- ---- one more unit
 
@@ -240,16 +305,16 @@ abbrev pub BroughtFits : Joining → Result Brought Fault → Type 0
 BroughtFits j (Ok brought) = TakenFits j.lengths (record { pieces = brought.pieces; after = brought.after.joining })
 BroughtFits j (Err fault) = ⊤
 
-unless-fits : (j : Joining) (fault : Option Fault) (b : Brought) → BroughtFits j (Ok b) → BroughtFits j (unless fault b)
+unless-fits : (j : Joining) (fault : Option Fault) (b : Brought) → (fault ≡ None → BroughtFits j (Ok b)) → BroughtFits j (unless fault b)
 unless-fits j (Some fault) b fits = tt
-unless-fits j None b fits = fits
+unless-fits j None b fits = fits refl
 
 with-beside-fits : (s : Stream) (unit : List ℕ) (moment : Option Moment) → StageFits s.joining.lengths s.joining.heading.scale s.joining.stage
     → BroughtFits s.joining (with_beside s unit moment)
 with-beside-fits s unit moment fits =
     let other : Other = record { bytes = unit; moment = moment } in
     unless-fits s.joining (refusal_beside s.joining.stage (length unit)) (record { pieces = []; after = record s { joining = on_stage s.joining (beside s.joining.stage other) } })
-    (refl, All-nil (IsShort s.joining.lengths), beside-fits s.joining.lengths s.joining.heading.scale s.joining.stage other fits)
+    (λ _. (refl, All-nil (IsShort s.joining.lengths), beside-fits s.joining.lengths s.joining.heading.scale s.joining.stage other fits))
 
 element-fits : (s : Stream) (unit : List ℕ) (element : Result Element Fault) → 0 < length unit → StageFits s.joining.lengths s.joining.heading.scale s.joining.stage
     → BroughtFits s.joining (element >>= with_element s unit)
@@ -257,7 +322,7 @@ element-fits s unit (Err fault) some fits = tt
 element-fits s unit (Ok (Movie movie)) some fits = begun-fits s.joining unit movie fits
 element-fits s unit (Ok (Fragment timing)) some fits =
     unless-fits s.joining (refusal s.joining s.joining.stage (length unit) timing) (brought_by s.movie (heard s.joining s.joining.stage unit timing))
-    (heard-fits s.joining s.joining.stage unit timing some fits)
+    (λ none. heard-fits s.joining s.joining.stage unit timing some none fits)
 element-fits s unit (Ok (Beside moment)) some fits = with-beside-fits s unit moment fits
 
 -- no bytes are no fragment

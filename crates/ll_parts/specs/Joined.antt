@@ -1,27 +1,29 @@
--- The pieces of a stream: its movies, fragment by fragment, where of each fragment of the governing track the next one is known.
-use Rattle.std.specs.Prelude.{◌&&◌, ℕ, ⊤, ◌≡◌, take, drop, ◌+◌, ◌-◌, Bool, true, false, List, [], ◌∷◌, ◌++◌, length, nat_lt, min, ◌^◌, if◌then◌else◌, not, Option, Some, None}
-use Rattle.ll_parts.specs.Times.{at_tick, cut_before, duration_to, is_counted, ends_run, joined_to, lasts, micros, next_at, rendition_end, said_to, since_origin, size_limit, time_of, times_after, times_from}
+-- The pieces of a stream: its movies, fragment by fragment, where of each fragment of the governing track the next one is known, or each is a part.
+use Rattle.std.specs.Prelude.{◌&&◌, ◌||◌, ℕ, ⊤, ◌≡◌, take, drop, ◌+◌, ◌-◌, Bool, true, false, List, [], ◌∷◌, ◌++◌, length, nat_lt, min, ◌^◌, if◌then◌else◌, not, Option, Some, None}
+use Rattle.ll_runs.specs.Times.{duration_to, ends_run, is_counted, joined_to, judged, micros, next_at, place_of, rendition_end, said_to, size_limit, time_of, times_after, times_from}
 use Rattle.ll_parts.specs.Others.{bytes_of, leads, stay}
+use Rattle.ll_parts.specs.Pieces.{ending, part_of}
+use Rattle.ll_parts.specs.Prompt.{Parted, finish, parted, said_between}
+use Rattle.ll_runs.specs.Prompt.{end_of_parts, next_after, times_at}
 use Rattle.ll_mp4.specs.Movies.{MovieValue}
 use Rattle.ll_mp4.specs.declared.fault.Fault.{Fault}
-use Rattle.ll_mp4.specs.declared.fault.Fault.TheVariants.{TooLarge, TooLong}
-use Rattle.ll_parts.specs.declared.lengths.Lengths.{Lengths}
+use Rattle.ll_mp4.specs.declared.fault.Fault.TheVariants.{TooLarge}
+use Rattle.ll_runs.specs.Refusals.{is_long, refusal_at, refusal_by, refusal_of}
+use Rattle.ll_runs.specs.declared.lengths.Lengths.{Lengths}
 use Rattle.ll_parts.specs.declared.pieces.Piece.{Piece}
-use Rattle.ll_parts.specs.declared.pieces.Piece.TheVariants.{Begin, Init, Media, Break}
+use Rattle.ll_parts.specs.declared.pieces.Piece.TheVariants.{Begin, Init}
 use Rattle.ll_parts.specs.declared.heading.Heading.{Heading}
 use Rattle.ll_parts.specs.declared.stage.Held.{Held}
-use Rattle.ll_shift.specs.Moved.{moved}
-use Rattle.ll_shift.specs.declared.shift.Shift.{Shift}
 use Rattle.ll_parts.specs.declared.others.Other.{Other}
 use Rattle.ll_parts.specs.declared.stage.Parting.{Parting}
 use Rattle.ll_parts.specs.declared.stage.Stage.{Stage}
-use Rattle.ll_parts.specs.declared.stage.Stage.TheVariants.{Silent, Under}
-use Rattle.ll_parts.specs.declared.times.Cut.{Cut}
-use Rattle.ll_parts.specs.declared.times.Cut.TheVariants as cut
-use Rattle.ll_parts.specs.declared.times.Judged.{Judged}
-use Rattle.ll_parts.specs.declared.times.Next.{Next}
-use Rattle.ll_parts.specs.declared.times.Next.TheVariants.{Over, Back, At}
-use Rattle.ll_parts.specs.declared.times.Times.{Times}
+use Rattle.ll_parts.specs.declared.stage.Stage.TheVariants.{Silent, Under, Prompt}
+use Rattle.ll_runs.specs.declared.times.Cut.{Cut}
+use Rattle.ll_runs.specs.declared.times.Cut.TheVariants as cut
+use Rattle.ll_runs.specs.declared.times.Judged.{Judged}
+use Rattle.ll_runs.specs.declared.times.Next.{Next}
+use Rattle.ll_runs.specs.declared.times.Next.TheVariants.{Over}
+use Rattle.ll_runs.specs.declared.times.Times.{Times}
 use Rattle.ll_parts.specs.declared.stage.Onward.{Onward}
 use Rattle.ll_parts.specs.declared.stage.Group.{Group}
 use Rattle.ll_mp4.specs.declared.timing.Timing.{Timing}
@@ -41,32 +43,7 @@ at_start lengths end = record { lengths = lengths; heading = record { section = 
 
 -- ---- a fragment of which it is known what comes after it
 
-abbrev pub judged_by : Lengths → ℕ → Times → ℕ → ℕ → Bool → ℕ → Next → (begin said lasts : ℕ) → Judged
-judged_by lengths scale t size ticks sync more next begin said lasts =
-    record { begin = begin; lasts = lasts; end = min (begin + lasts) (2 ^ 64 - 1); cut = cut_before lengths t size begin lasts sync more; ends = ends_run lengths said next }
-
-abbrev pub judged_said : Lengths → ℕ → Times → ℕ → ℕ → Bool → ℕ → Next → ℕ → Judged
-judged_said lengths scale t size ticks sync more next said =
-    judged_by lengths scale t size ticks sync more next (at_tick scale t t.position) said (lasts lengths scale t ticks said)
-
--- the part under way has `size` bytes, the fragment with what goes with it `more`
-abbrev pub judged : Lengths → ℕ → Times → ℕ → ℕ → Bool → ℕ → Next → Judged
-judged lengths scale t size ticks sync more next = judged_said lengths scale t size ticks sync more next (said_to scale t ticks next)
-
--- how the times of a run are moved
-abbrev pub shift_of : ℕ → Times → Shift
-shift_of scale t = record { base = t.base; scale = scale; end = t.end }
-
--- a part of these bytes
-abbrev pub part_of : Heading → Times → List ℕ → ℕ → Bool → Piece
-part_of h t bytes duration finishes = Media (record {
-  bytes = moved (shift_of h.scale t) h.scales bytes;
-  duration = duration;
-  independent = t.independent;
-  finishes = finishes;
-})
-
--- what ends before the fragment
+-- what ends before it
 abbrev pub said_before : Heading → Times → List ℕ → ℕ → Cut → List Piece
 said_before h t under begin cut.Joins = []
 said_before h t under begin cut.Part = part_of h t under (duration_to t begin) false ∷ []
@@ -77,12 +54,6 @@ abbrev pub with_group : Cut → List ℕ → List ℕ → List ℕ
 with_group cut.Joins under bytes = under ++ bytes
 with_group cut.Part under bytes = bytes
 with_group cut.Segment under bytes = bytes
-
--- after the last part of a run
-abbrev pub ending : Heading → Times → Next → List Piece
-ending h t Over = []
-ending h t (Back tick) = Break None ∷ Init h.section ∷ []
-ending h t (At tick) = Break (Some (since_origin h.scale t tick)) ∷ Init h.section ∷ []
 
 -- what is said where the run ends at this microsecond of it
 abbrev pub said_after : Heading → Times → List ℕ → ℕ → Bool → Next → List Piece
@@ -129,12 +100,6 @@ pub record Taken : Type 0 where
   pub pieces : List Piece
   pub after : Joining
 
--- the tick at which the next fragment begins
-abbrev pub place_of : Next → ℕ
-place_of Over = 0
-place_of (Back tick) = tick
-place_of (At tick) = tick
-
 -- what comes after a fragment, and how many of those that came since go with it
 abbrev pub parting_by : ℕ → Held → Times → Next → Bool → Parting
 parting_by scale held t next ends = record { next = next; ends = ends; count = stay ends (leads scale t.position (place_of next)) held.since }
@@ -157,25 +122,25 @@ abbrev pub first_time : Option ℕ → ℕ
 first_time None = 0
 first_time (Some time) = time
 
+-- where a movie's first fragment begins a run
+abbrev pub first_times : Joining → Timing → Times
+first_times j timing = times_from (first_time timing.time) j.end (first_time timing.time)
+
+-- a fragment that is a part, after what is said before it
+abbrev pub with_part : Joining → List Piece → Parted → Taken
+with_part j before parted = record { pieces = before ++ parted.piece ∷ []; after = on_stage j (Prompt [] parted.times) }
+
+abbrev pub with_part_at : Joining → Times → List ℕ → Timing → Next → Taken
+with_part_at j t bytes timing next = with_part j (said_between j.heading t next) (parted j.lengths j.heading (times_at t next) bytes timing)
+
 abbrev pub heard : Joining → Stage → List ℕ → Timing → Taken
-heard j (Silent lead) bytes timing = record {
-  pieces = [];
-  after = on_stage j (Under (held_of lead bytes timing) (times_from (first_time timing.time) j.end (first_time timing.time)) []);
-}
+heard j (Silent lead) bytes timing =
+    if j.lengths.ahead then record { pieces = []; after = on_stage j (Under (held_of lead bytes timing) (first_times j timing) []) }
+    else with_part j [] (parted j.lengths j.heading (first_times j timing) (lead ++ bytes) timing)
 heard j (Under held t under) bytes timing = followed j held t under bytes timing (parting j.lengths j.heading.scale held t timing.time)
+heard j (Prompt lead t) bytes timing = with_part_at j t (lead ++ bytes) timing (next_after j.lengths j.heading.scale t timing.time)
 
--- why a fragment is refused, by the tick at which it ends and by how many bytes it has with those that go with it
-abbrev pub refusal_of : ℕ → ℕ → ℕ → Option Fault
-refusal_of scale end size = if not (is_counted scale end) then Some TooLong else if nat_lt size_limit size then Some TooLarge else None
-
--- one that begins a run is no longer than a part may be: what is longer amid a run is a gap after it
-abbrev pub is_long : Lengths → ℕ → Bool → ℕ → Bool
-is_long lengths scale begins ticks = begins && nat_lt lengths.part (micros scale ticks)
-
-abbrev pub refusal_by : Bool → Option Fault → Option Fault
-refusal_by true other = Some TooLong
-refusal_by false other = other
-
+-- why a fragment is refused after the one that is held
 abbrev pub refusal_after : Lengths → ℕ → Held → ℕ → ℕ → Parting → Option Fault
 refusal_after lengths scale held size ticks p =
     refusal_by (is_long lengths scale p.ends ticks)
@@ -184,15 +149,21 @@ refusal_after lengths scale held size ticks p =
 -- a fragment with `size` bytes
 unfoldable pub refusal : Joining → Stage → ℕ → Timing → Option Fault
 refusal j (Silent lead) size timing =
+    if j.lengths.ahead
+    then
     refusal_by (is_long j.lengths j.heading.scale true timing.ticks)
     (refusal_of j.heading.scale (first_time timing.time + timing.ticks) (length lead + size))
+    else refusal_at j.lengths j.heading.scale (first_times j timing) timing.ticks (length lead + size)
 refusal j (Under held t under) size timing =
     refusal_after j.lengths j.heading.scale held size timing.ticks (parting j.lengths j.heading.scale held t timing.time)
+refusal j (Prompt lead t) size timing =
+    refusal_at j.lengths j.heading.scale (times_at t (next_after j.lengths j.heading.scale t timing.time)) timing.ticks (length lead + size)
 
 -- how many bytes go together with what comes next of other tracks
 abbrev pub size_of : Stage → ℕ
 size_of (Silent lead) = length lead
 size_of (Under held t under) = length held.bytes + length (bytes_of held.since)
+size_of (Prompt lead t) = length lead
 
 -- why `size` bytes without a fragment of the governing track are refused: with those that they go with they are too many
 abbrev pub refusal_beside : Stage → ℕ → Option Fault
@@ -201,17 +172,20 @@ refusal_beside stage size = if nat_lt size_limit (size_of stage + size) then Som
 abbrev pub beside : Stage → Other → Stage
 beside (Silent lead) other = Silent (lead ++ other.bytes)
 beside (Under held t under) other = Under (record held { since = held.since ++ other ∷ [] }) t under
+beside (Prompt lead t) other = Prompt (lead ++ other.bytes) t
 
 -- ---- where a movie ends
 
 abbrev pub over : Joining → Stage → List Piece
 over j (Silent lead) = []
 over j (Under held t under) = (step_of j.lengths j.heading t under (group_of held held.since) Over).pieces
+over j (Prompt lead t) = finish t
 
 -- where the rendition ends then
 abbrev pub end_of : Joining → Stage → ℕ
 end_of j (Silent lead) = j.end
 end_of j (Under held t under) = (step_of j.lengths j.heading t under (group_of held held.since) Over).onward.end
+end_of j (Prompt lead t) = end_of_parts t
 
 abbrev pub finished : Joining → Joining
 finished j = record j { end = end_of j j.stage; stage = Silent [] }
@@ -221,7 +195,7 @@ heading_of section movie = record { section = section; scales = movie.scales; sc
 
 abbrev pub begun : Joining → List ℕ → MovieValue → Taken
 begun j section movie = record {
-  pieces = over j j.stage ++ Begin ∷ Init section ∷ [];
+  pieces = over j j.stage ++ Begin section ∷ [];
   after = record (finished j) { heading = heading_of section movie };
 }
 
@@ -234,7 +208,11 @@ empty_stage = Silent []
 abbrev pub under : Held → Times → List ℕ → Stage
 under held t bytes = Under held t bytes
 
--- where the samples of the fragment that is held end can be counted
+abbrev pub prompt : List ℕ → Times → Stage
+prompt lead t = Prompt lead t
+
+-- where the samples end that came so far can be counted
 abbrev pub IsCounted : ℕ → Stage → Type 0
 IsCounted scale (Silent lead) = ⊤
 IsCounted scale (Under held t under) = is_counted scale (t.position + held.ticks) ≡ true
+IsCounted scale (Prompt lead t) = is_counted scale t.position ≡ true

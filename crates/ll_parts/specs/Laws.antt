@@ -1,9 +1,9 @@
 -- The laws of cutters.
-use Rattle.std.specs.Prelude.{◌≡◌, ◌≤◌, ⊤, ℕ, List, [], ◌++◌, false, None, All, max}
+use Rattle.std.specs.Prelude.{◌≡◌, ◌≤◌, ◌<◌, ◌+◌, ⊤, ℕ, List, [], ◌∷◌, ◌++◌, false, if◌then◌else◌, None, All, max}
 use Rattle.ll_parts.specs.Stream.{CutterValue, advanced_cutter, closed, published, to_come, with_bytes, with_first, with_piece}
-use Rattle.ll_parts.specs.declared.lengths.Lengths.{Lengths}
+use Rattle.ll_runs.specs.declared.lengths.Lengths.{Lengths}
 use Rattle.ll_parts.specs.declared.pieces.Piece.{Piece}
-use Rattle.ll_parts.specs.declared.pieces.Piece.TheVariants.{Begin, Init, Media, Break}
+use Rattle.ll_parts.specs.declared.pieces.Piece.TheVariants.{Begin, Init, Media, Finish, Break}
 
 -- bytes that came before others
 abbrev pub BytesCome : Type 0
@@ -29,11 +29,40 @@ EndComes = (c : CutterValue) (input : List ℕ) → (advanced_cutter c).0 ≡ fa
 
 -- a part lasts no longer than is said, but for one of a microsecond
 abbrev pub IsShort : Lengths → Piece → Type 0
-IsShort lengths Begin = ⊤
+IsShort lengths (Begin section) = ⊤
 IsShort lengths (Init section) = ⊤
 IsShort lengths (Media part) = part.duration ≤ max 1 lengths.part
+IsShort lengths Finish = ⊤
 IsShort lengths (Break since) = ⊤
 
 -- no part of a stream lasts longer
 abbrev pub PartsFit : Type 0
 PartsFit = (lengths : Lengths) (end : ℕ) (input : List ℕ) → All (IsShort lengths) (published lengths end input).pieces
+
+-- ---- segments
+
+-- how long the open segment is after a piece, if it was so long before
+abbrev pub open_after : ℕ → Piece → ℕ
+open_after n (Begin section) = n
+open_after n (Init section) = n
+open_after n (Media part) = if part.finishes then 0 else n + part.duration
+open_after n Finish = 0
+open_after n (Break since) = n
+
+-- a segment is no longer than is said, and all else but a part comes after its end
+abbrev pub GoesOn : ℕ → ℕ → Piece → Type 0
+GoesOn most n (Begin section) = n ≡ 0
+GoesOn most n (Init section) = n ≡ 0
+GoesOn most n (Media part) = n + part.duration ≤ most
+GoesOn most n Finish = 0 < n
+GoesOn most n (Break since) = n ≡ 0
+
+abbrev pub GoOn : ℕ → ℕ → List Piece → Type 0
+GoOn most n [] = n ≡ 0
+GoOn most n (piece ∷ pieces) = GoesOn most n piece × GoOn most (open_after n piece) pieces
+
+-- where parts don't wait, each segment of a stream ends, and none is longer than the longest
+abbrev pub SegmentsFit : Type 0
+SegmentsFit =
+    (lengths : Lengths) (end : ℕ) (input : List ℕ) → lengths.ahead ≡ false → lengths.part ≤ lengths.most
+    → GoOn lengths.most 0 (published lengths end input).pieces

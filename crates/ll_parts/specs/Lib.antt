@@ -1,5 +1,6 @@
 pub mod Joined
 pub mod Laws
 pub mod Others
+pub mod Pieces
+pub mod Prompt
 pub mod Stream
-pub mod Times

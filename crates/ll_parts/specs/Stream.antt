@@ -9,7 +9,7 @@ use Rattle.ll_mp4.specs.declared.element.Element.TheVariants.{Movie, Fragment, B
 use Rattle.ll_mp4.specs.declared.fault.Fault.{Fault}
 use Rattle.ll_mp4.specs.declared.fault.Fault.TheVariants.{Memory, NoMoov}
 use Rattle.ll_parts.specs.Joined.{Joining, Taken, at_start, begun, beside, finished, heard, on_stage, over, refusal, refusal_beside}
-use Rattle.ll_parts.specs.declared.lengths.Lengths.{Lengths}
+use Rattle.ll_runs.specs.declared.lengths.Lengths.{Lengths}
 use Rattle.ll_parts.specs.declared.pieces.Piece.{Piece}
 use Rattle.ll_mp4.specs.declared.timing.Moment.{Moment}
 

@@ -4,10 +4,10 @@ ghost use Rattle.ll_mp4.specs.Streams.{end_fault};
 ghost use Rattle.ll_parts.specs.Stream.{advanced_cutter, begun_cutter, closed, or_no_movie, stopped, with_bytes, with_first};
 
 use crate::joiner::Joiner;
-use crate::lengths::Lengths;
 use crate::pieces::{Piece, Pieces};
 use crate::stream::Stream;
 use ll_mp4::{Fault, Splitter};
+use ll_runs::Lengths;
 use std::alloc::Global;
 use std::marker::Model;
 
@@ -122,7 +122,8 @@ impl Cutter {
 
     /// Returns the fault that ends the input, once it is over.
     pub fn fault(&self) -> Option<Fault>
-        ensures { result ≡ self.now.progress.fault }
+        ensures fault { result ≡ self.now.progress.fault }
+        ensures over { self.now.is_over ≡ false → result ≡ None }
     {
         self.fault
     }

@@ -1,23 +1,22 @@
 //! The pieces of an encoder's stream, as its elements come.
-ghost use Rattle.std.specs.Prelude.{◌≡◌, ◌≢◌, ◌+◌, ◌<◌, ◌≤◌, ◌^◌, ◌++◌, ◌∷◌, [], IfErr, IfOk, None, Some, length, true};
+ghost use Rattle.std.specs.Prelude.{◌≡◌, ◌≢◌, ◌+◌, ◌<◌, ◌≤◌, ◌^◌, ◌++◌, ◌∷◌, [], IfErr, IfOk, None, Some, length, false, true};
 ghost use Rattle.ll_mp4.specs.declared.fault.Fault.TheVariants.{Memory};
 ghost use Rattle.ll_parts.specs.Joined as spec;
-ghost use Rattle.ll_parts.specs.Joined.{at_start, begun, heard, over, refusal, step_of};
-ghost use Rattle.ll_parts.specs.Times.{is_counted};
-ghost use Rattle.ll_parts.specs.declared.times.Next.{Next};
+ghost use Rattle.ll_parts.specs.Joined.{at_start, begun, heard, over, refusal};
+ghost use Rattle.ll_runs.specs.Times.{is_counted};
+ghost use Rattle.ll_runs.specs.declared.times.Next.{Next};
 
 use crate::bytes::Bytes;
+use crate::frame::Frame;
 use crate::heading::{Heading, Scales};
-use crate::lengths::Lengths;
 use crate::others::{Other, Others};
-use crate::pieces::{Part, Piece, Pieces};
-use crate::stage::{Group, Held, Onward, Parting, Stage};
-use crate::times::{
-    Cut, Judged, Next, SIZE_LIMIT, Span, Times, Weight, ends_run, is_counted, micros, next_at,
-    place_of,
-};
+use crate::pieces::{Piece, Pieces};
+use crate::stage::{Held, Parting, Stage};
 use ll_mp4::{Fault, Moment, Movie, Timing};
-use ll_shift::Shift;
+use ll_runs::{
+    Lengths, Next, SIZE_LIMIT, Span, Times, ends_run, next_after, next_at, place_of, refusal_at,
+    refusal_of,
+};
 use std::alloc::{AllocError, Global};
 use std::marker::Model;
 use std::mem;
@@ -74,8 +73,7 @@ impl Joiner {
         ensures { IfOk result (λ _. (out.new ≡ out.old ++ (begun self.old section.now movie.now).pieces) × (self.new ≡ (begun self.old section.now movie.now).after)) }
     {
         self.finish(out)?;
-        out.push(Piece::Begin)?;
-        out.push(Piece::Init(Bytes::of(self.alloc, section)?))?;
+        out.push(Piece::Begin(Bytes::of(self.alloc, section)?))?;
         self.heading = Heading {
             section: Bytes::of(self.alloc, section)?,
             scales: Scales::of(self.alloc, movie.scales())?,
@@ -89,9 +87,32 @@ impl Joiner {
         ensures pieces { IfOk result (λ _. out.new ≡ out.old ++ over self.old self.old.stage) }
         ensures after { IfOk result (λ _. self.new ≡ spec.finished self.old) }
     {
-        let Stage::Under(held, times, under) = self.leave() else {
-            return Ok(());
-        };
+        match self.leave() {
+            Stage::Silent(_) => Ok(()),
+            Stage::Under(held, times, under) => {
+                self.finish_part(held, times, under, out)?;
+                Ok(())
+            }
+            Stage::Prompt(_, times) => {
+                self.frame().finish(&times, out)?;
+                self.end = times.end_of_parts();
+                Ok(())
+            }
+        }
+    }
+
+    /// Adds to `out` what the fragment that is `held` brings as the movie's last, in a run of these `times`; `under` are the bytes of the part under way.
+    fn finish_part(
+        &mut self,
+        held: Held,
+        times: Times,
+        under: Bytes,
+        out: &mut Pieces,
+    ) -> Result<(), AllocError>
+        requires { is_counted self.old.heading.scale (times.position + held.ticks) ≡ true }
+        ensures pieces { IfOk result (λ _. out.new ≡ out.old ++ over self.old (spec.under held times under)) }
+        ensures after { IfOk result (λ _. self.new ≡ record self.old { end = spec.end_of self.old (spec.under held times under) }) }
+    {
         let count = held.since.len();
         let group = held.group(count)?;
         let onward = self.frame().step(times, under, group, Next::Over, out)?;
@@ -103,7 +124,7 @@ impl Joiner {
     ///
     /// # Errors
     ///
-    /// `TooLong` if it ends past what can be counted, or begins a run and is longer than a part may be, `TooLarge` if it has more than 1,048,576 bytes with those that go with it, and then nothing changes; or `Memory`.
+    /// `TooLong` if it ends past what can be counted, or is longer than a part may be and begins a run or is a part itself, `TooLarge` if it has more than 1,048,576 bytes with those that go with it, and then nothing changes; or `Memory`.
     #[tactic(auto, unfolding(crate::specs::Joined::refusal))]
     pub fn hear(&mut self, bytes: &[u8], timing: Timing, out: &mut Pieces) -> Result<(), Fault>
         ensures taken { IfOk result (λ _. (out.new ≡ out.old ++ (heard self.old self.old.stage bytes.now timing).pieces) × (self.new ≡ (heard self.old self.old.stage bytes.now timing).after)) }
@@ -111,10 +132,17 @@ impl Joiner {
         ensures refused { IfErr result (λ fault. fault ≢ Memory → (refusal self.old self.old.stage (length bytes.now) timing ≡ Some fault) × (self.new ≡ self.old) × (out.new ≡ out.old)) }
     {
         match self.leave() {
-            Stage::Silent(lead) => self.hear_first(lead, bytes, timing),
+            Stage::Silent(lead) => {
+                if self.lengths.ahead {
+                    self.hear_first(lead, bytes, timing)
+                } else {
+                    self.hear_first_part(lead, bytes, timing, out)
+                }
+            }
             Stage::Under(held, times, under) => {
                 self.hear_next(held, times, under, bytes, timing, out)
             }
+            Stage::Prompt(lead, times) => self.hear_part(lead, times, bytes, timing, out),
         }
     }
 
@@ -135,6 +163,7 @@ impl Joiner {
         match &mut self.stage {
             Stage::Silent(lead) => lead.add(bytes.as_slice())?,
             Stage::Under(held, _, _) => held.since.push(Other { bytes, moment })?,
+            Stage::Prompt(lead, _) => lead.add(bytes.as_slice())?,
         }
         Ok(())
     }
@@ -161,10 +190,11 @@ impl Joiner {
         }
     }
 
-    /// Takes the first fragment of the governing track, before which these bytes of its movie stand.
+    /// Takes the first fragment of the governing track, before which these bytes of its movie stand; a part waits for the fragment after it.
     #[tactic(auto, unfolding(crate::specs::Joined::refusal))]
     fn hear_first(&mut self, lead: Bytes, bytes: &[u8], timing: Timing) -> Result<(), Fault>
-        requires { self.old.stage ≡ spec.empty_stage }
+        requires stage { self.old.stage ≡ spec.empty_stage }
+        requires ahead { self.old.lengths.ahead ≡ true }
         ensures taken { IfOk result (λ _. self.new ≡ (heard self.old (spec.silent lead) bytes.now timing).after) }
         ensures accepted { IfOk result (λ _. refusal self.old (spec.silent lead) (length bytes.now) timing ≡ None) }
         ensures refused { IfErr result (λ fault. fault ≢ Memory → (refusal self.old (spec.silent lead) (length bytes.now) timing ≡ Some fault) × (self.new ≡ spec.on_stage self.old (spec.silent lead))) }
@@ -190,7 +220,7 @@ impl Joiner {
     }
 
     /// Takes a further fragment, after the one that is `held`, in a run of these `times`; `under` are the bytes of the part under way.
-    #[tactic(auto, using(crate::proofs::TimeLemmas::counted_less), unfolding(crate::specs::Joined::refusal))]
+    #[tactic(auto, using(ll_runs::proofs::TimeLemmas::counted_less), unfolding(crate::specs::Joined::refusal))]
     fn hear_next(
         &mut self,
         held: Held,
@@ -232,6 +262,74 @@ impl Joiner {
         self.stage = Stage::Under(later, onward.times, onward.bytes);
         Ok(())
     }
+
+    /// Takes the first fragment if it is a part, before which these bytes of its movie stand.
+    #[tactic(auto, unfolding(crate::specs::Joined::refusal))]
+    fn hear_first_part(
+        &mut self,
+        lead: Bytes,
+        bytes: &[u8],
+        timing: Timing,
+        out: &mut Pieces,
+    ) -> Result<(), Fault>
+        requires { self.old.lengths.ahead ≡ false }
+        ensures taken { IfOk result (λ _. (out.new ≡ out.old ++ (heard self.old (spec.silent lead) bytes.now timing).pieces) × (self.new ≡ (heard self.old (spec.silent lead) bytes.now timing).after)) }
+        ensures accepted { IfOk result (λ _. refusal self.old (spec.silent lead) (length bytes.now) timing ≡ None) }
+        ensures refused { IfErr result (λ fault. fault ≢ Memory → (refusal self.old (spec.silent lead) (length bytes.now) timing ≡ Some fault) × (self.new ≡ spec.on_stage self.old (spec.silent lead)) × (out.new ≡ out.old)) }
+    {
+        let tick = timing.time.unwrap_or(0);
+        let times = Times::from(tick, self.end, tick);
+        let size = lead.len() as u128 + bytes.len() as u128;
+        if let Some(fault) = refusal_at(
+            &self.lengths,
+            self.heading.scale,
+            &times,
+            timing.ticks,
+            size,
+        ) {
+            self.stage = Stage::Silent(lead);
+            return Err(fault);
+        }
+        let part = lead.with(Bytes::of(self.alloc, bytes)?)?;
+        let after = self.frame().add_part(times, part, timing, out)?;
+        self.stage = Stage::Prompt(Bytes::new(self.alloc), after);
+        Ok(())
+    }
+
+    /// Takes a further fragment if it is a part, before which these bytes stand, in a run of these `times`.
+    #[tactic(auto, using(ll_runs::proofs::TimeLemmas::counted_place), unfolding(crate::specs::Joined::refusal))]
+    fn hear_part(
+        &mut self,
+        lead: Bytes,
+        times: Times,
+        bytes: &[u8],
+        timing: Timing,
+        out: &mut Pieces,
+    ) -> Result<(), Fault>
+        requires { is_counted self.old.heading.scale times.position ≡ true }
+        ensures taken { IfOk result (λ _. (out.new ≡ out.old ++ (heard self.old (spec.prompt lead times) bytes.now timing).pieces) × (self.new ≡ (heard self.old (spec.prompt lead times) bytes.now timing).after)) }
+        ensures accepted { IfOk result (λ _. refusal self.old (spec.prompt lead times) (length bytes.now) timing ≡ None) }
+        ensures refused { IfErr result (λ fault. fault ≢ Memory → (refusal self.old (spec.prompt lead times) (length bytes.now) timing ≡ Some fault) × (self.new ≡ spec.on_stage self.old (spec.prompt lead times)) × (out.new ≡ out.old)) }
+    {
+        let next = next_after(&self.lengths, self.heading.scale, &times, timing.time);
+        let run = times.at(next);
+        let size = lead.len() as u128 + bytes.len() as u128;
+        if let Some(fault) = refusal_at(
+            &self.lengths,
+            self.heading.scale,
+            &run,
+            timing.ticks,
+            size,
+        ) {
+            self.stage = Stage::Prompt(lead, times);
+            return Err(fault);
+        }
+        let part = lead.with(Bytes::of(self.alloc, bytes)?)?;
+        self.frame().end_before(&times, next, out)?;
+        let after = self.frame().add_part(run, part, timing, out)?;
+        self.stage = Stage::Prompt(Bytes::new(self.alloc), after);
+        Ok(())
+    }
 }
 
 /// Returns what comes after the fragment that is held if the next one begins at `time`, and how many of those that came since go with it.
@@ -253,182 +351,5 @@ fn parting(lengths: &Lengths, scale: u32, held: &Held, times: &Times, time: Opti
         next,
         ends,
         count: held.since.stay(ends, span),
-    }
-}
-
-/// Returns why a fragment is refused that ends at tick `end`, has `ticks` by its samples and `size` bytes with those that go with it, and begins a run or doesn't.
-fn refusal_of(
-    lengths: &Lengths,
-    scale: u32,
-    begins: bool,
-    ticks: u64,
-    end: u128,
-    size: u128,
-) -> Option<Fault>
-    requires { end < 2 ^ 66 }
-    ensures refusal { result ≡ spec.refusal_by (spec.is_long lengths.now scale begins ticks) (spec.refusal_of scale end size) }
-    ensures counted { result ≡ None → is_counted scale end ≡ true }
-{
-    let is_long = begins && micros(scale, ticks as u128) > lengths.part as u128;
-    if is_long || !is_counted(scale, end) {
-        Some(Fault::TooLong)
-    } else if size > SIZE_LIMIT as u128 {
-        Some(Fault::TooLarge)
-    } else {
-        None
-    }
-}
-
-/// What a part's pieces are made with.
-#[derive(Clone, Copy)]
-struct Frame<'a> {
-    alloc: Global,
-    lengths: &'a Lengths,
-    heading: &'a Heading,
-}
-
-impl Frame<'_> {
-    /// Returns the part under way, of these bytes.
-    fn part(
-        &self,
-        times: &Times,
-        under: Bytes,
-        duration: u64,
-        finishes: bool,
-    ) -> Result<Piece, AllocError>
-        ensures { IfOk result (λ piece. piece ≡ spec.part_of self.now.heading.now times.now under duration finishes) }
-    {
-        let shift = Shift {
-            base: times.base,
-            scale: self.heading.scale,
-            end: times.end,
-        };
-        let scales = self.heading.scales.as_slice();
-        Ok(Piece::Media(Part {
-            bytes: under.moved(self.alloc, &shift, scales)?,
-            duration,
-            independent: times.independent,
-            finishes,
-        }))
-    }
-
-    /// Adds to `out` what ends before a fragment, and returns the bytes of the part under way with those of the fragment, `more`.
-    fn cut_off(
-        &self,
-        times: &Times,
-        under: Bytes,
-        judged: Judged,
-        more: Bytes,
-        out: &mut Pieces,
-    ) -> Result<Bytes, AllocError>
-        ensures { IfOk result (λ bytes. (bytes ≡ spec.with_group judged.cut under more) × (out.new ≡ out.old ++ spec.said_before self.now.heading.now times.now under judged.begin judged.cut)) }
-    {
-        let finishes = match judged.cut {
-            Cut::Joins => return under.with(more),
-            Cut::Part => false,
-            Cut::Segment => true,
-        };
-        let duration = times.duration_to(judged.begin);
-        out.push(self.part(times, under, duration, finishes)?)?;
-        Ok(more)
-    }
-
-    /// Adds to `out` the part under way, which ends at microsecond `end` of its run as the last of its segment, and what stands before the next run.
-    fn end_run(
-        &self,
-        times: &Times,
-        under: Bytes,
-        end: u64,
-        next: Next,
-        out: &mut Pieces,
-    ) -> Result<(), AllocError>
-        requires { is_counted self.now.heading.now.scale (spec.place_of next) ≡ true }
-        ensures { IfOk result (λ _. out.new ≡ out.old ++ spec.said_after self.now.heading.now times.now under end true next) }
-    {
-        let duration = times.duration_to(end);
-        out.push(self.part(times, under, duration, true)?)?;
-        let since = match next {
-            Next::Over => return Ok(()),
-            Next::Back(_) => None,
-            Next::At(tick) => Some(times.since_origin(self.heading.scale, tick)),
-        };
-        out.push(Piece::Break(since))?;
-        out.push(Piece::Init(Bytes::of(self.alloc, self.heading.section.as_slice())?))
-    }
-
-    /// Adds to `out` what a fragment brings, which begins at the position of `times` and after which `next` comes; `under` are the bytes of the part under way.
-    fn step(
-        &self,
-        times: Times,
-        under: Bytes,
-        group: Group,
-        next: Next,
-        out: &mut Pieces,
-    ) -> Result<Onward, AllocError>
-        requires counted { is_counted self.now.heading.now.scale (times.position + group.ticks) ≡ true }
-        requires place { is_counted self.now.heading.now.scale (spec.place_of next) ≡ true }
-        ensures onward { IfOk result (λ onward. onward ≡ (step_of self.now.lengths.now self.now.heading.now times under group next).onward) }
-        ensures place { IfOk result (λ onward. next ≢ Next.Over → onward.times.position ≡ spec.place_of next) }
-        ensures pieces { IfOk result (λ _. out.new ≡ out.old ++ (step_of self.now.lengths.now self.now.heading.now times under group next).pieces) }
-    {
-        let weight = Weight {
-            ticks: group.ticks,
-            sync: group.sync,
-            size: group.bytes.len(),
-        };
-        let judged = times.judge(self.lengths, self.heading.scale, under.len(), weight, next);
-        self.step_by(times, under, group, next, judged, out)
-    }
-
-    /// Adds to `out` what a fragment brings that is judged so.
-    fn step_by(
-        &self,
-        times: Times,
-        under: Bytes,
-        group: Group,
-        next: Next,
-        judged: Judged,
-        out: &mut Pieces,
-    ) -> Result<Onward, AllocError>
-        requires { is_counted self.now.heading.now.scale (spec.place_of next) ≡ true }
-        ensures onward { IfOk result (λ onward. onward ≡ (spec.step_by self.now.heading.now times under group next judged).onward) }
-        ensures place { IfOk result (λ onward. next ≢ Next.Over → onward.times.position ≡ spec.place_of next) }
-        ensures pieces { IfOk result (λ _. out.new ≡ out.old ++ (spec.step_by self.now.heading.now times under group next judged).pieces) }
-    {
-        let size = under.len();
-        let bytes = self.cut_off(&times, under, judged, group.bytes, out)?;
-        let times = times.joined(size, judged, group.sync);
-        self.go_on(times, bytes, next, judged, out)
-    }
-
-    /// Adds to `out` what ends with a fragment that has joined, and returns what goes on.
-    fn go_on(
-        &self,
-        times: Times,
-        under: Bytes,
-        next: Next,
-        judged: Judged,
-        out: &mut Pieces,
-    ) -> Result<Onward, AllocError>
-        requires { is_counted self.now.heading.now.scale (spec.place_of next) ≡ true }
-        ensures onward { IfOk result (λ onward. onward ≡ spec.onward_after times under judged.end judged.ends next) }
-        ensures place { IfOk result (λ onward. next ≢ Next.Over → onward.times.position ≡ spec.place_of next) }
-        ensures pieces { IfOk result (λ _. out.new ≡ out.old ++ spec.said_after self.now.heading.now times under judged.end judged.ends next) }
-    {
-        let end = times.rendition_end(judged.end);
-        let onward = times.after(judged.end, judged.ends, next);
-        if !judged.ends {
-            return Ok(Onward {
-                times: onward,
-                bytes: under,
-                end,
-            });
-        }
-        self.end_run(&times, under, judged.end, next, out)?;
-        Ok(Onward {
-            times: onward,
-            bytes: Bytes::new(self.alloc),
-            end,
-        })
     }
 }

@@ -3,20 +3,19 @@
 
 mod bytes;
 mod cutter;
+mod frame;
 mod heading;
 mod joiner;
 mod laws;
-mod lengths;
 mod others;
 mod pieces;
+mod prompt;
 mod stage;
 mod stream;
-mod times;
 
 pub use bytes::Bytes;
 pub use cutter::Cutter;
 pub use joiner::Joiner;
 pub use laws::cutter_law;
-pub use lengths::Lengths;
+pub use ll_runs::{Lengths, SIZE_LIMIT};
 pub use pieces::{Part, Piece, Pieces};
-pub use times::SIZE_LIMIT;

@@ -4,8 +4,8 @@ ghost use Rattle.ll_parts.specs.Others.{bytes_of, leads};
 ghost use Rattle.ll_parts.specs.Others as spec;
 
 use crate::bytes::Bytes;
-use crate::times::Span;
 use ll_mp4::Moment;
+use ll_runs::Span;
 use std::alloc::{AllocError, Global};
 use std::marker::Model;
 

@@ -9,12 +9,14 @@ use std::marker::Model;
 /// What is published of an encoder's stream.
 #[derive(Drop)]
 pub enum Piece {
-    /// A movie begins: its initialization section comes next.
-    Begin,
-    /// An initialization section.
+    /// A movie begins, with this initialization section.
+    Begin(Bytes),
+    /// The initialization section of the movie, again.
     Init(Bytes),
     /// A part.
     Media(Part),
+    /// The open segment ends with the part before.
+    Finish,
     /// A break: by how many microseconds, rounded up, the program's time is later than that at which its movie began, or at which times went back last; `None` if times go back
     /// now.
     Break(Option<u64>),

@@ -4,8 +4,8 @@ ghost use Rattle.ll_parts.specs.Joined.{group_of, held_of, size_of};
 
 use crate::bytes::Bytes;
 use crate::others::Others;
-use crate::times::{Next, Times};
 use ll_mp4::Timing;
+use ll_runs::{Next, Times};
 use std::alloc::{AllocError, Global};
 
 /// What came of a movie so far.
@@ -15,6 +15,8 @@ pub(crate) enum Stage {
     Silent(Bytes),
     /// The last fragment of the governing track, the times of its run, and the bytes of the part under way.
     Under(Held, Times, Bytes),
+    /// What came after the last fragment of the governing track, which was a part itself, and the times of its run.
+    Prompt(Bytes, Times),
 }
 
 impl Stage {
@@ -24,7 +26,7 @@ impl Stage {
         ensures few { result < 2 ^ 66 }
     {
         match self {
-            Stage::Silent(lead) => lead.len() as u128,
+            Stage::Silent(lead) | Stage::Prompt(lead, _) => lead.len() as u128,
             Stage::Under(held, _, _) => held.bytes.len() as u128 + held.since.size() as u128,
         }
     }

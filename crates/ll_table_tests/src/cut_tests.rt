@@ -12,6 +12,7 @@ const LENGTHS: Lengths = Lengths {
     part: 100_000,
     segment: 130_000,
     most: 195_000,
+    ahead: true,
 };
 
 const FTYP: &[u8] = b"\x00\x00\x00\x10ftypcmfc\x00\x00\x00\x00";
@@ -205,13 +206,14 @@ fn add_pieces(alloc: Global, told: &mut String, cutter: &mut Cutter) -> Result<(
 
 fn add_piece(alloc: Global, told: &mut String, piece: &Piece) -> Result<(), AllocError> {
     let note = match piece {
-        Piece::Begin => format!(in alloc; "begin; ")?,
+        Piece::Begin(bytes) => format!(in alloc; "begin; init {}; ", bytes.len())?,
         Piece::Init(bytes) => format!(in alloc; "init {}; ", bytes.len())?,
         Piece::Media(part) => {
             let sync = if part.independent { " sync" } else { "" };
             let last = if part.finishes { " last" } else { "" };
             format!(in alloc; "{}: {}{sync}{last}; ", part.bytes.len(), part.duration)?
         }
+        Piece::Finish => format!(in alloc; "finish; ")?,
         Piece::Break(None) => format!(in alloc; "break; ")?,
         Piece::Break(Some(since)) => format!(in alloc; "break {since}; ")?,
     };

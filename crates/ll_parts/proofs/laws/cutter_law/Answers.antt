@@ -1,5 +1,6 @@
 -- The laws of cutters.
 use Rattle.ll_parts.proofs.PartLemmas.{parts_fit}
+use Rattle.ll_parts.proofs.SegmentLemmas.{segments_fit}
 use Rattle.ll_parts.proofs.StreamLemmas.{bytes_come, end_comes, piece_is_first, units_come}
 use Rattle.ll_parts.proofs.laws.cutter_law.Goals as goal
 
@@ -17,3 +18,6 @@ returns-clause-end c = end_comes
 
 pub returns-clause-parts : goal.returns-clause-parts
 returns-clause-parts c = parts_fit
+
+pub returns-clause-segments : goal.returns-clause-segments
+returns-clause-segments c = segments_fit

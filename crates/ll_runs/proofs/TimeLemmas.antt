@@ -3,8 +3,8 @@ use Rattle.std.proofs.Common.{◌≡◌, ℕ, zero, suc, ◌+◌, ◌-◌, ◌*�
 use borrow.Author.Tests.{leb-true, ltb-true, lt-ltb, le-leb}
 use native.Mathlib.Nat.{div-mul-le_self, div-zero}
 use Rattle.std.proofs.lemmas.Nat.{le-div}
-use Rattle.ll_parts.specs.Times.{at_tick, is_counted, last_micro, micros}
-use Rattle.ll_parts.specs.declared.times.Times.{Times}
+use Rattle.ll_runs.specs.Times.{at_tick, is_counted, last_micro, micros}
+use Rattle.ll_runs.specs.declared.times.Times.{Times}
 
 pub none_pass : (scale ticks : ℕ) → scale ≡ 0 → micros scale ticks ≡ 0
 none_pass scale ticks e = ap (λ s. ticks * 1000000 / s) e ∙ div-zero (ticks * 1000000)
@@ -29,6 +29,12 @@ begins_early scale t ticks counted =
     let early = leb-true (micros scale (t.position + ticks)) last_micro both.1 in
     let less = micros_grow scale (t.position - t.base) (t.position + ticks) (omega arith) in omega (arith, early, less)
 
+-- a counted tick has 64 bits
+pub counted_few : (scale tick : ℕ) → is_counted scale tick ≡ true → tick < 18446744073709551616
+counted_few scale tick counted =
+    let both = of_both (nat_lt tick (2 ^ 64)) (nat_le (micros scale tick) last_micro) counted in
+    let few = ltb-true tick (2 ^ 64) both.0 in omega (arith, few)
+
 -- a counted tick is few microseconds after any origin
 pub since_small : (scale tick origin : ℕ) → is_counted scale tick ≡ true → micros scale (tick - origin) < 18446744073709551615
 since_small scale tick origin counted =
@@ -36,16 +42,27 @@ since_small scale tick origin counted =
     let early = leb-true (micros scale tick) last_micro both.1 in
     let less = micros_grow scale (tick - origin) tick (omega arith) in omega (arith, early, less)
 
+-- a counted tick is at a counted microsecond of any run
+pub ends_early : (scale : ℕ) (t : Times) (tick : ℕ) → is_counted scale tick ≡ true → at_tick scale t tick < 18446744073709551616
+ends_early scale t tick counted = let small = since_small scale tick t.base counted in omega (arith, small)
+
 -- what is before a counted tick is counted
-pub counted_less : (scale tick more : ℕ) → is_counted scale (tick + more) ≡ true → is_counted scale tick ≡ true
-counted_less scale tick more counted =
-    let both = of_both (nat_lt (tick + more) (2 ^ 64)) (nat_le (micros scale (tick + more)) last_micro) counted in
-    let few = ltb-true (tick + more) (2 ^ 64) both.0 in
-    let early = leb-true (micros scale (tick + more)) last_micro both.1 in
-    let less = micros_grow scale tick (tick + more) (omega arith) in
-    and_true (nat_lt tick (2 ^ 64)) (nat_le (micros scale tick) last_micro) (lt-ltb tick (2 ^ 64) (omega (arith, few))) (le-leb (micros scale tick) last_micro (omega (arith, early, less)))
+counted_before : (scale tick later : ℕ) → tick ≤ later → is_counted scale later ≡ true → is_counted scale tick ≡ true
+counted_before scale tick later before counted =
+    let both = of_both (nat_lt later (2 ^ 64)) (nat_le (micros scale later) last_micro) counted in
+    let few = ltb-true later (2 ^ 64) both.0 in
+    let early = leb-true (micros scale later) last_micro both.1 in
+    let less = micros_grow scale tick later before in
+    and_true (nat_lt tick (2 ^ 64)) (nat_le (micros scale tick) last_micro) (lt-ltb tick (2 ^ 64) (omega (arith, few, before))) (le-leb (micros scale tick) last_micro (omega (arith, early, less)))
   where
     and_true : (b c : Bool) → b ≡ true → c ≡ true → (b && c) ≡ true
     and_true true true e f = refl
     and_true true false e f = f
     and_true false c e f = e
+
+pub counted_less : (scale tick more : ℕ) → is_counted scale (tick + more) ≡ true → is_counted scale tick ≡ true
+counted_less scale tick more counted = counted_before scale tick (tick + more) (omega arith) counted
+
+-- a place before one from which so many ticks end at a counted tick
+pub counted_place : (scale place position ticks : ℕ) → place ≤ position → is_counted scale (position + ticks) ≡ true → is_counted scale place ≡ true
+counted_place scale place position ticks before counted = counted_before scale place (position + ticks) (omega (arith, before)) counted

@@ -1,10 +1,8 @@
 //! Where the fragments of a governing track begin and end, and which of them go into one part.
 ghost use Rattle.std.specs.Prelude.{◌≡◌, ◌≢◌, ◌+◌, ◌<◌, ◌≤◌, ◌^◌, true};
-ghost use Rattle.ll_parts.specs.Times as spec;
-ghost use Rattle.ll_parts.specs.Times.{at_tick, by_samples, is_counted, said_to};
-ghost use Rattle.ll_parts.specs.declared.times.Next.{Next};
-ghost use Rattle.ll_parts.specs.Joined.{judged, place_of};
-ghost use Rattle.ll_parts.specs.Others.{is_nearer};
+ghost use Rattle.ll_runs.specs.Times as spec;
+ghost use Rattle.ll_runs.specs.Times.{at_tick, by_samples, is_counted, is_nearer, judged, place_of, said_to};
+ghost use Rattle.ll_runs.specs.declared.times.Next.{Next};
 
 use crate::lengths::Lengths;
 use ll_mp4::Moment;
@@ -13,16 +11,16 @@ use ll_mp4::Moment;
 pub const SIZE_LIMIT: usize = 1_048_576;
 
 /// The last microsecond of the year 9999, from 1970 on.
-const LAST_MICRO: u128 = 253_402_300_799_999_999;
+pub(crate) const LAST_MICRO: u128 = 253_402_300_799_999_999;
 
 /// How the times of a run of fragments go on: those between two jumps of their decode times.
 #[derive(Clone, Copy, Debug, PartialEq, Eq)]
 pub struct Times {
     /// The tick at which the run begins.
     pub base: u64,
-    /// The tick at which the fragment begins that isn't judged yet.
+    /// The tick at which the fragment begins that isn't judged yet, or the next one if none waits.
     pub position: u64,
-    /// The microsecond of the run at which the part under way begins.
+    /// The microsecond of the run at which the part under way begins, or the next one.
     pub start: u64,
     /// Whether that part begins with a sync sample.
     pub independent: bool,
@@ -60,30 +58,30 @@ pub enum Cut {
 
 /// Where a fragment stands of which it is known what comes after it.
 #[derive(Clone, Copy, Debug, PartialEq, Eq)]
-pub(crate) struct Judged {
+pub struct Judged {
     /// The microsecond of the run at which it begins.
-    pub(crate) begin: u64,
+    pub begin: u64,
     /// How long it lasts, in microseconds.
-    pub(crate) lasts: u64,
+    pub lasts: u64,
     /// The microsecond of the run at which it ends, at most 2^64 - 1.
-    pub(crate) end: u64,
+    pub end: u64,
     /// What ends before it.
-    pub(crate) cut: Cut,
+    pub cut: Cut,
     /// Whether the run ends with it.
-    pub(crate) ends: bool,
+    pub ends: bool,
 }
 
 /// A fragment and what goes with it: how long its samples last, whether it begins with a sync sample, and how many bytes all have.
 #[derive(Clone, Copy, Debug, PartialEq, Eq)]
-pub(crate) struct Weight {
-    pub(crate) ticks: u64,
-    pub(crate) sync: bool,
-    pub(crate) size: usize,
+pub struct Weight {
+    pub ticks: u64,
+    pub sync: bool,
+    pub size: usize,
 }
 
 /// Returns `ticks` in whole microseconds, where a second has `scale` ticks, which is never 0.
 #[tactic(auto, using(crate::proofs::TimeLemmas::none_pass))]
-pub(crate) fn micros(scale: u32, ticks: u128) -> u128
+pub fn micros(scale: u32, ticks: u128) -> u128
     requires { ticks < 2 ^ 66 }
     ensures { result ≡ spec.micros scale ticks }
 {
@@ -91,7 +89,7 @@ pub(crate) fn micros(scale: u32, ticks: u128) -> u128
 }
 
 /// Returns whether `tick` can be counted: it has 64 bits, and is no later than the year 9999 is long.
-pub(crate) fn is_counted(scale: u32, tick: u128) -> bool
+pub fn is_counted(scale: u32, tick: u128) -> bool
     requires { tick < 2 ^ 66 }
     ensures { result ≡ spec.is_counted scale tick }
 {
@@ -100,7 +98,7 @@ pub(crate) fn is_counted(scale: u32, tick: u128) -> bool
 
 impl Times {
     /// Returns the times of a run that begins at `tick`.
-    pub(crate) fn from(tick: u64, end: u64, origin: u64) -> Times
+    pub fn from(tick: u64, end: u64, origin: u64) -> Times
         ensures { result ≡ spec.times_from tick end origin }
     {
         Times {
@@ -116,7 +114,7 @@ impl Times {
     }
 
     /// Returns the microsecond of the run at which `tick` is.
-    pub(crate) fn at_tick(&self, scale: u32, tick: u128) -> u128
+    pub fn at_tick(&self, scale: u32, tick: u128) -> u128
         requires { tick < 2 ^ 66 }
         ensures { result ≡ at_tick scale self.now tick }
     {
@@ -133,7 +131,7 @@ impl Times {
     }
 
     /// Returns how long that fragment is said to last.
-    pub(crate) fn said_to(&self, scale: u32, ticks: u64, next: Next) -> u128
+    pub fn said_to(&self, scale: u32, ticks: u64, next: Next) -> u128
         ensures { result ≡ said_to scale self.now ticks next }
     {
         match next {
@@ -199,7 +197,7 @@ impl Times {
     /// Returns where the fragment at the run's position begins, how long it lasts, what ends before it and whether the run ends with it, if `next` comes after it; the part under way
     /// has `size` bytes.
     #[tactic(auto, using(crate::proofs::TimeLemmas::begins_early))]
-    pub(crate) fn judge(
+    pub fn judge(
         &self,
         lengths: &Lengths,
         scale: u32,
@@ -224,7 +222,7 @@ impl Times {
 }
 
 /// Returns whether a run ends with a fragment that is said to last `said` microseconds, if `next` comes after it.
-pub(crate) fn ends_run(lengths: &Lengths, said: u128, next: Next) -> bool
+pub fn ends_run(lengths: &Lengths, said: u128, next: Next) -> bool
     ensures { result ≡ spec.ends_run lengths.now said next }
 {
     match next {
@@ -234,7 +232,7 @@ pub(crate) fn ends_run(lengths: &Lengths, said: u128, next: Next) -> bool
 }
 
 /// Returns what comes after a fragment at tick `position` if the next one begins at tick `time`.
-pub(crate) fn next_at(lengths: &Lengths, scale: u32, position: u64, time: u64) -> Next
+pub fn next_at(lengths: &Lengths, scale: u32, position: u64, time: u64) -> Next
     ensures { result ≡ spec.next_at lengths.now scale position time }
 {
     let back = position.saturating_sub(time) as u128 * 1_000_000;
@@ -247,15 +245,15 @@ pub(crate) fn next_at(lengths: &Lengths, scale: u32, position: u64, time: u64) -
 
 /// Two ticks of a track, a second of which has `scale` ticks.
 #[derive(Clone, Copy, Debug)]
-pub(crate) struct Span {
-    pub(crate) scale: u32,
-    pub(crate) first: u64,
-    pub(crate) second: u64,
+pub struct Span {
+    pub scale: u32,
+    pub first: u64,
+    pub second: u64,
 }
 
 impl Span {
     /// Returns whether `moment` is nearer to the second tick than to the first.
-    pub(crate) fn is_nearer(&self, moment: Option<Moment>) -> bool
+    pub fn is_nearer(&self, moment: Option<Moment>) -> bool
         ensures { result ≡ is_nearer self.now.scale self.now.first self.now.second moment }
     {
         let Some(moment) = moment else {
@@ -270,14 +268,14 @@ impl Span {
 
 impl Times {
     /// Returns how long the part under way is if it ends at microsecond `end` of the run: one microsecond at least.
-    pub(crate) fn duration_to(&self, end: u64) -> u64
+    pub fn duration_to(&self, end: u64) -> u64
         ensures { result ≡ spec.duration_to self.now end }
     {
         end.saturating_sub(self.start).max(1)
     }
 
     /// Returns where the rendition ends then, at most 2^64 - 1.
-    pub(crate) fn rendition_end(&self, end: u64) -> u64
+    pub fn rendition_end(&self, end: u64) -> u64
         ensures { result ≡ spec.rendition_end self.now end }
     {
         self.end
@@ -286,7 +284,7 @@ impl Times {
     }
 
     /// Returns these times with a fragment that joined; the part under way had `size` bytes before it.
-    pub(crate) fn joined(self, size: usize, judged: Judged, sync: bool) -> Times
+    pub fn joined(self, size: usize, judged: Judged, sync: bool) -> Times
         ensures { result ≡ spec.joined_to judged.cut self size judged.begin judged.lasts sync }
     {
         let before = judged.lasts;
@@ -313,7 +311,7 @@ impl Times {
     }
 
     /// Returns the times after a fragment that ends at microsecond `end` of the run.
-    pub(crate) fn after(self, end: u64, ends: bool, next: Next) -> Times
+    pub fn after(self, end: u64, ends: bool, next: Next) -> Times
         ensures place { next ≢ Next.Over → result.position ≡ place_of next }
         ensures times { result ≡ spec.times_after self end ends next }
     {
@@ -327,7 +325,7 @@ impl Times {
 
     /// Returns how far `tick` is from where the program's time is counted, in microseconds, rounded up.
     #[tactic(auto, using(crate::proofs::TimeLemmas::since_small))]
-    pub(crate) fn since_origin(&self, scale: u32, tick: u64) -> u64
+    pub fn since_origin(&self, scale: u32, tick: u64) -> u64
         requires { is_counted scale tick ≡ true }
         ensures { result ≡ spec.since_origin scale self.now tick }
     {
@@ -342,7 +340,7 @@ impl Times {
 }
 
 /// Returns the tick at which the next fragment begins, 0 if there is none.
-pub(crate) fn place_of(next: Next) -> u64
+pub fn place_of(next: Next) -> u64
     ensures { result ≡ place_of next }
 {
     match next {

@@ -1,12 +1,14 @@
 -- Where the fragments of a governing track begin and end, and which of them go into one part, where of each it is known what comes after it.
-use Rattle.std.specs.Prelude.{ℕ, ◌+◌, ◌-◌, ◌*◌, ◌/◌, ◌^◌, ◌==◌, ◌&&◌, ◌||◌, Bool, true, false, nat_lt, nat_le, if◌then◌else◌, Option, min, max}
+use Rattle.std.specs.Prelude.{ℕ, ◌+◌, ◌-◌, ◌*◌, ◌/◌, ◌^◌, ◌==◌, ◌&&◌, ◌||◌, Bool, true, false, nat_lt, nat_le, if◌then◌else◌, Option, Some, None, min, max}
 use Rattle.std.specs.Option.{unwrap_or}
-use Rattle.ll_parts.specs.declared.lengths.Lengths.{Lengths}
-use Rattle.ll_parts.specs.declared.times.Cut.{Cut}
-use Rattle.ll_parts.specs.declared.times.Cut.TheVariants as cut
-use Rattle.ll_parts.specs.declared.times.Next.{Next}
-use Rattle.ll_parts.specs.declared.times.Next.TheVariants.{Over, Back, At}
-use Rattle.ll_parts.specs.declared.times.Times.{Times}
+use Rattle.ll_runs.specs.declared.lengths.Lengths.{Lengths}
+use Rattle.ll_runs.specs.declared.times.Cut.{Cut}
+use Rattle.ll_runs.specs.declared.times.Cut.TheVariants as cut
+use Rattle.ll_mp4.specs.declared.timing.Moment.{Moment}
+use Rattle.ll_runs.specs.declared.times.Judged.{Judged}
+use Rattle.ll_runs.specs.declared.times.Next.{Next}
+use Rattle.ll_runs.specs.declared.times.Next.TheVariants.{Over, Back, At}
+use Rattle.ll_runs.specs.declared.times.Times.{Times}
 
 -- the most bytes of a part
 abbrev pub size_limit : ℕ
@@ -86,6 +88,36 @@ cut_before lengths t size begin lasts sync more =
     cut_by (may_end t size begin more)
     (ends_segment lengths (begin - t.segment) lasts sync)
     (nat_lt lengths.part (begin + lasts - t.start) || nat_lt size_limit (size + more))
+
+-- ---- where it stands
+
+abbrev pub judged_by : Lengths → ℕ → Times → ℕ → ℕ → Bool → ℕ → Next → (begin said lasts : ℕ) → Judged
+judged_by lengths scale t size ticks sync more next begin said lasts =
+    record { begin = begin; lasts = lasts; end = min (begin + lasts) (2 ^ 64 - 1); cut = cut_before lengths t size begin lasts sync more; ends = ends_run lengths said next }
+
+abbrev pub judged_said : Lengths → ℕ → Times → ℕ → ℕ → Bool → ℕ → Next → ℕ → Judged
+judged_said lengths scale t size ticks sync more next said =
+    judged_by lengths scale t size ticks sync more next (at_tick scale t t.position) said (lasts lengths scale t ticks said)
+
+-- the part under way has `size` bytes, the fragment with what goes with it `more`
+abbrev pub judged : Lengths → ℕ → Times → ℕ → ℕ → Bool → ℕ → Next → Judged
+judged lengths scale t size ticks sync more next = judged_said lengths scale t size ticks sync more next (said_to scale t ticks next)
+
+-- the tick at which the next fragment begins
+abbrev pub place_of : Next → ℕ
+place_of Over = 0
+place_of (Back tick) = tick
+place_of (At tick) = tick
+
+-- ---- what stands between two fragments
+
+abbrev pub apart : ℕ → ℕ → ℕ
+apart a b = (a - b) + (b - a)
+
+-- the moment is nearer to the second tick than to the first
+abbrev pub is_nearer : ℕ → ℕ → ℕ → Option Moment → Bool
+is_nearer scale first second None = false
+is_nearer scale first second (Some m) = nat_lt (apart (m.time * scale) (second * m.scale)) (apart (m.time * scale) (first * m.scale))
 
 -- ---- the times after it
 

@@ -1,0 +1,9 @@
+pub mod ComesLemmas
+pub mod CutLemmas
+pub mod GoingLemmas
+pub mod JoinLemmas
+pub mod MadeProof
+pub mod PublishedProof
+pub mod StageLemmas
+pub mod StepLemmas
+pub mod WorkedExamples

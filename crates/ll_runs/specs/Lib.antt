@@ -1,0 +1,3 @@
+pub mod Prompt
+pub mod Refusals
+pub mod Times
