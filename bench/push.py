@@ -2,7 +2,7 @@
 """What bench/push.sh needs beside the shell.
 
 push.py input COUNT BYTES MILLIS    writes a movie and so many fragments, each of about so many bytes and of so many milliseconds, one in twenty of which begins with a sync sample
-push.py origin FILE                 is an origin for one connection: writes its port to FILE, and answers each message, whose bytes it passes over
+push.py origin FILE                 is an origin for one connection: writes its port to FILE, and accepts each message, whose bytes it passes over; its rendition has no parts
 """
 import os
 import pathlib
@@ -43,6 +43,9 @@ def origin(file):
             held += more
             continue
         words, held = held[:end].split(), held[end + 1:]
+        if words[1] == b'at':
+            link.sendall(b'at 0 0 0 0 4000000000000\n')
+            continue
         left = int(words[-1]) + 1 if words[1] in (b'init', b'part') else 0
         left, held = max(0, left - len(held)), held[left:]
         while left:

@@ -2,15 +2,18 @@
 """What tests/push.sh needs beside the shell: inputs that are made by hand, the messages that they are to become, peers that behave so and so, and a player.
 
 push.py input NAME              writes the input of this name
-push.py messages FILE [end]     writes the messages of what this file holds, for cam and hi; with `end`, the rendition's end too
+push.py messages FILE [WORD..]  writes the messages of what this file holds, for cam and hi: with `end`, the rendition's end too; with `ahead=no`, as for encoders whose fragments are
+                                parts; with `at=NUMBER,INDEX,END,TIME`, for a rendition that stands there, and not for one without parts; `now=MS` is the time of the clock
 push.py published FILE          writes the sections and the parts of these messages, as players get them
 push.py fault FILE              writes the fault that ends it, where one does
 push.py later FILE MICROS       writes standard input, a part of this file, with its times so many microseconds later
 push.py slowly NAME             writes the input with a pause before each fragment
 push.py begin NAME COUNT        writes the beginning of the input, up to the end of so many fragments
 push.py damaged SEED            writes the input `many` with some bytes changed, or cut off
-push.py peer FILE RECORD PLAN   is an origin: writes its port to FILE, and to RECORD what it took. PLAN has for each connection, separated by `/`, what becomes of each
-                                message, separated by `,`: `ok`; `drop` takes it and hangs up; `half` takes some of it and hangs up; `close` hangs up before it; else the answer
+push.py peer FILE RECORD PLAN [AT]  is an origin: writes its port to FILE, and to RECORD what it has accepted. It tells where its rendition stands, at first at AT. PLAN has for each
+                                connection, separated by `/`, what becomes of each message, separated by `,`: `ok`; `lose` accepts it and hangs up; `drop` takes it and hangs up; `half`
+                                takes some of it and hangs up; `close` hangs up before it; else the answer. What begins with `?` is so for the question where the rendition stands, and
+                                comes first
 push.py terminal WORD..         runs a program of these words with a terminal as its standard error, and writes what that shows
 push.py play PORT CHANNEL FILE  gets all that the playlist of hi names, whose bytes are to be those of FILE; what is left of FILE may be whole boxes
 """
@@ -100,10 +103,13 @@ def input_of(name):
 LENGTHS = push_model.Lengths(part=500000, segment=2000000, most=3000000)
 
 
-def sent(name, ends=False):
+def sent(name, *words):
     """The messages of what a file holds, and the fault that ends it."""
+    said = dict(word.partition('=')[::2] for word in words)
+    lengths = LENGTHS._replace(ahead='ahead' not in said)
     with open(name, 'rb') as file:
-        return push_model.messages(file.read(), LENGTHS, ends=ends)
+        stands = place_of(said['at']) if 'at' in said else push_model.Standing()
+        return push_model.messages(file.read(), lengths, ends='end' in said, stands=stands, now=int(said.get('now', 0)))
 
 
 def published(name):
@@ -145,37 +151,93 @@ def take(stream):
     return line
 
 
-def serve(link, plan, record):
+class Origin:
+    """A rendition, and what it has accepted."""
+
+    def __init__(self, record, place):
+        self.record, self.count, self.ended = record, 0, False
+        self.number, self.index, self.end, self.time = place
+
+    def accept(self, message):
+        self.record.write(message)
+        self.count += 1
+        words = message.partition(b'\n')[0].split()
+        if words[1] == b'part':
+            self.index, self.end = self.index + 1, self.end + int(words[3])
+        if words[1] in (b'finish', b'end') or words[1] == b'part' and b'f' in words[4]:
+            self.number, self.index = self.number + (self.index > 0), 0
+        self.ended = self.ended or words[1] == b'end'
+
+    def told(self):
+        words = ['at', self.count, self.number, self.index, self.end, self.time] + ['ended'] * self.ended
+        return ' '.join(map(str, words)).encode() + b'\n'
+
+
+def hang_up(link):
+    # (with bytes unread the other end gets a reset)
+    link.setsockopt(socket.SOL_SOCKET, socket.SO_LINGER, struct.pack('ii', 1, 0))
+
+
+def meet(link, stream, what):
+    """The question where the rendition stands: whether the connection goes on after it."""
+    if what == 'close':
+        return False
+    if what == 'half':
+        stream.read(5)
+        hang_up(link)
+        return False
+    assert stream.readline() == b'cam at hi\n'
+    if what == 'drop':
+        return False
+    link.sendall(what if isinstance(what, bytes) else what.encode().decode('unicode_escape').encode('latin-1'))
+    return True
+
+
+def serve(link, plan, origin):
     """One connection."""
     stream = link.makefile('rb')
+    asked = plan.pop(0)[1:] if plan[0].startswith('?') else origin.told()
+    # (the answer and the end of the connection go together: whoever has read the one sees the other)
+    if plan[:1] == ['close']:
+        link.setsockopt(socket.IPPROTO_TCP, socket.TCP_CORK, 1)
+    if not meet(link, stream, asked):
+        return
     for count, what in enumerate(plan, 1):
         if what == 'close':
             return
         if what == 'half':
-            record.write(stream.read(10))
-            # (with bytes unread the other end gets a reset)
-            link.setsockopt(socket.SOL_SOCKET, socket.SO_LINGER, struct.pack('ii', 1, 0))
+            stream.read(10)
+            hang_up(link)
             return
-        record.write(take(stream))
-        if what == 'drop':
+        message = take(stream)
+        if what == 'drop' or not message:
             return
-        # (the answer and the end of the connection go together: whoever has read the one sees the other)
+        if what in ('ok', 'lose'):
+            origin.accept(message)
+        if what == 'lose':
+            return
         if plan[count:count + 1] == ['close']:
             link.setsockopt(socket.IPPROTO_TCP, socket.TCP_CORK, 1)
-        link.sendall(b'ok %d\n' % count if what == 'ok' else what.encode().decode('unicode_escape').encode('latin-1'))
-    record.write(stream.read())
+        link.sendall(b'ok %d\n' % origin.count if what == 'ok' else what.encode().decode('unicode_escape').encode('latin-1'))
+    rest = stream.read()
+    assert not rest, rest
 
 
-def peer(file, name, plan):
+def place_of(words):
+    return push_model.Standing(*map(int, words.split(',')))
+
+
+def peer(file, name, plan, at=None):
     listener = socket.create_server(('127.0.0.1', 0))
-    # (what is taken is seen there at once)
+    # (what is accepted is seen there at once)
     with open(name, 'wb', buffering=0) as record:
+        origin = Origin(record, place_of(at) if at else push_model.Standing())
         with open(file, 'w') as told:
             print(listener.getsockname()[1], file=told)
         for each in plan.split('/'):
             link, _ = listener.accept()
             with link:
-                serve(link, each.split(','), record)
+                serve(link, each.split(','), origin)
 
 
 def terminal(words):
@@ -227,7 +289,7 @@ command, *words = sys.argv[1:]
 if command == 'input':
     sys.stdout.buffer.write(input_of(*words))
 elif command == 'messages':
-    sys.stdout.buffer.write(b''.join(sent(words[0], words[1:] == ['end'])[0]))
+    sys.stdout.buffer.write(b''.join(sent(*words)[0]))
 elif command == 'published':
     sys.stdout.buffer.write(published(*words))
 elif command == 'later':

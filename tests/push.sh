@@ -4,6 +4,9 @@
 . "$(dirname "${BASH_SOURCE[0]}")/server.sh" || exit 2
 take_program "$1"
 
+# The rendition's time is ahead of any clock, so that what is published needs no time of its own.
+cam=${cam/start=0/start=4000000000000}
+
 # make WORD..: what tests/push.py says to these words.
 make() {
     python3 "$here/push.py" "$@"
@@ -12,7 +15,7 @@ make() {
 # push ADDRESS [CHANNEL [WORD..]]: the program publishes standard input, and ends the rendition, or what other words say.
 push() {
     local words=("${@:3}")
-    [ "$#" -ge 3 ] || words=(end)
+    [ "$#" -ge 3 ] || words=(retry=2 end)
     timeout 60 "$program" push "$1" "${2-cam}" hi part=500000 segment=2000000 "${words[@]}" >"$room/stdout" 2>"$room/stderr"
 }
 
@@ -44,11 +47,11 @@ plays_input() {
     make published "$room/input" >"$room/published" && make play "$port" "${1-cam}" "$room/published"
 }
 
-# peer PLAN: starts an origin that behaves so (tests/push.py), at `peer`.
+# peer PLAN [AT]: starts an origin that behaves so (tests/push.py), at `peer`.
 peer() {
     local tries
     rm -f "$room/port"
-    python3 "$here/push.py" peer "$room/port" "$room/taken" "$1" &
+    python3 "$here/push.py" peer "$room/port" "$room/taken" "$@" &
     servers+=($!)
     for ((tries = 0; tries < 200; tries++)); do
         [ -s "$room/port" ] && peer=127.0.0.1:$(<"$room/port") && return 0
@@ -62,9 +65,9 @@ to_peer() {
     peer "$1" && make input "$2" >"$room/input" && pushes "$3" "$4" "$peer" <"$room/input"
 }
 
-# took NAME: what the origin took are the messages of an input.
+# took NAME [WORD..]: what the origin has accepted are the messages of an input.
 took() {
-    make input "$1" >"$room/input" && make messages "$room/input" end | cmp - "$room/taken"
+    make input "$1" >"$room/input" && make messages "$room/input" end "${@:2}" | cmp - "$room/taken"
 }
 
 sends_its_messages() {
@@ -83,6 +86,46 @@ hangs_up() {
     said_lost "$2" && took two
 }
 
+# goes_on_after PLAN COUNT: connections are lost so, so often, and the origin has each message once in the end.
+goes_on_after() {
+    to_peer "$1" two 0 '' && said_lost "$2" && took two
+}
+
+# goes_on_everywhere NAME COUNT: each of so many messages of an input is lost in each way, and so is each connection's question once.
+goes_on_everywhere() {
+    local plan='' n how
+    make input "$1" >"$room/input"
+    for how in lose drop half; do
+        for ((n = 0; n < $2; n++)); do
+            plan=''
+            ((n > 0)) && plan=$(printf 'ok,%.0s' $(seq "$n"))
+            peer "$plan$how/$(printf 'ok,%.0s' {1..40})ok" && push "$peer" <"$room/input" && said_lost 1 && took "$1" || { echo "$how after $n"; return 1; }
+            wait_for_peer
+        done
+    done
+}
+
+# wait_for_peer: the last origin has ended.
+wait_for_peer() {
+    wait "${servers[-1]}"
+    unset 'servers[-1]'
+}
+
+# starts_at AT [LINE..]: a push to a rendition that stands there sends these lines before its section, in which the clock's time is NOW; and then what is made beside it.
+starts_at() {
+    local before after now lines
+    make input two >"$room/input"
+    peer "$(printf 'ok%.0s,' {1..8})ok" "$1" || return 1
+    before=$(date +%s%3N)
+    push "$peer" <"$room/input" || return 1
+    after=$(date +%s%3N)
+    lines=$(grep -a -E '^cam (finish|break) ' "$room/taken" | tr '\n' ' ')
+    now=$(grep -o '[0-9]*' <<<"$lines")
+    [ "${lines//${now:-none}/NOW}" = "${2:+$2 }" ] || { echo "it begins with $lines"; return 1; }
+    [ -z "$now" ] || ((before <= now && now <= after)) || { echo "$now isn't between $before and $after"; return 1; }
+    make messages "$room/input" end "at=$1" "now=${now:-0}" | cmp - "$room/taken"
+}
+
 # has_taken COUNT: the origin has taken so many messages.
 has_taken() {
     local count
@@ -98,7 +141,7 @@ took_first() {
     head -c "$(wc -c <"$room/taken")" "$room/all" | cmp - "$room/taken" && has_taken "$1"
 }
 
-# No byte is sent after a refusal, and no message twice.
+# No byte is sent after a refusal.
 stops_after() {
     to_peer "$1" two "$2" "$3" && took_first "$4" two
 }
@@ -109,10 +152,22 @@ no_server() {
     make input one | pushes 4 Connect "$peer"
 }
 
-# The origin ends after its first connection: after so many tries the program gives up.
+# The origin ends after its first connection: after a while the program gives up. With `retry=0` it does so at once.
 server_goes_away() {
     peer ok,close || return 1
     make slowly two | pushes 4 Connect "$peer"
+}
+
+gives_up_at_once() {
+    peer ok,drop || return 1
+    make input two | push "$peer" cam retry=0
+    [ $? = 4 ] && [ "$(tail -n 1 "$room/stderr")" = 'llhls: Connect' ]
+}
+
+# Where nothing is accepted again and again, it gives up as well: `retry=2` are four times after the first.
+gives_up_where_nothing_goes() {
+    peer ok,drop/drop/half/?drop/drop || return 1
+    make input two | pushes 4 Connect "$peer" && said_lost 5
 }
 
 # wrong WORD..: these words are none.
@@ -132,7 +187,7 @@ tells_how_it_goes() {
     peer 'ok,ok,ok,ok,no 4 TooLong\n' || return 1
     make slowly many | python3 "$here/push.py" terminal "$program" push "$peer" cam hi part=500000 segment=2000000 >"$room/shown"
     tr -d '\r' <"$room/shown" >"$room/plain"
-    head -n 1 "$room/plain" | grep -qxE 'llhls: [1-9] parts, 0 segments, [01]\.[05]00 s, [0-9]+ kB/s  ' &&
+    head -n 1 "$room/plain" | grep -qxE 'llhls: [1-9] parts, 0 segments, [01]\.[05]00 s, [0-9]+ kB/s, [0-9]+\.[0-9]{3} s behind  ' &&
         [ "$(tail -n +2 "$room/plain")" = 'llhls: no 4 TooLong' ] || { cat "$room/plain"; return 1; }
 }
 
@@ -234,31 +289,36 @@ again() {
     pushes "$1" "$2" "127.0.0.1:$publish_port" <"$room/input" && lists "${@:3}"
 }
 
-# A further push goes on in the segment that is open.
-goes_on_in_segment() {
-    stopped TERM "$cam" 6 "${six[@]}" &&
-        again 0 '' init0 s0.{0..3} s0=2.000000 s1.{0..5} s1=3.000000 s2.{0..3} s2=2.000000 s3.{0,1} s3=1.000000 ENDLIST
-}
-
-# Where the channel's target duration isn't enough for that, it is refused.
-fills_segment() {
-    stopped TERM "$short" 6 "${six[@]}" && again 3 'no 4 TooLong' init0 s0.{0..3} s0=2.000000 s1.{0..3} then s1.4
-}
-
-# After what docs/OPERATING.md says to do by hand, a `finish` and a break with a time, it begins a segment of its own. Players get all of both pushes, and the parts that the
-# `finish` made a segment at once.
+# A further push ends the segment that is open and begins one of its own, after a break. Players get all of both pushes.
 begins_anew_amid() {
-    stopped TERM "$short" 6 "${six[@]}" && publish 'cam break hi' 'no 5 OpenSegment' && publish 'cam finish hi' 'ok 8' &&
-        lists init0 s0.{0..3} s0=2.000000 s1.{0,1} s1=1.000000 then s2.0 && publish 'cam break hi 1790000123456' 'ok 9' &&
+    stopped TERM "$short" 6 "${six[@]}" &&
         again 0 '' init0 s0=2.000000 s1.{0,1} s1=1.000000 DISCONTINUITY init1 s2.{0..3} s2=2.000000 s3.{0..3} s3=2.000000 s4.{0,1} s4=1.000000 ENDLIST &&
         plays_both 6
 }
 
-# So it does where no segment is open; there the `finish` is refused, and the break is accepted at once.
+# So it does where no segment is open.
 begins_anew_between() {
-    stopped INT "$short" 4 "${four[@]}" && publish 'cam finish hi' 'no 17 NoSegment' && publish 'cam break hi' 'ok 6' &&
+    stopped INT "$short" 4 "${four[@]}" &&
         again 0 '' init0 s0.{0..3} s0=2.000000 DISCONTINUITY init1 s1.{0..3} s1=2.000000 s2.{0..3} s2=2.000000 s3.{0,1} s3=1.000000 ENDLIST &&
         plays_both 4
+}
+
+# dates: the times of the segments that are listed, in seconds and milliseconds since 1970.
+dates() {
+    ask /cam/hi/live.m3u8 | tr -d '\r' | sed -n 's/^#EXT-X-PROGRAM-DATE-TIME://p' | while read -r time; do date -d "$time" +%s%3N; done
+}
+
+# Where the channel's time is behind the clock, the first segment has the clock's, and so has the first one of a further push.
+tells_the_time() {
+    local before between after times
+    before=$(date +%s%3N)
+    serve "$program" 'workers 4' "${cam/start=4000000000000/start=0}" && make input two >"$room/input" && push "127.0.0.1:$publish_port" cam retry=0 <"$room/input" || return 1
+    between=$(date +%s%3N)
+    sleep 1.2
+    push "127.0.0.1:$publish_port" cam retry=0 <"$room/input" || return 1
+    after=$(date +%s%3N)
+    mapfile -t times < <(dates)
+    [ "${#times[@]}" = 2 ] && ((before <= times[0] && times[0] <= between && between + 1200 <= times[1] && times[1] <= after)) || { echo "${times[*]} of $before $between $after"; return 1; }
 }
 
 # plays_both COUNT: what is served are so many parts, and then the whole input.
@@ -284,10 +344,10 @@ encoder_comes_so() {
     [ "$status" = $((${#fault} ? 3 : 0)) ] && [ "$(<"$room/stderr")" = "${fault:+llhls: $fault}" ] && make messages "$room/input" end | cmp - "$room/taken"
 }
 
-# Without the word `end` nothing is ended, and the next push begins a segment.
+# Without the word `end` nothing is ended, and the next push begins a segment, after a break.
 ends_nothing() {
     serve "$program" 'workers 4' "$cam" && make input two >"$room/input" && push "127.0.0.1:$publish_port" cam most=3000000 <"$room/input" &&
-        lists init0 s0.{0,1} s0=1.000000 then s1.0 && again 0 '' init0 s0.{0,1} s0=1.000000 s1.{0..3} s1=2.000000 s2.{0..3} s2=2.000000 s3.{0,1} s3=1.000000 ENDLIST
+        lists init0 s0.{0,1} s0=1.000000 then s1.0 && again 0 '' init0 s0.{0,1} s0=1.000000 DISCONTINUITY init1 s1.{0..3} s1=2.000000 s2.{0..3} s2=2.000000 s3.{0,1} s3=1.000000 ENDLIST
 }
 
 # encoder: 9 seconds of a test pattern, as docs/OPERATING.md has it.
@@ -358,13 +418,47 @@ try hangs_up close/ok,ok,ok,ok 1
 try hangs_up ok,close/ok,ok,ok 1
 try hangs_up ok,close/ok,close/ok,ok 2
 try hangs_up ok,ok,ok,close/ok 1
-try stops_after half 4 Lost 1
-try stops_after ok,half 4 Lost 2
-try stops_after ok,ok,drop 4 Lost 3
-try stops_after ok,ok,ok,drop 4 Lost 4
+try goes_on_after '?close/?half/?drop/ok,ok,ok,ok' 3
+try goes_on_after 'half/half/?drop/lose/half/lose/drop/ok,lose/?close/?drop' 9
+try goes_on_everywhere two 4
+try goes_on_everywhere gap 9
 try stops_after 'ok,no 4 TooLong\n' 3 'no 4 TooLong' 2
 try stops_after 'no 14 UnknownChannel\n' 3 'no 14 UnknownChannel' 1
 try stops_after 'ok,ok,ok,no 2 Ended\n' 3 'no 2 Ended' 4
+try stops_after '?no 14 UnknownChannel\n' 3 'no 14 UnknownChannel' 0
+try stops_after '?no 13 BadLine\n' 3 'no 13 BadLine' 0
+try stops_after 'ok,drop/?at 5 0 0 0 4000000000000\n,ok,ok,no 2 Ended\n' 3 'no 2 Ended' 3
+while read -r answer; do
+    try stops_after "ok,drop/?$answer" 3 Elsewhere 1
+done <<'END'
+at 5 0 2 500000 4000000000500\n
+at 5 1 0 500000 4000000000500\n
+at 5 0 1 1 4000000000500\n
+at 5 0 1 500000 4000000000500 ended\n
+at 5 0 0 1 4000000000000\n
+END
+while read -r answer; do
+    try stops_after "?$answer" 4 BadAnswer 0
+done <<'END'
+ok 1\n
+at\n
+at 1 2 3 4\n
+at 1 2 3 4 5 6\n
+at 1 2 3 4 5 end\n
+at 1 2 3 4 05\n
+at 1 2 3 4 18446744073709551616\n
+at 1 2 3 4 5\r\n
+END
+while read -r at words; do
+    try starts_at "$at" "$words"
+done <<'END'
+0,0,0,4000000000000
+4,2,1500000,0 cam finish hi cam break hi NOW
+4,2,1500000,4000000000000 cam finish hi cam break hi
+4,0,1500000,0 cam break hi NOW
+4,0,3456000000000,4000000000000 cam break hi
+0,0,0,0 cam break hi NOW
+END
 while read -r answer; do
     try stops_after "ok,$answer" 4 BadAnswer 2
 done <<'END'
@@ -387,17 +481,17 @@ ok 1\nok 2\n
 ok 1                                                            \n
 This is no answer but a text that goes on and on and has no end whatever is read of it
 END
-for name in no_server server_goes_away reads_fail tells_how_it_goes all_damaged; do
+for name in no_server server_goes_away gives_up_at_once gives_up_where_nothing_goes reads_fail tells_how_it_goes all_damaged; do
     try "$name"
 done
 
 # A push that is stopped, and one that comes after another one.
-short='channel cam target=2 part=1000000 skip=12 window=18 renditions=hi,lo first=0 start=0'
+short='channel cam target=2 part=1000000 skip=12 window=18 renditions=hi,lo first=0 start=4000000000000'
 for name in TERM INT; do
     try stopped "$name" "$cam" 6 "${six[@]}"
     try sends_no_end "$name"
 done
-for name in goes_on_in_segment fills_segment begins_anew_amid begins_anew_between comes_after_end ends_nothing; do
+for name in tells_the_time begins_anew_amid begins_anew_between comes_after_end ends_nothing; do
     try "$name"
 done
 
@@ -422,6 +516,11 @@ localhost:1 cam hi part=1 segment=1
 127.0.0.1:1 cam hi part=1 segment=1 most=
 127.0.0.1:1 cam hi part=2 segment=2 most=1
 127.0.0.1:1 cam hi part=1 segment=1 end most=1
+127.0.0.1:1 cam hi part=1 segment=1 ahead=yes
+127.0.0.1:1 cam hi part=1 segment=1 ahead=no most=1
+127.0.0.1:1 cam hi part=1 segment=1 retry=
+127.0.0.1:1 cam hi part=1 segment=1 retry=1 ahead=no
+127.0.0.1:1 cam hi part=1 segment=1 end retry=1
 127.0.0.1:1 cam hi part=1 segment=1 end end
 127.0.0.1:1 cam hi part=1 segment=1 most=1 end more
 END

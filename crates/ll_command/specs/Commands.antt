@@ -1,5 +1,6 @@
 -- What the program's words ask it to do.
-use Rattle.std.specs.Prelude.{ℕ, ◌+◌, ◌-◌, ◌/◌, ◌^◌, ◌&&◌, Bool, true, false, max, min, nat_le, List, [], ◌∷◌, Option, Some, None, Result, Ok, Err, bytes_eq, codes, option_and_then, if◌then◌else◌}
+use Rattle.std.specs.Prelude.{ℕ, ◌+◌, ◌-◌, ◌/◌, ◌^◌, ◌&&◌, ◌==◌, Bool, true, false, max, min, nat_le, List, [], ◌∷◌, Option, Some, None, Result, Ok, Err, bytes_eq, codes, length, not, option_and_then, if◌then◌else◌}
+use Rattle.std.specs.Option.{unwrap_or}
 use Rattle.ll_attr.specs.Words.{after}
 use Rattle.ll_command.specs.declared.command.Command.{Command}
 use Rattle.ll_command.specs.declared.command.Command.TheVariants as command
@@ -59,35 +60,58 @@ setting key word = option_and_then count.read (after key word)
 abbrev pub usual_most : ℕ → ℕ → ℕ
 usual_most part segment = max part (min (segment + segment / 2) (2 ^ 64 - 1))
 
--- whether the rendition is ended after the input, as the last words say
-abbrev pub ends_by : List (List ℕ) → Option Bool
-ends_by [] = Some false
-ends_by (word ∷ []) = if bytes_eq word (codes "end") then Some true else None
-ends_by (word ∷ other ∷ words) = None
+-- the number after this key, where the first word has one, and the words that are left
+abbrev pub numbered_by : List ℕ → List (List ℕ) → Option ℕ → Option ℕ × List (List ℕ)
+numbered_by word words (Some number) = (Some number, words)
+numbered_by word words None = (None, word ∷ words)
 
--- no segment is shorter than a part
-abbrev pub plan_by : ℕ → ℕ → ℕ → Option Bool → Option Plan
-plan_by part segment most None = None
-plan_by part segment most (Some ends) =
-    if nat_le part most then Some (record { lengths = record { part = part; segment = segment; most = most }; ends = ends }) else None
+abbrev pub numbered : List ℕ → List (List ℕ) → Option ℕ × List (List ℕ)
+numbered key [] = (None, [])
+numbered key (word ∷ words) = numbered_by word words (setting key word)
 
-abbrev pub plan_most : ℕ → ℕ → List ℕ → List (List ℕ) → Option ℕ → Option Plan
-plan_most part segment word words (Some most) = plan_by part segment most (ends_by words)
-plan_most part segment word words None = plan_by part segment (usual_most part segment) (ends_by (word ∷ words))
+-- whether the first word is this one, and the words that are left
+abbrev pub flagged : List ℕ → List (List ℕ) → Bool × List (List ℕ)
+flagged flag [] = (false, [])
+flagged flag (word ∷ words) = if bytes_eq word flag then (true, words) else (false, word ∷ words)
 
--- with the words after these two numbers
-abbrev pub plan_with : ℕ → ℕ → List (List ℕ) → Option Plan
-plan_with part segment [] = plan_by part segment (usual_most part segment) (ends_by [])
-plan_with part segment (word ∷ words) = plan_most part segment word words (setting (codes "most=") word)
+-- `most=` with a number, `ahead=no`, `retry=` with a number and `end`, in this order; each of them may be left out
+pub record Options : Type 0 where
+  pub most : Option ℕ
+  pub hasty : Bool
+  pub retry : Option ℕ
+  pub ends : Bool
 
-abbrev pub plan_of : Option ℕ → Option ℕ → List (List ℕ) → Option Plan
-plan_of (Some part) (Some segment) words = plan_with part segment words
-plan_of (Some part) None words = None
-plan_of None segment words = None
+-- where no words are left
+abbrev pub options_by : Option ℕ → Bool → Option ℕ → Bool × List (List ℕ) → Option Options
+options_by most hasty retry ends = if length ends.1 == 0 then Some (record { most = most; hasty = hasty; retry = retry; ends = ends.0 }) else None
 
--- how an input is published, as words say: `part=` and `segment=`, then perhaps `most=`, then perhaps `end`
+abbrev pub options : List (List ℕ) → Option Options
+options words =
+    let most = numbered (codes "most=") words in
+    let hasty = flagged (codes "ahead=no") most.1 in
+    let retry = numbered (codes "retry=") hasty.1 in
+    options_by most.0 hasty.0 retry.0 (flagged (codes "end") retry.1)
+
+-- no segment is shorter than a part; a lost connection is tried again for a minute, where nothing else is said
+abbrev pub plan_by : ℕ → ℕ → ℕ → Options → Option Plan
+plan_by part segment most o =
+    if nat_le part most then
+    Some (record {
+      lengths = record { part = part; segment = segment; most = most; ahead = not o.hasty };
+      retry = unwrap_or o.retry 60;
+      ends = o.ends;
+    })
+    else None
+
+abbrev pub plan_of : Option ℕ → Option ℕ → Option Options → Option Plan
+plan_of (Some part) (Some segment) (Some o) = plan_by part segment (unwrap_or o.most (usual_most part segment)) o
+plan_of (Some part) (Some segment) None = None
+plan_of (Some part) None options = None
+plan_of None segment options = None
+
+-- how an input is published, as words say: `part=` and `segment=`, and then options
 abbrev pub plan : List ℕ → List ℕ → List (List ℕ) → Option Plan
-plan part segment words = plan_of (setting (codes "part=") part) (setting (codes "segment=") segment) words
+plan part segment words = plan_of (setting (codes "part=") part) (setting (codes "segment=") segment) (options words)
 
 abbrev pub push_by : List ℕ → List ℕ → List ℕ → Option Plan → Result Call Fault
 push_by address channel rendition (Some plan) = Ok (Push address channel rendition plan)

@@ -29,8 +29,9 @@ apply_status apply.Memory = 4
 abbrev pub push_status : PushFault → ℕ
 push_status (push.Input fault) = 3
 push_status push.Read = 4
+push_status push.Clock = 4
 push_status push.Connect = 4
-push_status push.Lost = 4
+push_status push.Elsewhere = 3
 push_status push.BadAnswer = 4
 push_status push.Memory = 4
 push_status push.Endless = 4

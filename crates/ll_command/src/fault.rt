@@ -94,15 +94,15 @@ fn apply_status(fault: ApplyFault) -> u8
     }
 }
 
-/// The exit status of publishing: 3 for an encoder's bytes to blame, 4 for any other fault.
+/// The exit status of publishing: 3 for an encoder's bytes or what else publishes there to blame, 4 for any other fault.
 fn push_status(fault: PushFault) -> u8
     ensures { result ≡ spec.push_status fault }
 {
     match fault {
-        PushFault::Input(_) => 3,
+        PushFault::Input(_) | PushFault::Elsewhere => 3,
         PushFault::Read
+        | PushFault::Clock
         | PushFault::Connect
-        | PushFault::Lost
         | PushFault::BadAnswer
         | PushFault::Memory
         | PushFault::Endless => 4,

@@ -6,44 +6,36 @@ use ll_attr::{Text, after};
 use ll_format::number;
 use ll_parts::Lengths;
 
+/// How long a connection that was lost is tried again, in seconds, if nothing else is said.
+const RETRY: u64 = 60;
+
 /// How an encoder's output is published.
 #[derive(Clone, Copy, Debug)]
 pub struct Plan {
     /// How long parts and segments are.
     pub lengths: Lengths,
+    /// How long a connection that was lost is tried again, in seconds.
+    pub retry: u64,
     /// Whether the rendition is ended after the input's last part.
     pub ends: bool,
 }
 
 impl Plan {
-    /// Returns the plan that these words say: `part=` and `segment=` with a number of microseconds, then perhaps `most=` with one, and perhaps `end`.
+    /// Returns the plan that these words say: `part=` and `segment=` with a number of microseconds, then perhaps `most=` with one, `ahead=no`, `retry=` with a number of seconds, and
+    /// `end`, in this order.
     pub(crate) fn of(part: &Text, segment: &Text, words: &[Text]) -> Option<Plan>
         ensures { result ≡ spec.plan part.now segment.now words.now }
     {
         let part = setting("part=", part.as_str())?;
         let segment = setting("segment=", segment.as_str())?;
-        Plan::with(part, segment, words)
-    }
-
-    /// Returns the plan with these lengths of a part and a segment and what the words after them say.
-    fn with(part: u64, segment: u64, words: &[Text]) -> Option<Plan>
-        ensures { result ≡ spec.plan_with part segment words.now }
-    {
-        let usual = part.max(segment.saturating_add(segment / 2));
-        let Some((word, later)) = words.split_first() else {
-            return Plan::by(part, segment, usual, words);
-        };
-        match setting("most=", word.as_str()) {
-            Some(most) => Plan::by(part, segment, most, later),
-            None => Plan::by(part, segment, usual, words),
+        let (most, words) = numbered("most=", words);
+        let (hasty, words) = flagged("ahead=no", words);
+        let (retry, words) = numbered("retry=", words);
+        let (ends, words) = flagged("end", words);
+        if !words.is_empty() {
+            return None;
         }
-    }
-
-    /// Returns the plan with these lengths, where no segment is shorter than a part, and what the last words say.
-    fn by(part: u64, segment: u64, most: u64, words: &[Text]) -> Option<Plan>
-        ensures { result ≡ spec.plan_by part segment most (spec.ends_by words.now) }
-    {
-        let ends = ends(words)?;
+        let most = most.unwrap_or(usual_most(part, segment));
         if most < part {
             return None;
         }
@@ -51,19 +43,44 @@ impl Plan {
             part,
             segment,
             most,
+            ahead: !hasty,
         };
-        Some(Plan { lengths, ends })
+        let retry = retry.unwrap_or(RETRY);
+        Some(Plan {
+            lengths,
+            retry,
+            ends,
+        })
     }
 }
 
-/// Returns whether the rendition is ended, as the last words say: none, or `end`.
-fn ends(words: &[Text]) -> Option<bool>
-    ensures { result ≡ spec.ends_by words.now }
+/// Returns how long a segment may be if nothing else is said: half as long again as it is to be, and no less than a part.
+fn usual_most(part: u64, segment: u64) -> u64
+    ensures { result ≡ spec.usual_most part segment }
 {
-    match words {
-        [] => Some(false),
-        [word] if word.as_str() == "end" => Some(true),
-        _ => None,
+    part.max(segment.saturating_add(segment / 2))
+}
+
+/// Returns the number after `key`, if the first word has one, and the words that are left.
+fn numbered<'a>(key: &str, words: &'a [Text]) -> (Option<u64>, &'a [Text])
+    ensures { (result.0, result.1.now) ≡ spec.numbered key.now words.now }
+{
+    let Some((word, later)) = words.split_first() else {
+        return (None, words);
+    };
+    match setting(key, word.as_str()) {
+        Some(number) => (Some(number), later),
+        None => (None, words),
+    }
+}
+
+/// Returns whether the first word is `flag`, and the words that are left.
+fn flagged<'a>(flag: &str, words: &'a [Text]) -> (bool, &'a [Text])
+    ensures { (result.0, result.1.now) ≡ spec.flagged flag.now words.now }
+{
+    match words.split_first() {
+        Some((word, later)) if word.as_str() == flag => (true, later),
+        _ => (false, words),
     }
 }
 

@@ -2,15 +2,12 @@ use crate::peer::Source;
 use crate::socket::Socket;
 use std::net::{Net, SocketAddr, SocketAddrV4, TcpListener, TcpStream};
 use std::thread;
-use std::time::{Clock, Duration};
+use std::time::{Clock, Duration, Instant};
 
 /// How long an attempt to connect may take, in seconds.
 const LIMIT: u64 = 30;
 
-/// How often a connection is tried after the first one.
-const TRIES: u64 = 20;
-
-/// How long to wait before each of these tries, in milliseconds.
+/// How long to wait before each further attempt, in milliseconds.
 const PAUSE: u64 = 500;
 
 /// Where connections to an address come from.
@@ -18,21 +15,24 @@ const PAUSE: u64 = 500;
 pub struct Dial<'a, R> {
     rt: &'a R,
     address: SocketAddrV4,
-    /// How often the next connection is tried.
-    tries: u64,
+    /// How long each connection after the first one is tried.
+    retry: Duration,
+    /// Whether the first one was made.
+    made: bool,
 }
 
 impl<'a, R: Net<Listener = TcpListener, Stream = TcpStream>> Dial<'a, R> {
-    /// None is made so far.
-    pub fn new(rt: &'a R, address: SocketAddrV4) -> Dial<'a, R> {
+    /// Returns one that has made none so far; `retry` is how long each connection after the first one is tried.
+    pub fn new(rt: &'a R, address: SocketAddrV4, retry: Duration) -> Dial<'a, R> {
         Dial {
             rt,
             address,
-            tries: 1,
+            retry,
+            made: false,
         }
     }
 
-    /// A connection, where one is made at once. A read or a write of it fails where it takes longer than 30 seconds.
+    /// Makes a connection, if that goes at once. A read or a write of it fails if it takes longer than 30 seconds.
     fn connect(&self) -> std::io::Result<Socket> {
         let limit = Duration::from_secs(LIMIT);
         let stream = TcpStream::connect_timeout(self.rt, &SocketAddr::V4(self.address), limit)?;
@@ -41,20 +41,33 @@ impl<'a, R: Net<Listener = TcpListener, Stream = TcpStream>> Dial<'a, R> {
     }
 }
 
-impl<R: Net<Listener = TcpListener, Stream = TcpStream> + Clock> Source for Dial<'_, R> {
-    type Peer = Socket;
-
-    /// The first connection is tried once, each later one again and again for a while, after a pause each time.
-    fn next(&mut self) -> Option<Socket> {
-        for _ in 0..self.tries {
-            if self.tries > 1 {
-                thread::sleep(self.rt, Duration::from_millis(PAUSE));
+impl<R: Net<Listener = TcpListener, Stream = TcpStream> + Clock> Dial<'_, R> {
+    /// Makes a further connection: waits and tries, again and again until `retry` has gone by.
+    fn connect_again(&self) -> Option<Socket> {
+        let start = Instant::now(self.rt).ok()?;
+        for _ in 0..u64::MAX {
+            if start.elapsed(self.rt).ok()? >= self.retry {
+                return None;
             }
+            thread::sleep(self.rt, Duration::from_millis(PAUSE));
             if let Ok(socket) = self.connect() {
-                self.tries = TRIES;
                 return Some(socket);
             }
         }
         None
+    }
+}
+
+impl<R: Net<Listener = TcpListener, Stream = TcpStream> + Clock> Source for Dial<'_, R> {
+    type Peer = Socket;
+
+    /// The first connection is tried once, each later one for a while, after a pause each time.
+    fn next(&mut self) -> Option<Socket> {
+        if self.made {
+            return self.connect_again();
+        }
+        let socket = self.connect().ok()?;
+        self.made = true;
+        Some(socket)
     }
 }

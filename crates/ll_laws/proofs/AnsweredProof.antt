@@ -1,16 +1,20 @@
 -- Each answer of an origin is read by `llhls push` as what it says.
-use Rattle.std.proofs.Common.{◌≡◌, ℕ, ◌<◌, ◌≤◌, ◌^◌, ◌&&◌, true, false, List, ◌∷◌, ◌++◌, Some, refl, ap, ap₂, sym, ◌∙◌, append_assoc, arith, codes, decimal, is_some, length, length-append, nat_le}
+use Rattle.std.proofs.Common.{◌≡◌, ℕ, ◌<◌, ◌≤◌, ◌^◌, ◌&&◌, Bool, true, false, List, [], ◌∷◌, ◌++◌, Some, refl, ap, ap₂, sym, ◌∙◌, append_assoc, arith, codes, decimal, is_some, length, length-append, nat_le}
 use Rattle.std.proofs.lemmas.Bool.{and_from, and_parts, leb-true}
 use Rattle.std.proofs.lemmas.Fmt.{length-decimal-le}
 use Rattle.ll_attr.specs.Numbers.{number_in}
 use Rattle.ll_entry.proofs.Numbers.{number-back, number-word}
 use Rattle.ll_format.proofs.FormatLaws.{key_again, lacks}
-use Rattle.ll_publish.specs.Refusals.{ok_line, refusal_code, refusal_line, refusal_name}
+use Rattle.ll_publish.specs.Refusals.{at_line, ended_word, ok_line, refusal_code, refusal_line, refusal_name}
 use Rattle.ll_publish.specs.declared.refusal.Refusal.{Refusal}
 use Rattle.ll_publish.specs.declared.refusal.Refusal.TheVariants.{Rule, BadLine, UnknownChannel, LineTooLong, MediaTooLong}
-use Rattle.ll_push.specs.Answers.{counts, gives, halves, is_code_and_name, is_word}
+use Rattle.ll_announce.specs.Standings.{standing}
+use Rattle.ll_announce.proofs.StandingLaws.{standing-laws}
+use Rattle.ll_format.specs.Format.{flag_text}
+use Rattle.ll_verdict.specs.declared.standing.Standing.{Standing as Told}
+use Rattle.ll_push.specs.Answers.{counts, ended, gives, halves, is_code_and_name, is_word}
 use Rattle.ll_rendition.specs.declared.fault.PublishFault.TheVariants as fault
-use Rattle.ll_laws.specs.Pushed.{AcceptedLaw, IsAnswer, RefusedLaw}
+use Rattle.ll_laws.specs.Pushed.{AcceptedLaw, IsAnswer, IsCounted, RefusedLaw, StandingLaw, told_of}
 use Rattle.ll_laws.proofs.SentLines.{after-at, any-at, before-at}
 
 pub accepted : AcceptedLaw
@@ -77,3 +81,69 @@ refused reason =
     let few = and_parts (nat_le (refusal_code reason) 99) (nat_le (length (refusal_name reason)) 30) two.1 in
     let small = leb-true (refusal_code reason) 99 few.0 in
     said (refusal_code reason) (refusal_name reason) (omega (arith, small)) two.0 (leb-true (length (refusal_name reason)) 30 few.1)
+
+-- ---- where a rendition stands
+
+-- numbers with a space between two of them, a flag and an end
+nested : (dc dn di de dt flag end : List ℕ)
+    → (dc ++ ((32 ∷ (dn ++ (32 ∷ (di ++ (32 ∷ de))))) ++ (32 ∷ (dt ++ flag)))) ++ end ≡ dc ++ (32 ∷ (dn ++ (32 ∷ (di ++ (32 ∷ (de ++ (32 ∷ (dt ++ (flag ++ end)))))))))
+nested dc dn di de dt flag end =
+    let place = 32 ∷ (dn ++ (32 ∷ (di ++ (32 ∷ de)))) in
+    let rest = 32 ∷ (dt ++ (flag ++ end)) in
+    append_assoc dc (place ++ (32 ∷ (dt ++ flag))) end
+    ∙ ap (λ l. dc ++ l)
+    (append_assoc place (32 ∷ (dt ++ flag)) end ∙ ap (λ l. place ++ (32 ∷ l)) (append_assoc dt flag end)
+    ∙ ap (λ l. 32 ∷ l) (append_assoc dn (32 ∷ (di ++ (32 ∷ de))) rest ∙ ap (λ l. dn ++ (32 ∷ l)) (append_assoc di (32 ∷ de) rest)))
+
+ended-flag : (ended : Bool) → ended_word ended ≡ flag_text (codes " ended") ended
+ended-flag true = refl
+ended-flag false = refl
+
+few-flag : (ended : Bool) → length (flag_text (codes " ended") ended) ≤ 6
+few-flag true = omega arith
+few-flag false = omega arith
+
+module _ (s : Told) (counted : IsCounted s) where
+  abbrev flag : List ℕ
+  flag = flag_text (codes " ended") s.ended
+
+  abbrev spelled : List ℕ
+  spelled = standing.print (told_of s)
+
+  is-spelled : at_line s ≡ ended spelled
+  unfolding at_line
+  is-spelled =
+      ap (λ l. codes "at " ++ (decimal s.count ++ (32 ∷ (decimal s.number ++ (32 ∷ (decimal s.index ++ (32 ∷ (decimal s.end_time ++ (32 ∷ (decimal s.time ++ (l ++ 10 ∷ [])))))))))))
+      (ended-flag s.ended)
+      ∙ ap (λ l. codes "at " ++ l) (sym (nested (decimal s.count) (decimal s.number) (decimal s.index) (decimal s.end_time) (decimal s.time) flag (10 ∷ [])))
+
+  short-digits : (n : ℕ) → n < 2 ^ 64 → length (decimal n) ≤ 20
+  short-digits n small = length-decimal-le 20 n (omega arith) (omega (arith, small)) small
+
+  is-short : length (at_line s) ≤ 128
+  unfolding at_line
+  is-short =
+      let count = short-digits s.count counted.count in
+      let number = short-digits s.number counted.number in
+      let index = short-digits s.index counted.index in
+      let end = short-digits s.end_time counted.end_time in
+      let time = short-digits s.time counted.time in
+      let few = few-flag s.ended in
+      let word = ap (λ (l : List ℕ). length l) (ended-flag s.ended) in
+      let last = length-append (ended_word s.ended) (codes "\n") in
+      let five = length-append (decimal s.time) (ended_word s.ended ++ codes "\n") in
+      let four = length-append (decimal s.end_time) (codes " " ++ (decimal s.time ++ (ended_word s.ended ++ codes "\n"))) in
+      let three = length-append (decimal s.index) (codes " " ++ (decimal s.end_time ++ (codes " " ++ (decimal s.time ++ (ended_word s.ended ++ codes "\n"))))) in
+      let two = length-append (decimal s.number) (codes " " ++ (decimal s.index ++ (codes " " ++ (decimal s.end_time ++ (codes " " ++ (decimal s.time ++ (ended_word s.ended ++ codes "\n"))))))) in
+      let one = length-append (decimal s.count) (codes " " ++ (decimal s.number ++ (codes " " ++ (decimal s.index ++ (codes " " ++ (decimal s.end_time ++ (codes " " ++ (decimal s.time ++ (ended_word s.ended ++ codes "\n"))))))))) in
+      omega (arith, count, number, index, end, time, few, word, last, five, four, three, two, one)
+
+  stands : (a : IsAnswer (at_line s) false false) × (standing.read a.line ≡ Some (told_of s))
+  stands = (
+    record { line = spelled; is = is-spelled; short = is-short; accepts = refl; refuses = refl },
+    standing-laws.again (told_of s)
+        (omega (arith, counted.count), (((omega (arith, counted.number), (omega (arith, counted.index), omega (arith, counted.end_time)))), (omega (arith, counted.time), tt))),
+  )
+
+pub standing_read : StandingLaw
+standing_read s counted = stands s counted

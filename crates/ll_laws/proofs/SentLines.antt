@@ -12,13 +12,13 @@ use Rattle.std.specs.Char.{is_ascii}
 use Rattle.std.specs.List.{after_first, before_first, list_all, list_any, position_or_len}
 use Rattle.std.specs.Str.{is_utf8}
 use Rattle.std.specs.Str.Lines.{strip_carriage_return}
-use Rattle.ll_attr.specs.Words.{words}
+use Rattle.ll_attr.specs.Words.{joined, words}
 use Rattle.ll_format.specs.Words.{is_line_byte, is_one_line}
 use Rattle.ll_format.proofs.FormatLaws.{inside_both, lacks}
 use Rattle.ll_format.proofs.WordLaws.{lacks_from}
 use Rattle.ll_item.specs.Announced.{announced, announced_by, cut_by, has_bytes, lacks_length, split_last, told_by}
 use Rattle.ll_item.specs.Items.{flags_text}
-use Rattle.ll_item.specs.ItemLines.{break_line, counted_line, end_line, init_line, part_line}
+use Rattle.ll_item.specs.ItemLines.{break_line, counted_line, end_line, finish_line, init_line, part_line, timed_break_line}
 use Rattle.ll_item.specs.Media.{media_limit}
 use Rattle.ll_item.specs.Names.{is_name, is_name_byte}
 use Rattle.ll_item.proofs.LastWord.{cut-is, told-has, words-more}
@@ -30,7 +30,7 @@ use Rattle.ll_publish.specs.Line.{Line, Item, Bad}
 use Rattle.ll_publish.specs.Lines.{FeedValue, after_end, asked_in, asking, at_line, before_end, front_ended, front_item, front_of, front_parts, has_end, line_limit, lines, lines_in, parts, with_bytes, with_media}
 use Rattle.ll_publish.specs.Past.{Take, Next, and_line}
 use Rattle.ll_publish.proofs.StreamLaws.{whole_streams}
-use Rattle.ll_push.specs.Messages.{bare_text, item_text, sent_line}
+use Rattle.ll_announce.specs.Messages.{bare_text, item_text, sent_line}
 use Rattle.ll_read.proofs.WholeLines.{kept}
 use Rattle.ll_laws.proofs.LineLemmas.{AreAscii, number, utf8-ascii}
 use Rattle.ll_laws.proofs.TextLemmas.{all-append}
@@ -175,6 +175,37 @@ break-bare name h =
     record {
       plain = plain-more 38 61 (codes "break " ++ name) (omega arith) (plain-both 6 32 (codes "break ") name (record { ascii = refl; one_line = refl; few = omega arith }) (plain-name name h));
       none = ap (λ ws. announced_by (told_by (cut_by (split_last ws)))) is;
+      lacks_none = ap lacks_length is;
+      asks_none = refl;
+    }
+
+pub finish-bare : (name : List ℕ) → is_name name ≡ true → IsBare (finish_line name)
+unfolding finish_line
+finish-bare name h =
+    let all : AreWords (codes "finish" ∷ name ∷ []) = also (record { spaceless = refl; one_line = refl }) (also (name-word name h) no_more) in
+    let is = words_back (codes "finish") (name ∷ []) all in
+    record {
+      plain = plain-more 39 61 (codes "finish " ++ name) (omega arith) (plain-both 7 32 (codes "finish ") name (record { ascii = refl; one_line = refl; few = omega arith }) (plain-name name h));
+      none = ap (λ ws. announced_by (told_by (cut_by (split_last ws)))) is;
+      lacks_none = ap lacks_length is;
+      asks_none = refl;
+    }
+
+pub timed-break-bare : (name : List ℕ) (ms : ℕ) → is_name name ≡ true → ms < 2 ^ 64 → IsBare (timed_break_line name ms)
+unfolding timed_break_line
+timed-break-bare name ms h small =
+    let all : AreWords (codes "break" ∷ name ∷ decimal ms ∷ []) =
+    also (record { spaceless = refl; one_line = refl }) (also (name-word name h) (also (number-word ms small) no_more)) in
+    let is = words_back (codes "break") (name ∷ decimal ms ∷ []) all in
+    record {
+      plain =
+          plain-more 59 61 (codes "break " ++ (name ++ (codes " " ++ decimal ms))) (omega arith)
+          (plain-both 6 53 (codes "break ") (name ++ (codes " " ++ decimal ms)) (record { ascii = refl; one_line = refl; few = omega arith })
+          (plain-both 32 21 name (codes " " ++ decimal ms) (plain-name name h) (plain-both 1 20 (codes " ") (decimal ms) plain-space (plain-number ms small))));
+      none =
+          ap (λ ws. announced_by (told_by (cut_by (split_last ws)))) is
+          ∙ ap (λ ws. announced_by (if has_bytes ws then Some (joined (codes "break" ∷ name ∷ []), decimal ms) else None))
+          (words_back (codes "break") (name ∷ []) (also (record { spaceless = refl; one_line = refl }) (also (name-word name h) no_more)));
       lacks_none = ap lacks_length is;
       asks_none = refl;
     }

@@ -1,13 +1,12 @@
 -- What `llhls push` sends, as an origin reads it, and what an origin answers, as `llhls push` reads that.
-use Rattle.std.specs.Prelude.{⊤, ◌≡◌, ℕ, ◌<◌, ◌≤◌, ◌^◌, Bool, true, false, All, List, [], ◌∷◌, ◌++◌, Option, Some, None, Result, Ok, Err, length, map}
-use Rattle.std.specs.List.{concat}
+use Rattle.std.specs.Prelude.{◌≡◌, ℕ, ◌<◌, ◌≤◌, ◌^◌, ◌==◌, Bool, true, false, All, List, [], ◌∷◌, ◌++◌, Option, Some, None, Result, Ok, Err, if◌then◌else◌, length, map, not}
 use Rattle.ll_item.specs.Channels.{channel_of_name}
 use Rattle.ll_item.specs.ItemLines.{name_of}
 use Rattle.ll_item.specs.Items.{item_in}
-use Rattle.ll_item.specs.Media.{media_limit}
+use Rattle.ll_entry.specs.ItemLaws.{IsWritable}
 use Rattle.ll_item.specs.Settings.{Configuration, limit_broken}
 use Rattle.ll_item.specs.declared.item.Item.{Item}
-use Rattle.ll_item.specs.declared.item.Item.TheVariants.{Part, Init, Break, End}
+use Rattle.ll_item.specs.declared.item.Item.TheVariants.{Part, Init, Finish, Break, End}
 use Rattle.ll_item.specs.declared.item.ItemFault.{ItemFault}
 use Rattle.ll_mp4.specs.declared.fault.Fault.{Fault}
 use Rattle.ll_parts.specs.Stream.{Outcome}
@@ -17,9 +16,15 @@ use Rattle.ll_publish.specs.Line as says
 use Rattle.ll_publish.specs.Lines.{lines}
 use Rattle.ll_publish.specs.Refusals.{reply_line}
 use Rattle.ll_publish.specs.declared.refusal.Refusal.{Refusal}
-use Rattle.ll_publish.specs.declared.success.Success.TheVariants.{Accepted}
+use Rattle.ll_publish.specs.declared.success.Success.TheVariants.{Accepted, Standing as Stands}
+use Rattle.ll_verdict.specs.declared.standing.Standing.{Standing as Told}
+use Rattle.ll_announce.specs.Standings.{standing}
+use Rattle.ll_announce.specs.declared.standing.Standing.{Standing}
 use Rattle.ll_push.specs.Answers.{accepts, ended, refuses}
-use Rattle.ll_push.specs.Messages.{Names, messages, texts}
+use Rattle.ll_announce.specs.Courses.{course_then, first_of, gap_time, later_readings, messages, opening, spoken, texts}
+use Rattle.ll_announce.specs.Messages.{Names}
+use Rattle.ll_announce.specs.declared.course.Course.{Course}
+use Rattle.ll_push.specs.Exchanges.{text_of}
 
 -- ---- items
 
@@ -27,20 +32,31 @@ use Rattle.ll_push.specs.Messages.{Names, messages, texts}
 abbrev pub names_of : Configuration → ℕ → Names
 names_of c rendition = record { channel = c.channel; rendition = name_of c rendition }
 
--- what begins a movie: a break, where another one came before
-abbrev pub before_movie : ℕ → Bool → List Item
-before_movie rendition false = []
-before_movie rendition true = Break rendition None ∷ []
+-- a segment that is open ends before a movie
+abbrev pub closing_items : ℕ → ℕ → List Item
+closing_items rendition index = if not (index == 0) then Finish rendition ∷ [] else []
 
--- the items of pieces; whether a movie came before them
-abbrev pub items_of : ℕ → Bool → List Piece → List Item
-items_of rendition begun [] = []
-items_of rendition begun (piece.Begin ∷ pieces) = before_movie rendition begun ++ items_of rendition true pieces
-items_of rendition begun (piece.Init section ∷ pieces) = Init rendition section ∷ items_of rendition begun pieces
-items_of rendition begun (piece.Media part ∷ pieces) =
-    Part (record { rendition = rendition; duration = part.duration; independent = part.independent; finish = part.finishes; media = part.bytes })
-    ∷ items_of rendition begun pieces
-items_of rendition begun (piece.Break time ∷ pieces) = Break rendition None ∷ items_of rendition begun pieces
+abbrev pub opening_items : ℕ → Option (Option ℕ) → List Item
+opening_items rendition (Some time) = Break rendition time ∷ []
+opening_items rendition None = []
+
+-- the items of a piece, as what was announced before has led to this course
+abbrev pub spoken_items : ℕ → ℕ → Course → ℕ → Piece → List Item
+spoken_items rendition part c now (piece.Begin section) =
+    (closing_items rendition c.place.index ++ opening_items rendition (opening part c now)) ++ Init rendition section ∷ []
+spoken_items rendition part c now (piece.Init section) = Init rendition section ∷ []
+spoken_items rendition part c now (piece.Media part') =
+    Part (record { rendition = rendition; duration = part'.duration; independent = part'.independent; finish = part'.finishes; media = part'.bytes }) ∷ []
+spoken_items rendition part c now piece.Finish = Finish rendition ∷ []
+spoken_items rendition part c now (piece.Break None) = Break rendition None ∷ []
+spoken_items rendition part c now (piece.Break (Some since)) = Break rendition (Some (gap_time c since)) ∷ []
+
+-- the items of pieces
+abbrev pub items_of : Names → ℕ → ℕ → Course → List ℕ → List Piece → List Item
+items_of names rendition part c readings [] = []
+items_of names rendition part c readings (piece ∷ pieces) =
+    spoken_items rendition part c (first_of readings) piece
+    ++ items_of names rendition part (course_then c (spoken names part c (first_of readings) piece) piece) (later_readings piece readings) pieces
 
 -- the rendition's end, where it is to be ended and no fault ends what comes
 abbrev pub last_items : ℕ → Option Fault → Bool → List Item
@@ -72,34 +88,27 @@ pub record IsThere (channels : List Configuration) (place : ℕ) (c : Configurat
   pub unbroken : limit_broken c ≡ None
   pub inside : rendition < length c.renditions
 
--- a piece has no more bytes than an item may have, and a part's duration is below 2^64 microseconds
-abbrev pub IsSmall : Piece → Type 0
-IsSmall piece.Begin = ⊤
-IsSmall (piece.Init section) = length section ≤ media_limit
-IsSmall (piece.Media part) = (length part.bytes ≤ media_limit) × (part.duration < 2 ^ 64)
-IsSmall (piece.Break time) = ⊤
-
--- What is sent for some pieces, one after another, is read as their items, with just their bytes; and then comes what the bytes after it say.
+-- What is sent for some pieces, one after another, is read as their items, with just their bytes, if a line can spell each; and then comes what the bytes after it say.
 abbrev pub PiecesLaw : Type 0
-PiecesLaw = (channels : List Configuration) (place : ℕ) (c : Configuration) (rendition : ℕ) (begun : Bool) (pieces : List Piece) (more : List ℕ)
-    → IsThere channels place c rendition → All IsSmall pieces
-    → map (read_in channels) (lines (concat (texts (names_of c rendition) begun pieces) ++ more))
-    ≡ map (read_as place) (items_of rendition begun pieces) ++ map (read_in channels) (lines more)
+PiecesLaw = (channels : List Configuration) (place : ℕ) (c : Configuration) (rendition part : ℕ) (course : Course) (readings : List ℕ) (pieces : List Piece) (more : List ℕ)
+    → IsThere channels place c rendition → All (IsWritable c) (items_of (names_of c rendition) rendition part course readings pieces)
+    → map (read_in channels) (lines (text_of (texts (names_of c rendition) part course readings pieces) ++ more))
+    ≡ map (read_as place) (items_of (names_of c rendition) rendition part course readings pieces) ++ map (read_in channels) (lines more)
 
 -- All that is sent of an encoder's bytes is read as the items of all their pieces, and then the end where it is sent.
 abbrev pub PushedLaw : Type 0
-PushedLaw = (channels : List Configuration) (place : ℕ) (c : Configuration) (rendition : ℕ) (ends : Bool) (outcome : Outcome)
-    → IsThere channels place c rendition → All IsSmall outcome.pieces
-    → map (read_in channels) (lines (concat (messages (names_of c rendition) ends false outcome)))
-    ≡ map (read_as place) (items_of rendition false outcome.pieces ++ last_items rendition outcome.fault ends)
+PushedLaw = (channels : List Configuration) (place : ℕ) (c : Configuration) (rendition part : ℕ) (ends : Bool) (course : Course) (readings : List ℕ) (outcome : Outcome)
+    → IsThere channels place c rendition → All (IsWritable c) (items_of (names_of c rendition) rendition part course readings outcome.pieces)
+    → map (read_in channels) (lines (text_of (messages (names_of c rendition) part ends course readings outcome)))
+    ≡ map (read_as place) (items_of (names_of c rendition) rendition part course readings outcome.pieces ++ last_items rendition outcome.fault ends)
 
 -- ---- answers
 
--- a text is one line and its end, of no more than 64 bytes in all; whether it accepts, and whether it refuses
+-- a text is one line and its end, of no more than 128 bytes in all; whether it accepts, and whether it refuses
 pub record IsAnswer (text : List ℕ) (accepted refused : Bool) : Type 0 where
   pub line : List ℕ
   pub is : text ≡ ended line
-  pub short : length text ≤ 64
+  pub short : length text ≤ 128
   pub accepts : accepts line ≡ accepted
   pub refuses : refuses line ≡ refused
 
@@ -110,3 +119,23 @@ AcceptedLaw = (count : ℕ) → count < 2 ^ 64 → IsAnswer (reply_line (Ok (Acc
 -- the answer to a refused line refuses, whatever the reason
 abbrev pub RefusedLaw : Type 0
 RefusedLaw = (reason : Refusal) → IsAnswer (reply_line (Err reason)) false true
+
+-- the answer that tells where a rendition stands, as `llhls push` takes it
+abbrev pub told_of : Told → Standing
+told_of s = record {
+  count = s.count;
+  place = record { number = s.number; index = s.index; end = s.end_time; ended = s.ended };
+  time = s.time;
+}
+
+-- numbers of 64 bits
+pub record IsCounted (s : Told) : Type 0 where
+  pub count : s.count < 2 ^ 64
+  pub number : s.number < 2 ^ 64
+  pub index : s.index < 2 ^ 64
+  pub end_time : s.end_time < 2 ^ 64
+  pub time : s.time < 2 ^ 64
+
+-- The answer that tells it is one line of no more than 128 bytes, is read as what it tells, and neither accepts nor refuses.
+abbrev pub StandingLaw : Type 0
+StandingLaw = (s : Told) → IsCounted s → (a : IsAnswer (reply_line (Ok (Stands s))) false false) × (standing.read a.line ≡ Some (told_of s))

@@ -3,7 +3,7 @@
 #![tactic(auto)]
 
 ghost use Rattle.ll_laws.specs.Laws.{CompanionLaw, OwnSegmentLaw, ReadableLaw, TextLaw};
-ghost use Rattle.ll_laws.specs.Pushed.{AcceptedLaw, PiecesLaw, PushedLaw, RefusedLaw};
+ghost use Rattle.ll_laws.specs.Pushed.{AcceptedLaw, PiecesLaw, PushedLaw, RefusedLaw, StandingLaw};
 ghost use Rattle.ll_laws.specs.Worked.{WorkedPlaylists};
 
 /// The promise to players, on texts: the text of a delta update, applied to the text of a full playlist of the same rendition
@@ -39,10 +39,11 @@ pub fn pushed_law()
 {}
 
 /// Each line that answers a publisher is one that `llhls push` reads as what it is: it accepts if the item is accepted, and refuses for each
-/// reason that an origin has.
+/// reason that an origin has. The line that tells where a rendition stands is read as what it tells.
 pub fn answered_law()
     ensures accepted { AcceptedLaw }
     ensures refused { RefusedLaw }
+    ensures standing { StandingLaw }
 {}
 
 /// What the definitions say of small streams: the whole texts of seven playlists and of four delta updates, byte for byte.

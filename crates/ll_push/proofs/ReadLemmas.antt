@@ -8,8 +8,8 @@ use Rattle.ll_device.proofs.InwardLemmas.{looked_at-on}
 use Rattle.ll_push.specs.Answers.{IsSaid, IsUnsaid, ended}
 use Rattle.ll_push.specs.Exchanges.{HasCome, HasStopped, IsAnswered, LinkValue}
 use Rattle.ll_push.specs.declared.answer.Answer.{Answer}
-use Rattle.ll_push.specs.declared.fault.PushFault.{PushFault}
-use Rattle.ll_push.specs.declared.fault.PushFault.TheVariants.{Input, Read, Connect, Lost, BadAnswer, Memory, Endless}
+use Rattle.ll_push.specs.declared.answer.NoAnswer.{NoAnswer}
+use Rattle.ll_push.specs.declared.answer.NoAnswer.TheVariants.{Lost, Bad, Memory}
 use borrow.Rule.Slice.PartMut.{post_of, put_mid, take_put}
 
 -- what stands first after a read: what stood there, and what came
@@ -37,11 +37,11 @@ ends-by text len d some within lf =
     ap (λ n. take n text) (sym one) ∙ take_more text (len - 1) d (omega (arith, some, within)) ∙ ap (λ b. take (len - 1) text ++ b ∷ []) lf
 
 -- there is no room for more
-pub long-by : (text : List ℕ) (len : ℕ) → length text ≡ 64 → len ≤ 64 → 64 ≤ len → {A : Type 0} → A ⊎ (length (take len text) ≡ 64)
+pub long-by : (text : List ℕ) (len : ℕ) → length text ≡ 128 → len ≤ 128 → 128 ≤ len → {A : Type 0} → A ⊎ (length (take len text) ≡ 128)
 long-by text len long within full = inr (length-take-le len text (omega (arith, long, within)) ∙ omega (arith, within, full))
 
 -- no more came
-pub cut-by : (first mid last : LinkValue) (came : List ℕ) (r : Result Answer PushFault) (fault : PushFault) → mid.failures ≡ first.failures → HasCome came first.inward mid.inward
+pub cut-by : (first mid last : LinkValue) (came : List ℕ) (r : Result Answer NoAnswer) (fault : NoAnswer) → mid.failures ≡ first.failures → HasCome came first.inward mid.inward
     → HasStopped mid.inward last.inward mid.failures last.failures → fault ≡ Lost → IsErrAnd r (λ e. e ≡ fault) → IsAnswered first last r
 cut-by first mid last came (Ok answer) fault steady come stopped is err = absurd err
 cut-by first mid last came (Err e) fault steady come stopped is err =
@@ -52,13 +52,9 @@ cut-by first mid last came (Err e) fault steady come stopped is err =
     by_kind (inr h) = inr (subst (λ n. n < last.failures) steady h)
 
 -- a whole line came
-pub said-by : (first last : LinkValue) (came line : List ℕ) (r : Result Answer PushFault) → last.failures ≡ first.failures → HasCome came first.inward last.inward
+pub said-by : (first last : LinkValue) (came line : List ℕ) (r : Result Answer NoAnswer) → last.failures ≡ first.failures → HasCome came first.inward last.inward
     → came ≡ ended line → MatchResult r (IsSaid line) (IsUnsaid line) → IsAnswered first last r
 said-by first last came line (Ok answer) steady come is said = (line, subst (λ c. HasCome c first.inward last.inward) is come, said, steady)
-said-by first last came line (Err BadAnswer) steady come is none = (came, come, inl (line, is, none))
+said-by first last came line (Err Bad) steady come is none = (came, come, inl (line, is, none))
 said-by first last came line (Err Memory) steady come is h = (line, subst (λ c. HasCome c first.inward last.inward) is come, h)
 said-by first last came line (Err Lost) steady come is bad = absurd bad
-said-by first last came line (Err (Input fault)) steady come is bad = absurd bad
-said-by first last came line (Err Read) steady come is bad = absurd bad
-said-by first last came line (Err Connect) steady come is bad = absurd bad
-said-by first last came line (Err Endless) steady come is bad = absurd bad

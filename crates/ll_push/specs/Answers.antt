@@ -2,16 +2,17 @@
 use Rattle.std.specs.Prelude.{◌≡◌, ◌⊎◌, ⊤, ℕ, ◌&&◌, ◌==◌, Bool, true, false, List, [], ◌∷◌, ◌++◌, IsUtf8, Option, Some, None, codes, flat_map, is_some, length, nat_le, if◌then◌else◌}
 use Rattle.std.specs.List.{list_all, list_any, before_first, after_first}
 use Rattle.std.specs.Char.{is_ascii_alphabetic}
+use Rattle.ll_announce.specs.Standings.{standing}
 use Rattle.ll_attr.specs.Numbers.{number_in}
 use Rattle.ll_attr.specs.Words.{after}
 use Rattle.ll_push.specs.declared.answer.Answer.{Answer}
-use Rattle.ll_push.specs.declared.answer.Answer.TheVariants.{Accepted, Refused}
+use Rattle.ll_push.specs.declared.answer.Answer.TheVariants.{Accepted, Standing, Refused}
+use Rattle.ll_push.specs.declared.answer.NoAnswer.{NoAnswer}
+use Rattle.ll_push.specs.declared.answer.NoAnswer.TheVariants as no
 use Rattle.ll_push.specs.declared.connections.Ending.{Ending}
 use Rattle.ll_push.specs.declared.connections.Ending.TheVariants as ending
-use Rattle.ll_push.specs.declared.fault.PushFault.{PushFault}
-use Rattle.ll_push.specs.declared.fault.PushFault.TheVariants.{BadAnswer, Memory}
-use Rattle.ll_push.specs.declared.publisher.Step.{Step}
-use Rattle.ll_push.specs.declared.publisher.Step.TheVariants as step
+use Rattle.ll_push.specs.declared.publication.Step.{Step}
+use Rattle.ll_push.specs.declared.publication.Step.TheVariants as step
 
 abbrev pub counts : Option (List ℕ) → Bool
 counts (Some count) = is_some (number_in 20 count)
@@ -48,20 +49,21 @@ gives None = false
 abbrev pub refuses : List ℕ → Bool
 refuses line = gives (after (codes "no ") line)
 
--- it says neither, or is no text
+-- it says nothing, or is no text
 abbrev pub IsNone : List ℕ → Type 0
-IsNone line = ¬ (IsUtf8 line) ⊎ ((accepts line ≡ false) × (refuses line ≡ false))
+IsNone line = ¬ (IsUtf8 line) ⊎ ((accepts line ≡ false) × (refuses line ≡ false) × (standing.read line ≡ None))
 
 -- an answer is what its line says; one that refuses is the line itself
 abbrev pub IsSaid : List ℕ → Answer → Type 0
 IsSaid line Accepted = accepts line ≡ true
+IsSaid line (Standing s) = standing.read line ≡ Some s
 IsSaid line (Refused text) = (text ≡ line) × (refuses line ≡ true)
 
 -- why a line gives no answer: it says nothing, or no memory was found for one that refuses
-abbrev pub IsUnsaid : List ℕ → PushFault → Type 0
-IsUnsaid line BadAnswer = IsNone line
-IsUnsaid line Memory = refuses line ≡ true
-IsUnsaid line other = ⊥
+abbrev pub IsUnsaid : List ℕ → NoAnswer → Type 0
+IsUnsaid line no.Bad = IsNone line
+IsUnsaid line no.Memory = refuses line ≡ true
+IsUnsaid line no.Lost = ⊥
 
 -- a line with its end
 abbrev pub ended : List ℕ → List ℕ

@@ -1,12 +1,13 @@
 -- What was sent on a connection, and what was read of it.
-use Rattle.std.specs.Prelude.{◌≡◌, ◌⊎◌, ◌<◌, ℕ, true, All, List, [], Option, Result, Ok, Err, length, ⊤}
-use Rattle.std.specs.List.{concat}
-use Rattle.std.specs.Io.KnownBytes.{Appends, Keeps}
+use Rattle.std.specs.Prelude.{◌≡◌, ◌⊎◌, ◌<◌, ℕ, true, All, List, [], Option, Result, Ok, Err, flat_map, length, ⊤}
+use Rattle.std.specs.Io.KnownBytes.{Appends}
+use Rattle.ll_announce.specs.Messages.{MessageValue}
 use Rattle.ll_device.specs.Inward.{Inward, looked_at}
+use Rattle.ll_device.specs.Written.{AppendsPrefix}
 use Rattle.ll_push.specs.Answers.{IsNone, IsSaid, accepts, ended, lines_text, refuses}
 use Rattle.ll_push.specs.declared.answer.Answer.{Answer}
-use Rattle.ll_push.specs.declared.fault.PushFault.{PushFault}
-use Rattle.ll_push.specs.declared.fault.PushFault.TheVariants.{Lost, BadAnswer, Memory}
+use Rattle.ll_push.specs.declared.answer.NoAnswer.{NoAnswer}
+use Rattle.ll_push.specs.declared.answer.NoAnswer.TheVariants.{Lost, Bad, Memory}
 
 -- what was written to a connection, how it was read and which bytes came, and how often it failed
 pub record LinkValue : Type 0 where
@@ -18,9 +19,16 @@ pub record LinkValue : Type 0 where
 abbrev pub link_value : {P : Type 0} → (P → Option (List ℕ)) → (P → Inward) → (P → ℕ) → P → LinkValue
 link_value written inward failures link = record { written = written link; inward = inward link; failures = failures link }
 
+abbrev pub bytes_of : MessageValue → List ℕ
+bytes_of message = message.bytes
+
+-- messages one after another
+abbrev pub text_of : List MessageValue → List ℕ
+text_of messages = flat_map bytes_of messages
+
 -- These messages were sent, and each was answered by a line that accepts. No other byte was sent, and no other came.
-pub record AreExchanged (messages : List (List ℕ)) (before after : LinkValue) : Type 0 where
-  pub sent : Appends before.written after.written (concat messages)
+pub record AreExchanged (messages : List MessageValue) (before after : LinkValue) : Type 0 where
+  pub sent : Appends before.written after.written (text_of messages)
   pub answers : List (List ℕ)
   pub one_each : length answers ≡ length messages
   pub accepted : All (λ line. accepts line ≡ true) answers
@@ -28,20 +36,12 @@ pub record AreExchanged (messages : List (List ℕ)) (before after : LinkValue) 
   pub read : after.inward ≡ looked_at reads 0 (lines_text answers) before.inward
   pub steady : after.failures ≡ before.failures
 
--- A message was sent and answered by this line.
-pub record IsExchanged (message line : List ℕ) (before after : LinkValue) : Type 0 where
-  pub sent : Appends before.written after.written message
+-- A text was sent and answered by this line.
+pub record IsExchanged (text line : List ℕ) (before after : LinkValue) : Type 0 where
+  pub sent : Appends before.written after.written text
   pub reads : ℕ
   pub read : after.inward ≡ looked_at reads 0 (ended line) before.inward
   pub steady : after.failures ≡ before.failures
-
--- the other end was found to have ended it, or a write failed
-abbrev pub IsLeft : LinkValue → LinkValue → Type 0
-IsLeft before after = (after.inward ≡ looked_at 0 1 [] before.inward) ⊎ ((after.inward ≡ before.inward) × (before.failures < after.failures))
-
--- nothing was taken of a message, since the other end is gone
-abbrev pub IsGone : LinkValue → LinkValue → Type 0
-IsGone before after = Keeps before.written after.written × IsLeft before after
 
 -- these bytes came, in some reads
 abbrev pub HasCome : List ℕ → Inward → Inward → Type 0
@@ -55,21 +55,25 @@ HasStopped before after failures failures_then = (after ≡ looked_at 1 1 [] bef
 abbrev pub IsCut : LinkValue → LinkValue → Type 0
 IsCut before after = ((reads : ℕ) × (came : List ℕ) × (after.inward ≡ looked_at reads 1 came before.inward)) ⊎ (before.failures < after.failures)
 
--- no answer came: a line that says nothing, or 64 bytes
+-- nothing of a text was sent, or some of it, or all; then the connection was found to be gone, or failed
+abbrev pub IsLost : List ℕ → LinkValue → LinkValue → Type 0
+IsLost text before after = AppendsPrefix before.written after.written text × IsCut before after
+
+-- no answer came: a line that says nothing, or 128 bytes
 abbrev pub IsBad : Inward → Inward → Type 0
-IsBad before after = (came : List ℕ) × HasCome came before after × (((line : List ℕ) × (came ≡ ended line) × IsNone line) ⊎ (length came ≡ 64))
+IsBad before after = (came : List ℕ) × HasCome came before after × (((line : List ℕ) × (came ≡ ended line) × IsNone line) ⊎ (length came ≡ 128))
 
 -- the reading of an answer: a line that came, and what it says; or why there is none
-abbrev pub IsAnswered : LinkValue → LinkValue → Result Answer PushFault → Type 0
+abbrev pub IsAnswered : LinkValue → LinkValue → Result Answer NoAnswer → Type 0
 IsAnswered before after (Ok answer) = (line : List ℕ) × HasCome (ended line) before.inward after.inward × IsSaid line answer × (after.failures ≡ before.failures)
 IsAnswered before after (Err Lost) = IsCut before after
-IsAnswered before after (Err BadAnswer) = IsBad before.inward after.inward
+IsAnswered before after (Err Bad) = IsBad before.inward after.inward
 IsAnswered before after (Err Memory) = (line : List ℕ) × HasCome (ended line) before.inward after.inward × (refuses line ≡ true)
-IsAnswered before after (Err other) = ⊥
 
--- why a message has no answer: the connection was lost amid it or before its answer ended, or what came after it is no answer
-abbrev pub IsUnanswered : List ℕ → LinkValue → LinkValue → PushFault → Type 0
-IsUnanswered message before after Lost = IsCut before after
-IsUnanswered message before after BadAnswer = Appends before.written after.written message × IsBad before.inward after.inward
-IsUnanswered message before after Memory = ⊤
-IsUnanswered message before after other = ⊥
+-- a text was sent, and what came after it is no answer
+abbrev pub IsMisread : List ℕ → LinkValue → LinkValue → Type 0
+IsMisread text before after = Appends before.written after.written text × IsBad before.inward after.inward
+
+-- or it is an answer to something else
+abbrev pub IsUnanswered : (List ℕ → Type 0) → List ℕ → LinkValue → LinkValue → Type 0
+IsUnanswered IsOther text before after = IsMisread text before after ⊎ ((line : List ℕ) × IsExchanged text line before after × IsOther line)

@@ -3,26 +3,35 @@ use Rattle.std.specs.Prelude.{ℕ, ◌-◌, ◌^◌, ⊤}
 use Rattle.ll_mp4.specs.declared.fault.Fault.{Fault}
 use Rattle.ll_mp4.specs.declared.fault.Fault.TheVariants as input
 use Rattle.ll_push.specs.declared.fault.PushFault.{PushFault}
-use Rattle.ll_push.specs.declared.fault.PushFault.TheVariants.{Input, Read, Lost, BadAnswer, Memory, Endless}
+use Rattle.ll_push.specs.declared.fault.PushFault.TheVariants.{Input, Read, Clock, Elsewhere, BadAnswer, Memory, Endless}
 
 -- the fault of an encoder's bytes; out of memory is told as such
 abbrev pub of_input : Fault → PushFault
 of_input input.Memory = Memory
 of_input other = Input other
 
--- a fault of a connection
-abbrev pub IsOfLink : PushFault → Type 0
-IsOfLink Lost = ⊤
-IsOfLink BadAnswer = ⊤
-IsOfLink other = ⊥
+-- a fault that shows in what was sent on the last connection, and in what came
+abbrev pub IsOfConnection : PushFault → Type 0
+IsOfConnection (Input fault) = ⊤
+IsOfConnection Elsewhere = ⊤
+IsOfConnection BadAnswer = ⊤
+IsOfConnection other = ⊥
 
--- a fault of the encoder's bytes, of their reading, or of memory
+-- a fault of the encoder's bytes, of their reading, of the clock, or of memory
 abbrev pub IsOfSource : PushFault → Type 0
 IsOfSource (Input fault) = ⊤
 IsOfSource Read = ⊤
+IsOfSource Clock = ⊤
 IsOfSource Memory = ⊤
 IsOfSource Endless = ⊤
 IsOfSource other = ⊥
+
+-- a fault of the bytes that were read, of the clock, or of memory
+abbrev pub IsOfBytes : PushFault → Type 0
+IsOfBytes (Input fault) = ⊤
+IsOfBytes Clock = ⊤
+IsOfBytes Memory = ⊤
+IsOfBytes other = ⊥
 
 -- how many reads, messages or connections without an end are told as Endless
 abbrev pub most : ℕ

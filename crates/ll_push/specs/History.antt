@@ -1,19 +1,17 @@
 -- How publishing went on, connection by connection.
-use Rattle.std.specs.Prelude.{◌≡◌, ◌⊎◌, ◌<◌, ◌+◌, ℕ, Bool, true, false, List, Option, Some, None}
+use Rattle.std.specs.Prelude.{◌≡◌, ◌⊎◌, ◌≤◌, ◌+◌, ℕ, Bool, true, false, Option, Some, None}
+use Rattle.ll_push.specs.Connecting.{IsBroken, IsConnection, IsEndless}
 use Rattle.ll_push.specs.Exchanges.{LinkValue}
 use Rattle.ll_push.specs.Faults.{most}
-use Rattle.ll_push.specs.Publishing.{HasFailed, HasSent, PublisherValue, IsStep}
+use Rattle.ll_push.specs.Publishing.{Ahead, TargetValue}
 use Rattle.ll_push.specs.declared.connections.Ending.{Ending}
 use Rattle.ll_push.specs.declared.connections.Ending.TheVariants as ending
 use Rattle.ll_push.specs.declared.fault.PushFault.{PushFault}
-use Rattle.ll_push.specs.declared.publisher.Step.{Step}
-use Rattle.ll_push.specs.declared.publisher.Step.TheVariants as step
+use Rattle.ll_push.specs.declared.publication.Publication.{Publication}
+use Rattle.ll_push.specs.declared.publication.Step.{Step}
+use Rattle.ll_push.specs.declared.publication.Step.TheVariants as step
 
--- how many connections in a row may have nothing accepted
-abbrev pub most_idle : ℕ
-most_idle = 20
-
--- how many had nothing accepted, after one more
+-- how many connections in a row had nothing accepted, after one more
 abbrev pub idle_after : Bool → ℕ → ℕ
 idle_after true idle = 0
 idle_after false idle = idle + 1
@@ -23,66 +21,69 @@ abbrev pub step_of : Ending → Step
 step_of ending.Whole = step.Whole
 step_of (ending.Refused line) = step.Refused line
 
--- What came of a publisher that began so, of the encoder's bytes and of the source of connections, after some connections whose other ends went away between two messages, and how many of
--- the last ones in a row had nothing accepted. `gives` says which connection the source may give next, and `value` what a connection tells.
-pub data HasGoneOn {S P : Type 0} (gives : S → Option P → S → Type 0) (value : P → LinkValue) (start : PublisherValue) (input : List ℕ) (origin : S)
-    : PublisherValue → List ℕ → S → ℕ → Type 0 where
+-- What is to be published of which input, and on which connections: `gives` says which connection the source may give next, `value` what a connection tells, and `tries` how many in a
+-- row may have nothing accepted before one more is taken.
+pub record Task (S P : Type 0) : Type 1 where
+  pub gives : S → Option P → S → Type 0
+  pub value : P → LinkValue
+  pub tries : ℕ
+  pub target : TargetValue
+  pub ahead : Ahead
+  pub origin : S
+
+-- What came of it after some connections that were lost, and how many of the last ones in a row had nothing accepted. Nothing is known of the rendition before it was asked.
+pub data HasGoneOn {S P : Type 0} (t : Task S P) : Option Publication → Ahead → S → ℕ → Type 0 where
   -- no connection was made
-  AtStart : HasGoneOn gives value start input origin start input origin 0
+  AtStart : HasGoneOn t None t.ahead t.origin 0
   -- one more
-  Another : (p q : PublisherValue) (rest later : List ℕ) (before after : S) (link link_then : P) (idle : ℕ) (accepted : Bool)
-      → HasGoneOn gives value start input origin p rest before idle → idle < most_idle → gives before (Some link) after
-      → IsStep p rest (value link) q (Some later) (value link_then) (step.Gone accepted)
-      → HasGoneOn gives value start input origin q later after (idle_after accepted idle)
+  Another : (p q : Option Publication) (rest later : Ahead) (before after : S) (link link_then : P) (idle : ℕ) (accepted : Bool)
+      → HasGoneOn t p rest before idle → idle ≤ t.tries → t.gives before (Some link) after
+      → IsConnection t.target p rest (t.value link) q (Some later) (t.value link_then) (step.Gone accepted)
+      → HasGoneOn t q later after (idle_after accepted idle)
 
 -- how many connections there were
-abbrev pub connections : {S P : Type 0} {gives : S → Option P → S → Type 0} {value : P → LinkValue} {start : PublisherValue} {input : List ℕ} {origin : S}
-    {p : PublisherValue} {rest : List ℕ} {o : S} {idle : ℕ} → HasGoneOn gives value start input origin p rest o idle → ℕ
+abbrev pub connections : {S P : Type 0} {t : Task S P} {p : Option Publication} {rest : Ahead} {o : S} {idle : ℕ} → HasGoneOn t p rest o idle → ℕ
 connections AtStart = 0
 connections (Another p q rest later before after link link_then idle accepted earlier few given gone) = connections earlier + 1
 
--- On one more connection, or over all of them, it went on for too long.
-pub data HasLasted {S P : Type 0} (gives : S → Option P → S → Type 0) (value : P → LinkValue) (start : PublisherValue) (input : List ℕ) (origin : S)
-    (after : S) : Type 0 where
-  OnOne : (p : PublisherValue) (rest : List ℕ) (before : S) (link link_then : P) (idle : ℕ) → HasGoneOn gives value start input origin p rest before idle
-      → gives before (Some link) after → HasSent most p rest (value link) (value link_then) → HasLasted gives value start input origin after
-  OnAll : (p : PublisherValue) (rest : List ℕ) (idle : ℕ) (went : HasGoneOn gives value start input origin p rest after idle) → connections went ≡ most
-      → HasLasted gives value start input origin after
-
 -- After such connections the source gave one more.
-pub record HasLast {S P : Type 0} (gives : S → Option P → S → Type 0) (value : P → LinkValue) (start : PublisherValue) (input : List ℕ) (origin : S)
-    (after : S) : Type 0 where
-  pub publisher : PublisherValue
-  pub rest : List ℕ
+pub record HasLast {S P : Type 0} (t : Task S P) (after : S) : Type 0 where
+  pub publication : Option Publication
+  pub rest : Ahead
   pub before : S
   pub idle : ℕ
-  pub went : HasGoneOn gives value start input origin publisher rest before idle
-  pub few : idle < most_idle
+  pub went : HasGoneOn t publication rest before idle
+  pub few : idle ≤ t.tries
   pub link : P
-  pub given : gives before (Some link) after
+  pub given : t.gives before (Some link) after
 
 -- The last connection went so far.
-pub record HasEnded {S P : Type 0} (gives : S → Option P → S → Type 0) (value : P → LinkValue) (start : PublisherValue) (input : List ℕ) (origin : S)
-    (left : Option (List ℕ)) (after : S) (last : Step) : Type 0 where
-  pub at : HasLast gives value start input origin after
-  pub then : PublisherValue
+pub record HasEnded {S P : Type 0} (t : Task S P) (left : Option Ahead) (after : S) (last : Step) : Type 0 where
+  pub at : HasLast t after
+  pub then : Option Publication
   pub link_then : P
-  pub is_step : IsStep at.publisher at.rest (value at.link) then left (value link_then) last
+  pub is_step : IsConnection t.target at.publication at.rest (t.value at.link) then left (t.value link_then) last
 
--- On the last connection a message has no answer, for this reason.
-pub record HasBroken {S P : Type 0} (gives : S → Option P → S → Type 0) (value : P → LinkValue) (start : PublisherValue) (input : List ℕ) (origin : S)
-    (after : S) (fault : PushFault) : Type 0 where
-  pub at : HasLast gives value start input origin after
+-- On the last connection publishing ended for this reason.
+pub record HasBroken {S P : Type 0} (t : Task S P) (after : S) (fault : PushFault) : Type 0 where
+  pub at : HasLast t after
   pub link_then : P
-  pub failed : HasFailed at.publisher at.rest (value at.link) (value link_then) fault
+  pub broken : IsBroken t.target at.publication at.rest (t.value at.link) (t.value link_then) fault
 
 -- After such connections the source gave none, or too many in a row had nothing accepted.
-pub record HasGivenUp {S P : Type 0} (gives : S → Option P → S → Type 0) (value : P → LinkValue) (start : PublisherValue) (input : List ℕ) (origin : S)
-    (left : Option (List ℕ)) (after : S) : Type 0 where
-  pub publisher : PublisherValue
-  pub rest : List ℕ
+pub record HasGivenUp {S P : Type 0} (t : Task S P) (left : Option Ahead) (after : S) : Type 0 where
+  pub publication : Option Publication
+  pub rest : Ahead
   pub is_left : left ≡ Some rest
   pub before : S
   pub idle : ℕ
-  pub went : HasGoneOn gives value start input origin publisher rest before idle
-  pub why : ((idle < most_idle) × gives before None after) ⊎ ((idle ≡ most_idle) × (after ≡ before))
+  pub went : HasGoneOn t publication rest before idle
+  pub why : ((idle ≤ t.tries) × t.gives before None after) ⊎ ((idle ≡ t.tries + 1) × (after ≡ before))
+
+-- On one more connection, or over all of them, it went on for too long.
+pub data HasLasted {S P : Type 0} (t : Task S P) (after : S) : Type 0 where
+  OnOne : (at : HasLast t after) (link_then : P) → IsEndless t.target at.publication at.rest (t.value at.link) (t.value link_then) → HasLasted t after
+  OnAll : (p : Option Publication) (rest : Ahead) (idle : ℕ) (went : HasGoneOn t p rest after idle) → connections went ≡ most → HasLasted t after
+
+abbrev pub task : {S P : Type 0} → (S → Option P → S → Type 0) → (P → LinkValue) → ℕ → TargetValue → Ahead → S → Task S P
+task gives value tries target ahead origin = record { gives = gives; value = value; tries = tries; target = target; ahead = ahead; origin = origin }

@@ -1,19 +1,19 @@
--- The laws of publishers and of answers.
+-- The laws of publications and of answers.
 use Rattle.std.specs.Prelude.{◌≡◌, ℕ, ◌==◌, Bool, true, false, List, not}
 use Rattle.std.specs.List.{list_all}
-use Rattle.ll_push.specs.Answers.{accepts, refuses}
+use Rattle.ll_announce.specs.Courses.{course_of, messages}
+use Rattle.ll_announce.specs.declared.standing.Standing.{Standing}
 use Rattle.ll_parts.specs.Stream.{published}
-use Rattle.ll_parts.specs.declared.lengths.Lengths.{Lengths}
-use Rattle.ll_push.specs.Messages.{Names, messages}
-use Rattle.ll_push.specs.Publishing.{at_start, fault_to_come, messages_to_come}
+use Rattle.ll_push.specs.Answers.{accepts, refuses}
+use Rattle.ll_push.specs.Publishing.{Ahead, TargetValue, at_start, fault_to_come, messages_to_come}
 
--- what is to be sent from the start on are the messages of what is published of all the encoder's bytes, and the fault that ends them is theirs
+-- What is to be sent from the start on are the messages of what is published of all the encoder's bytes, in a rendition that stands there, and the fault that ends them is theirs.
 abbrev pub FromTheStart : Type 0
-FromTheStart = (names : Names) (lengths : Lengths) (ends : Bool) (input : List ℕ)
-    → (messages_to_come (at_start names lengths ends) input ≡ messages names ends false (published lengths 0 input))
-    × (fault_to_come (at_start names lengths ends) input ≡ (published lengths 0 input).fault)
+FromTheStart = (t : TargetValue) (s : Standing) (ahead : Ahead)
+    → (messages_to_come t (at_start t s) ahead ≡ messages t.names t.lengths.part t.ends (course_of s) ahead.readings (published t.lengths s.place.end ahead.input))
+    × (fault_to_come (at_start t s) ahead ≡ (published t.lengths s.place.end ahead.input).fault)
 
--- any byte but LF
+-- no LF
 abbrev pub is_inside : ℕ → Bool
 is_inside b = not (b == 10)
 

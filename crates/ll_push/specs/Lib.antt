@@ -1,10 +1,9 @@
 pub mod Answers
+pub mod Connecting
 pub mod Exchanges
 pub mod Faults
 pub mod History
 pub mod Laws
 pub mod Meaning
-pub mod Messages
 pub mod Next
 pub mod Publishing
-pub mod Worked

@@ -1,6 +1,7 @@
--- Places, as contracts see them.
-use Rattle.ll_push.specs.Messages.{Names}
-use Rattle.ll_push.specs.declared.place.Place.{Place}
+-- Targets, as contracts see them.
+use Rattle.ll_announce.specs.Meaning.{named}
+use Rattle.ll_push.specs.Publishing.{TargetValue}
+use Rattle.ll_push.specs.declared.target.Target.{Target}
 
-abbrev pub named : Place → Names
-named place = record { channel = place.channel.now; rendition = place.rendition.now }
+abbrev pub targeted : Target → TargetValue
+targeted t = record { names = named t.names; lengths = t.lengths; ends = t.ends }

@@ -1,31 +1,40 @@
 -- For private contracts: the next message, and what became of one.
-use Rattle.std.specs.Prelude.{◌≡◌, ◌⊎◌, ℕ, List, [], ◌∷◌, Bool, true, false, Option, Some, None, ⊤}
+use Rattle.std.specs.Prelude.{◌≡◌, ◌⊎◌, ℕ, List, [], ◌∷◌, ◌++◌, Bool, true, false, Option, Some, None, ⊤}
 use Rattle.std.specs.Io.KnownBytes.{Consumes, IsAtEnd, Keeps}
+use Rattle.ll_announce.specs.Courses.{course_then, first_of, later_readings, spoken}
+use Rattle.ll_announce.specs.Messages.{MessageValue, end_message}
 use Rattle.ll_mp4.specs.declared.fault.Fault.{Fault}
 use Rattle.ll_parts.specs.Stream.{CutterValue, Outcome, advanced_cutter, closed, to_come, with_bytes, with_piece}
 use Rattle.ll_parts.specs.declared.pieces.Piece.{Piece}
-use Rattle.ll_parts.specs.declared.pieces.Piece.TheVariants.{Begin, Init, Media, Break}
-use Rattle.ll_push.specs.Answers.{IsSaid}
-use Rattle.ll_push.specs.Exchanges.{IsExchanged, IsGone, LinkValue}
-use Rattle.ll_push.specs.Messages.{MessageValue, Names, messages, piece_message}
-use Rattle.ll_push.specs.Publishing.{PublisherValue, fault_to_come, messages_to_come}
-use Rattle.ll_push.specs.declared.answer.Answer.TheVariants.{Accepted, Refused}
+use Rattle.ll_announce.specs.Standings.{standing}
+use Rattle.ll_push.specs.Answers.{IsSaid, accepts, refuses}
+use Rattle.ll_push.specs.Exchanges.{IsExchanged, IsLost, LinkValue}
+use Rattle.ll_push.specs.Publishing.{Ahead, TargetValue, fault_to_come, messages_to_come}
+use Rattle.ll_push.specs.declared.answer.Answer.{Answer}
+use Rattle.ll_push.specs.declared.connection.Asked.{Asked}
+use Rattle.ll_push.specs.declared.connection.Asked.TheVariants as asked
+use Rattle.ll_push.specs.declared.connection.Delivery.{Delivery}
+use Rattle.ll_push.specs.declared.connection.Delivery.TheVariants as delivery
+use Rattle.ll_push.specs.declared.connection.Sent.{Sent}
+use Rattle.ll_push.specs.declared.connection.Sent.TheVariants.{Answered, Lost}
 use Rattle.ll_push.specs.declared.fault.PushFault.{PushFault}
-use Rattle.ll_push.specs.declared.fault.PushFault.TheVariants.{Input, Memory, Lost, BadAnswer}
-use Rattle.ll_push.specs.declared.publisher.Sent.{Sent}
-use Rattle.ll_push.specs.declared.publisher.Sent.TheVariants.{Answered, Not}
+use Rattle.ll_push.specs.declared.fault.PushFault.TheVariants.{Input, Memory, BadAnswer}
+use Rattle.ll_push.specs.declared.publication.Publication.{Publication}
 
 -- ---- pieces that are there, or come of the bytes that are
 
 -- it was met before, or no memory was found
 abbrev pub IsUnitFault : CutterValue → PushFault → Type 0
-IsUnitFault c (Input fault) = c.progress.fault ≡ Some fault
+IsUnitFault c (Input fault) = (c.progress.fault ≡ Some fault) × (c.is_over ≡ true)
 IsUnitFault c Memory = ⊤
 IsUnitFault c other = ⊥
 
--- it ends what is to come, whatever the input; or no memory was found
+abbrev pub with_fault : Fault → Outcome
+with_fault fault = record { pieces = []; fault = Some fault }
+
+-- nothing but it is to come, whatever the input; or no memory was found
 abbrev pub IsPieceFault : CutterValue → PushFault → Type 0
-IsPieceFault c (Input fault) = (input : List ℕ) → (to_come c input).fault ≡ Some fault
+IsPieceFault c (Input fault) = (input : List ℕ) → to_come c input ≡ with_fault fault
 IsPieceFault c Memory = ⊤
 IsPieceFault c other = ⊥
 
@@ -38,74 +47,87 @@ abbrev pub IsFront : CutterValue → CutterValue → Option Piece → Type 0
 IsFront c after (Some piece) = (input : List ℕ) → to_come c input ≡ with_piece piece (to_come after input)
 IsFront c after None = ((input : List ℕ) → to_come c input ≡ to_come after input) × IsEmpty after
 
--- no movie came before, and one begins
-abbrev pub begins_first : Bool → Option Piece → Bool
-begins_first true piece = false
-begins_first false (Some Begin) = true
-begins_first false (Some (Init section)) = false
-begins_first false (Some (Media part)) = false
-begins_first false (Some (Break time)) = false
-begins_first false None = false
-
 -- ---- messages, and the fault that ends them
 
-abbrev pub sent_of : Names → (ends begun : Bool) → Outcome → List (List ℕ) × Option Fault
-sent_of names ends begun outcome = (messages names ends begun outcome, outcome.fault)
+-- what is to be sent is what was to be sent before, and nothing was accepted meanwhile
+pub record IsSame (t : TargetValue) (before : Publication) (ahead : Ahead) (after : Publication) (left : Option Ahead) : Type 0 where
+  pub rest : Ahead
+  pub is_left : left ≡ Some rest
+  pub messages : messages_to_come t before ahead ≡ messages_to_come t after rest
+  pub fault : fault_to_come before ahead ≡ fault_to_come after rest
+  pub place : after.place ≡ before.place
 
-abbrev pub with_text : List ℕ → List (List ℕ) × Option Fault → List (List ℕ) × Option Fault
-with_text text later = (text ∷ later.0, later.1)
+-- this message is the first of what is to be sent
+pub record IsFirst (t : TargetValue) (before : Publication) (ahead : Ahead) (after : Publication) (left : Option Ahead) (message : MessageValue) : Type 0 where
+  pub rest : Ahead
+  pub is_left : left ≡ Some rest
+  pub messages : messages_to_come t before ahead ≡ message ∷ messages_to_come t after rest
+  pub fault : fault_to_come before ahead ≡ fault_to_come after rest
+  pub place : after.place ≡ before.place
 
--- the first piece that has a message
-abbrev pub IsNextPiece : Bool → CutterValue → Bool → CutterValue → Option Piece → Type 0
-IsNextPiece begun c begun_then after (Some piece) =
-    (names : Names) (ends : Bool) (input : List ℕ)
-    → sent_of names ends begun (to_come c input) ≡ with_text (piece_message names piece).bytes (sent_of names ends begun_then (to_come after input))
-IsNextPiece begun c begun_then after None =
-    ((names : Names) (ends : Bool) (input : List ℕ) → sent_of names ends begun (to_come c input) ≡ sent_of names ends begun_then (to_come after input)) × IsEmpty after
+-- nothing is kept, and nothing comes of the bytes that are
+abbrev pub HasNone : Publication → Type 0
+HasNone p = (p.kept ≡ []) × IsEmpty p.cutter
 
--- what is to be sent of the bytes that are left is what was to be sent before
-abbrev pub IsSame : Names → Bool → CutterValue → List ℕ → Bool → CutterValue → Option (List ℕ) → Type 0
-IsSame names begun c input begun_then after left =
-    (rest : List ℕ) × (left ≡ Some rest) × ((ends : Bool) → sent_of names ends begun (to_come c input) ≡ sent_of names ends begun_then (to_come after rest))
+-- the next message that is there, or none
+abbrev pub IsReadily : TargetValue → Publication → Ahead → Publication → Option Ahead → Option MessageValue → Type 0
+IsReadily t before ahead after left (Some message) = IsFirst t before ahead after left message
+IsReadily t before ahead after left None = IsSame t before ahead after left × HasNone after
 
--- nothing more comes
-abbrev pub IsOver : CutterValue → Type 0
-IsOver c = (c.is_over ≡ true) × (c.progress.pieces ≡ []) × (c.progress.fault ≡ None)
+-- nothing is to be sent
+abbrev pub IsNothing : TargetValue → Publication → Ahead → Option Fault → Type 0
+IsNothing t before ahead fault = (messages_to_come t before ahead ≡ []) × (fault_to_come before ahead ≡ fault)
 
--- the next message where the encoder goes on with this input, of which the rest is left
-abbrev pub IsNext : Names → Bool → CutterValue → List ℕ → Bool → CutterValue → Option (List ℕ) → Option MessageValue → Type 0
-IsNext names begun c input begun_then after left (Some message) =
-    (rest : List ℕ) × (left ≡ Some rest)
-    × ((ends : Bool) → sent_of names ends begun (to_come c input) ≡ with_text message.bytes (sent_of names ends begun_then (to_come after rest)))
-IsNext names begun c input begun_then after left None = IsSame names begun c input begun_then after left × IsOver after
+-- the next message, or there is none
+abbrev pub IsTaken : TargetValue → Publication → Ahead → Publication → Option Ahead → Option MessageValue → Type 0
+IsTaken t before ahead after left (Some message) = IsFirst t before ahead after left message
+IsTaken t before ahead after left None = IsNothing t before ahead None
+
+-- with the messages of a piece, where the clock tells this
+abbrev pub announced : TargetValue → Publication → ℕ → Piece → Publication
+announced t p now piece =
+    record p {
+      course = course_then p.course (spoken t.names t.lengths.part p.course now piece) piece;
+      kept = p.kept ++ spoken t.names t.lengths.part p.course now piece;
+    }
+
+-- the messages of a piece were added to those that are kept, by the next reading of the clock where it counts
+pub record IsAnnounced (t : TargetValue) (piece : Piece) (before : Publication) (coming : Option (List ℕ)) (after : Publication) (coming_then : Option (List ℕ)) : Type 0 where
+  pub now : ℕ
+  pub is : after ≡ announced t before now piece
+  pub read : (readings : List ℕ) → coming ≡ Some readings → (coming_then ≡ Some (later_readings piece readings)) × (after ≡ announced t before (first_of readings) piece)
+
+-- the end, where it is to be sent
+abbrev pub IsLast : TargetValue → Publication → Publication → Option MessageValue → Type 0
+IsLast t before after (Some message) = (before.ends ≡ true) × (message ≡ end_message t.names) × (after ≡ record before { ends = false })
+IsLast t before after None = (before.ends ≡ false) × (after ≡ before)
 
 -- some bytes were read and fed, or the end was met
 abbrev pub IsFed : CutterValue → Option (List ℕ) → CutterValue → Option (List ℕ) → Type 0
 IsFed before left after left_then =
     ((bytes : List ℕ) × Consumes left left_then bytes × (after ≡ with_bytes before bytes)) ⊎ (Keeps left left_then × IsAtEnd left_then × (after ≡ closed before))
 
--- ---- what became of a message
+-- ---- what became of a text that was sent
 
--- it was sent and answered, or nothing was taken of it
-abbrev pub IsSent : LinkValue → LinkValue → MessageValue → Sent → Type 0
-IsSent before after message (Answered answer) = (line : List ℕ) × IsExchanged message.bytes line before after × IsSaid line answer
-IsSent before after message (Not same) = (same ≡ message) × IsGone before after
+-- it was sent and answered, or the connection was lost
+abbrev pub IsSent : LinkValue → LinkValue → List ℕ → Sent → Type 0
+IsSent before after text (Answered answer) = (line : List ℕ) × IsExchanged text line before after × IsSaid line answer
+IsSent before after text Lost = IsLost text before after
 
-abbrev pub is_refusal : Sent → Bool
-is_refusal (Answered Accepted) = false
-is_refusal (Answered (Refused line)) = true
-is_refusal (Not message) = false
+-- a place was told for it, or it is refused, or the connection was lost
+abbrev pub IsAskedSo : List ℕ → LinkValue → LinkValue → Asked → Type 0
+IsAskedSo text before after (asked.Standing s) = (line : List ℕ) × IsExchanged text line before after × (standing.read line ≡ Some s)
+IsAskedSo text before after (asked.Refused line) = IsExchanged text line before after × (refuses line ≡ true)
+IsAskedSo text before after asked.Lost = IsLost text before after
 
--- a fault of a connection on which a message was sent, or of memory
+-- it was accepted, or it is refused, or the connection was lost
+abbrev pub IsDelivered : List ℕ → LinkValue → LinkValue → Delivery → Type 0
+IsDelivered text before after delivery.Accepted = (line : List ℕ) × IsExchanged text line before after × (accepts line ≡ true)
+IsDelivered text before after (delivery.Refused line) = IsExchanged text line before after × (refuses line ≡ true)
+IsDelivered text before after delivery.Lost = IsLost text before after
+
+-- a text that has no answer, or no memory was found for that
 abbrev pub IsOwn : PushFault → Type 0
-IsOwn Lost = ⊤
 IsOwn BadAnswer = ⊤
 IsOwn Memory = ⊤
 IsOwn other = ⊥
-
--- the next message of a publisher, which has the others still to send; or there is none
-abbrev pub IsTaken : PublisherValue → List ℕ → PublisherValue → Option (List ℕ) → Option MessageValue → Type 0
-IsTaken before input after left (Some message) =
-    (rest : List ℕ) × (left ≡ Some rest) × (after.unsent ≡ None) × (messages_to_come before input ≡ message.bytes ∷ messages_to_come after rest)
-    × (fault_to_come before input ≡ fault_to_come after rest)
-IsTaken before input after left None = (messages_to_come before input ≡ []) × (fault_to_come before input ≡ None)

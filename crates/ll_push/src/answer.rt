@@ -5,32 +5,53 @@ ghost use Rattle.std.specs.List.{list_all};
 ghost use Rattle.ll_device.specs.Inward.{looked_at};
 ghost use Rattle.ll_push.specs.Answers as spec;
 ghost use Rattle.ll_push.specs.Exchanges.{HasStopped, IsAnswered, link_value};
-ghost use Rattle.ll_push.specs.Next.{IsOwn};
 
-use crate::fault::PushFault;
+use ll_announce::Standing;
 use ll_attr::{Text, after, parse_number};
 use ll_device::Link;
-use std::alloc::Global;
+use std::alloc::{AllocError, Global};
 use std::str;
 
 /// The longest answer, in bytes, with its end.
-const LIMIT: usize = 64;
+const LIMIT: usize = 128;
 
 /// What an origin answers.
 #[derive(Drop)]
 pub(crate) enum Answer {
     /// The message is accepted.
     Accepted,
-    /// It is refused: the line that says so, without its end.
+    /// The rendition stands there.
+    Standing(Standing),
+    /// What was sent is refused: the line that says so, without its end.
     Refused(Text),
 }
 
-/// Reads the line that answers a message. Where the connection ends before its end, it is lost. Bytes that come after its end in the same read count as its own, so
-/// that it is no answer.
-pub(crate) fn read_answer<P: Link>(alloc: Global, link: &mut P) -> Result<Answer, PushFault>
+/// Why there is no answer.
+#[derive(Clone, Copy, Debug, PartialEq, Eq)]
+pub(crate) enum NoAnswer {
+    /// The connection was lost before its end.
+    Lost,
+    /// What came is none.
+    Bad,
+    /// No memory was found.
+    Memory,
+}
+
+impl From<AllocError> for NoAnswer {
+    ghost use Rattle.std.specs.Prelude.{◌≡◌};
+    ghost use Rattle.ll_push.specs.declared.answer.NoAnswer.TheVariants.{Memory};
+
+    ghost from_gives = { λ error no. no ≡ Memory };
+
+    fn from(_error: AllocError) -> NoAnswer {
+        NoAnswer::Memory
+    }
+}
+
+/// Reads the line that answers what was sent. Bytes that come after its end in the same read count as its own, so that it is no answer.
+pub(crate) fn read_answer<P: Link>(alloc: Global, link: &mut P) -> Result<Answer, NoAnswer>
     ensures read { IsAnswered (link_value P.written P.inward P.failures link.old) (link_value P.written P.inward P.failures link.new) result }
     ensures unwritten { P.written link.new ≡ P.written link.old }
-    ensures own { IfErr result IsOwn }
 {
     let mut line = [0; LIMIT];
     let mut len = 0;
@@ -40,39 +61,40 @@ pub(crate) fn read_answer<P: Link>(alloc: Global, link: &mut P) -> Result<Answer
             return answer_of(alloc, &line[..len - 1]);
         }
     }
-    Err(PushFault::BadAnswer)
+    Err(NoAnswer::Bad)
 }
 
 /// Reads some more of an answer into `buf`, and returns how many bytes came. The connection is lost if it has ended, or the read fails.
-fn read_some<P: Link>(link: &mut P, buf: &mut [u8]) -> Result<usize, PushFault>
+fn read_some<P: Link>(link: &mut P, buf: &mut [u8]) -> Result<usize, NoAnswer>
     requires { 0 < length buf.old }
     ensures count { IfOk result (λ n. (0 < n) × (n ≤ length buf.new)) }
     ensures came { IfOk result (λ n. P.inward link.new ≡ looked_at 1 0 (take n buf.new) (P.inward link.old)) }
     ensures steady { OnOk result (P.failures link.new ≡ P.failures link.old) }
-    ensures lost { IfErr result (λ fault. (fault ≡ PushFault.Lost) × HasStopped (P.inward link.old) (P.inward link.new) (P.failures link.old) (P.failures link.new)) }
+    ensures lost { IfErr result (λ fault. (fault ≡ NoAnswer.Lost) × HasStopped (P.inward link.old) (P.inward link.new) (P.failures link.old) (P.failures link.new)) }
     ensures unwritten { P.written link.new ≡ P.written link.old }
 {
     match link.read(buf) {
-        Ok(0) => Err(PushFault::Lost),
+        Ok(0) => Err(NoAnswer::Lost),
         Ok(count) => Ok(count),
-        Err(_) => Err(PushFault::Lost),
+        Err(_) => Err(NoAnswer::Lost),
     }
 }
 
 /// What a line without its end answers.
-fn answer_of(alloc: Global, line: &[u8]) -> Result<Answer, PushFault>
+fn answer_of(alloc: Global, line: &[u8]) -> Result<Answer, NoAnswer>
     ensures said { MatchResult result (spec.IsSaid line.now) (spec.IsUnsaid line.now) }
-    ensures own { IfErr result IsOwn }
 {
     let Ok(text) = str::from_utf8(line) else {
-        return Err(PushFault::BadAnswer);
+        return Err(NoAnswer::Bad);
     };
     if accepts(text) {
         Ok(Answer::Accepted)
     } else if refuses(text) {
         Ok(Answer::Refused(Text::from_str(alloc, text)?))
+    } else if let Some(standing) = Standing::read(text) {
+        Ok(Answer::Standing(standing))
     } else {
-        Err(PushFault::BadAnswer)
+        Err(NoAnswer::Bad)
     }
 }
 

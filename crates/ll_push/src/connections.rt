@@ -1,26 +1,26 @@
 //! An encoder's bytes, published on as many connections as it takes.
-ghost use Rattle.std.specs.Prelude.{◌≡◌, ◌⊎◌, ◌+◌, ◌<◌, ◌≤◌, ℕ, List, Some, IfOk, IsErrOf, OnOk};
-ghost use Rattle.ll_push.specs.Answers.{EndsByAnswer};
-ghost use Rattle.ll_mp4.specs.declared.fault.Fault.{Fault};
+ghost use Rattle.std.specs.Prelude.{◌≡◌, ◌≢◌, ◌⊎◌, ◌+◌, ◌<◌, ◌≤◌, ℕ, None, Some, IfErr, IfOk, IsErrOf, MatchResult, OnOk};
+ghost use Rattle.ll_push.specs.Answers.{EndsByAnswer, StepsByAnswer};
+ghost use Rattle.ll_push.specs.Connecting.{HasMoved, IsBroken, IsConnection, IsEndless, IsPlaced, IsPlacedSo};
 ghost use Rattle.ll_push.specs.Exchanges.{link_value};
-ghost use Rattle.ll_push.specs.Faults.{IsOfLink, most};
+ghost use Rattle.ll_push.specs.Faults.{IsOfConnection, most};
 ghost use Rattle.ll_push.specs.History as spec;
-ghost use Rattle.ll_push.specs.History.{HasBroken, HasEnded, HasGivenUp, HasLasted, most_idle, step_of};
-ghost use Rattle.ll_push.specs.Meaning.{named};
+ghost use Rattle.ll_push.specs.History.{HasBroken, HasEnded, HasGivenUp, HasLasted, step_of};
+ghost use Rattle.ll_push.specs.Meaning.{targeted};
+ghost use Rattle.ll_push.specs.Publishing.{Ahead, told_ahead};
 ghost use Rattle.ll_push.specs.declared.fault.PushFault.{PushFault};
-ghost use Rattle.ll_push.specs.Publishing.{IsFirstFault, at_start};
 
+use crate::calendar::Calendar;
+use crate::connection::{Asked, ask};
 use crate::fault::PushFault;
-use crate::place::Place;
-use crate::publisher::{Publisher, Step};
+use crate::publication::{Publication, Step};
+use crate::target::Target;
 use crate::watch::Watch;
+use ll_announce::Standing;
 use ll_attr::Text;
-use ll_device::{Reader, Source};
-use ll_parts::Lengths;
+use ll_device::{Link, Reader, Source};
 use std::alloc::Global;
-
-/// How many connections, one after another, may take nothing.
-const TRIES: u64 = 20;
+use std::marker::Model;
 
 /// How publishing ended.
 #[derive(Drop)]
@@ -31,45 +31,48 @@ pub enum Ending {
     Refused(Text),
 }
 
-/// Publishes what an encoder writes, on the connections that an origin gives: on the next one where the last is gone and all that was
-/// sent on it was accepted. It gives up where the origin gives none, or 20 in a row had nothing accepted. After the encoder's last piece it ends the rendition,
-/// where `ends` says so.
-pub fn push<R: Reader, S: Source, W: Watch>(
+/// Publishes what an encoder writes, as `target` says, on the connections that `origin` gives. On each one the origin is asked first where the rendition stands; the first time
+/// all begins there, and later it goes on there. If a connection is lost, the next one is taken, until `origin` gives none or more than `tries` in a row had nothing accepted.
+///
+/// # Errors
+///
+/// `Input` if the encoder's bytes are refused, once all before that was accepted; `Read`; `Clock`; `Connect` if there are no more connections; `Elsewhere` if the rendition stands where
+/// nothing that was sent leads; `BadAnswer`; `Memory`; `Endless` after 2^64 - 1 reads, messages or connections.
+pub fn push<R: Reader, C: Calendar, S: Source, W: Watch>(
     alloc: Global,
-    place: Place<'_>,
-    lengths: Lengths,
-    ends: bool,
+    target: &Target<'_>,
+    tries: u64,
     source: &mut R,
+    clock: &mut C,
     origin: &mut S,
     watch: &mut W,
 ) -> Result<Ending, PushFault>
     ensures told { IfOk result EndsByAnswer }
-    ensures went { (input : List ℕ) → R.left source.old ≡ Some input
-        → IfOk result (λ ending. HasEnded S.next_gives (link_value S.Peer.written S.Peer.inward S.Peer.failures) (at_start (named place.entry) lengths ends) input origin.old (R.left source.new) origin.new (step_of ending)) }
-    ensures gave_up { (input : List ℕ) → R.left source.old ≡ Some input → IsErrOf result PushFault.Connect
-        → HasGivenUp S.next_gives (link_value S.Peer.written S.Peer.inward S.Peer.failures) (at_start (named place.entry) lengths ends) input origin.old (R.left source.new) origin.new }
-    ensures unanswered { (input : List ℕ) (fault : PushFault) → R.left source.old ≡ Some input → IsErrOf result fault → IsOfLink fault
-        → HasBroken S.next_gives (link_value S.Peer.written S.Peer.inward S.Peer.failures) (at_start (named place.entry) lengths ends) input origin.old origin.new fault }
-    ensures refused { (input : List ℕ) (fault : Fault) → R.left source.old ≡ Some input → IsErrOf result (PushFault.Input fault)
-        → IsFirstFault (at_start (named place.entry) lengths ends) input fault }
-    ensures endless { (input : List ℕ) → R.left source.old ≡ Some input → IsErrOf result PushFault.Endless
+    ensures went { (ahead : Ahead) → told_ahead (R.left source.old) (C.coming clock.old) ≡ Some ahead
+        → IfOk result (λ ending. HasEnded (spec.task S.next_gives (link_value S.Peer.written S.Peer.inward S.Peer.failures) tries (targeted target.now) ahead origin.old) (told_ahead (R.left source.new) (C.coming clock.new)) origin.new (step_of ending)) }
+    ensures gave_up { (ahead : Ahead) → told_ahead (R.left source.old) (C.coming clock.old) ≡ Some ahead → IsErrOf result PushFault.Connect
+        → HasGivenUp (spec.task S.next_gives (link_value S.Peer.written S.Peer.inward S.Peer.failures) tries (targeted target.now) ahead origin.old) (told_ahead (R.left source.new) (C.coming clock.new)) origin.new }
+    ensures broke { (ahead : Ahead) (fault : PushFault) → told_ahead (R.left source.old) (C.coming clock.old) ≡ Some ahead → IsErrOf result fault → IsOfConnection fault
+        → HasBroken (spec.task S.next_gives (link_value S.Peer.written S.Peer.inward S.Peer.failures) tries (targeted target.now) ahead origin.old) origin.new fault }
+    ensures endless { (ahead : Ahead) → told_ahead (R.left source.old) (C.coming clock.old) ≡ Some ahead → IsErrOf result PushFault.Endless
         → (R.reads source.old + most ≤ R.reads source.new)
-        ⊎ HasLasted S.next_gives (link_value S.Peer.written S.Peer.inward S.Peer.failures) (at_start (named place.entry) lengths ends) input origin.old origin.new }
+        ⊎ HasLasted (spec.task S.next_gives (link_value S.Peer.written S.Peer.inward S.Peer.failures) tries (targeted target.now) ahead origin.old) origin.new }
     ensures read_failed { IsErrOf result PushFault.Read → R.failures source.old < R.failures source.new }
-    ensures steady { OnOk result (R.failures source.new ≡ R.failures source.old) }
+    ensures clock_failed { IsErrOf result PushFault.Clock → C.failures clock.old < C.failures clock.new }
+    ensures steady { OnOk result ((R.failures source.new ≡ R.failures source.old) × (C.failures clock.new ≡ C.failures clock.old)) }
 {
-    let mut publisher = Publisher::new(alloc, place, lengths, ends);
+    let mut publisher = Publisher { publication: None };
     let mut idle = 0;
     for _ in 0..u64::MAX {
         let Some(mut link) = origin.next() else {
             return Err(PushFault::Connect);
         };
-        match publisher.publish_on(source, &mut link, watch)? {
+        match publisher.publish_on(alloc, target, source, clock, &mut link, watch)? {
             Step::Whole => return Ok(Ending::Whole),
             Step::Refused(line) => return Ok(Ending::Refused(line)),
             Step::Gone { accepted } => idle = idle_after(accepted, idle),
         }
-        if idle == TRIES {
+        if idle > tries {
             return Err(PushFault::Connect);
         }
         watch.lost();
@@ -79,8 +82,103 @@ pub fn push<R: Reader, S: Source, W: Watch>(
 
 /// Returns how many connections in a row had nothing accepted, after one more of which `accepted` says whether it had something; `idle` had nothing before it.
 fn idle_after(accepted: bool, idle: u64) -> u64
-    requires { idle < most_idle }
+    requires { idle < most }
     ensures { result ≡ spec.idle_after accepted idle }
 {
     if accepted { 0 } else { idle + 1 }
+}
+
+/// What was published so far, if anything was.
+#[derive(Drop)]
+struct Publisher {
+    publication: Option<Publication>,
+}
+
+impl Model for Publisher {
+    ghost use Rattle.std.specs.Prelude.{Option};
+    ghost use Rattle.ll_push.specs.declared.publication.Publication.{Publication};
+
+    ghost Value = { Option Publication };
+
+    ghost view = { λ p. p.publication };
+}
+
+impl Publisher {
+    /// Publishes on one connection: asks where the rendition stands, and goes on there.
+    fn publish_on<R: Reader, C: Calendar, P: Link, W: Watch>(
+        &mut self,
+        alloc: Global,
+        target: &Target<'_>,
+        source: &mut R,
+        clock: &mut C,
+        link: &mut P,
+        watch: &mut W,
+    ) -> Result<Step, PushFault>
+        ensures went { (ahead : Ahead) → told_ahead (R.left source.old) (C.coming clock.old) ≡ Some ahead
+            → IfOk result (IsConnection (targeted target.now) self.old ahead (link_value P.written P.inward P.failures link.old) self.new (told_ahead (R.left source.new) (C.coming clock.new)) (link_value P.written P.inward P.failures link.new)) }
+        ensures broke { (ahead : Ahead) (fault : PushFault) → told_ahead (R.left source.old) (C.coming clock.old) ≡ Some ahead → IsErrOf result fault → IsOfConnection fault
+            → IsBroken (targeted target.now) self.old ahead (link_value P.written P.inward P.failures link.old) (link_value P.written P.inward P.failures link.new) fault }
+        ensures endless { (ahead : Ahead) → told_ahead (R.left source.old) (C.coming clock.old) ≡ Some ahead → IsErrOf result PushFault.Endless
+            → (R.reads source.old + most ≤ R.reads source.new)
+            ⊎ IsEndless (targeted target.now) self.old ahead (link_value P.written P.inward P.failures link.old) (link_value P.written P.inward P.failures link.new) }
+        ensures read_failed { IsErrOf result PushFault.Read → R.failures source.old < R.failures source.new }
+        ensures clock_failed { IsErrOf result PushFault.Clock → C.failures clock.old < C.failures clock.new }
+        ensures steady { OnOk result ((R.failures source.new ≡ R.failures source.old) × (C.failures clock.new ≡ C.failures clock.old)) }
+        ensures later { R.reads source.old ≤ R.reads source.new }
+        ensures told { IfOk result StepsByAnswer }
+        ensures connected { IfErr result (λ fault. fault ≢ PushFault.Connect) }
+    {
+        let standing = match ask(alloc, &target.names, link)? {
+            Asked::Standing(standing) => standing,
+            Asked::Refused(line) => return Ok(Step::Refused(line)),
+            Asked::Lost => return Ok(Step::Gone { accepted: false }),
+        };
+        self.place(alloc, target, &standing)?;
+        watch.stands(&standing);
+        let Some(publication) = &mut self.publication else {
+            unreachable!()
+        };
+        let step = publication.publish(alloc, target, source, clock, link, watch)?;
+        Ok(step)
+    }
+
+    /// Goes on where the rendition stands.
+    ///
+    /// # Errors
+    ///
+    /// `Elsewhere` if nothing that was sent leads there.
+    fn place(
+        &mut self,
+        alloc: Global,
+        target: &Target<'_>,
+        standing: &Standing,
+    ) -> Result<(), PushFault>
+        ensures { MatchResult result (λ _. IsPlacedSo (targeted target.now) self.old standing.now self.new) (λ fault. (fault ≡ PushFault.Elsewhere) × HasMoved self.old standing.now) }
+    {
+        let publication = placed(alloc, target, self.publication.take(), standing)?;
+        self.publication = Some(publication);
+        Ok(())
+    }
+}
+
+/// Returns what is to be sent if the rendition stands at `standing`; `before` is what was to be sent so far, if anything was.
+///
+/// # Errors
+///
+/// `Elsewhere` if nothing that was sent leads there.
+fn placed(
+    alloc: Global,
+    target: &Target<'_>,
+    before: Option<Publication>,
+    standing: &Standing,
+) -> Result<Publication, PushFault>
+    ensures { MatchResult result (IsPlaced (targeted target.now) before standing.now) (λ fault. (fault ≡ PushFault.Elsewhere) × HasMoved before standing.now) }
+{
+    let Some(before) = before else {
+        return Ok(Publication::new(alloc, target, standing));
+    };
+    match before.resume(standing.place) {
+        Some(publication) => Ok(publication),
+        None => Err(PushFault::Elsewhere),
+    }
 }

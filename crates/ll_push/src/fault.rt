@@ -9,10 +9,12 @@ pub enum PushFault {
     Input(Fault),
     /// The encoder's bytes could not be read.
     Read,
+    /// The clock could not be read.
+    Clock,
     /// No connection was made.
     Connect,
-    /// The connection was lost in the midst of a message, or before its answer: the origin may have it or not.
-    Lost,
+    /// The rendition stands where nothing that was sent has led to: another one publishes there, or the origin has forgotten it.
+    Elsewhere,
     /// An answer that is none.
     BadAnswer,
     /// No memory was found.
@@ -27,8 +29,9 @@ impl PushFault {
         match self {
             PushFault::Input(fault) => input_name(fault),
             PushFault::Read => "Read",
+            PushFault::Clock => "Clock",
             PushFault::Connect => "Connect",
-            PushFault::Lost => "Lost",
+            PushFault::Elsewhere => "Elsewhere",
             PushFault::BadAnswer => "BadAnswer",
             PushFault::Memory => "Memory",
             PushFault::Endless => "Endless",

@@ -1,18 +1,19 @@
-//! Publishing what an encoder writes, piece by piece, on a connection to an origin.
+//! Publishing what an encoder writes, piece by piece, on connections to an origin.
 #![tactic(auto)]
 
 mod answer;
+mod calendar;
+mod connection;
 mod connections;
 mod fault;
 mod laws;
-mod message;
-mod place;
-mod publisher;
+mod publication;
+mod target;
 mod watch;
 
+pub use calendar::Calendar;
 pub use connections::{Ending, push};
 pub use fault::PushFault;
-pub use laws::{answer_law, publisher_law, worked_messages};
-pub use place::Place;
-pub use publisher::{Publisher, Step};
-pub use watch::{Said, Watch};
+pub use laws::{answer_law, publication_law};
+pub use target::Target;
+pub use watch::Watch;

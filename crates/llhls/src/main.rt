@@ -1,11 +1,12 @@
 //! `llhls`: an origin for Low-Latency HLS. `llhls serve SETTINGS` serves publishers and players over TCP, `llhls replay` replays a
 //! script, `llhls check FILE` checks the record of a channel, `llhls upgrade FILE` writes it in format 2, `llhls explain FILE` tells what it holds, `llhls apply BASE DELTA` applies a
-//! delta update to a playlist, `llhls push ADDRESS CHANNEL RENDITION part=US segment=US [most=US] [end]` publishes what an encoder writes.
+//! delta update to a playlist, `llhls push ADDRESS CHANNEL RENDITION part=US segment=US [most=US] [ahead=no] [retry=S] [end]` publishes what an encoder writes.
 #![tactic(auto)]
 
 ghost use Rattle.std.specs.Prelude.{◌≡◌, IfErr};
 ghost use Rattle.ll_replay.specs.declared.outcome.RunFault.{RunFault};
 
+mod calendar;
 mod push;
 mod serve;
 mod words;
@@ -13,13 +14,14 @@ mod words;
 use crate::push::publish;
 use crate::serve::serve;
 use crate::words::words;
+use ll_announce::Names;
 use ll_attr::Text;
 use ll_command::{
     Command, Fault, Plan, fault_of, run_script, write_applied, write_checked, write_explained,
     write_summary, write_upgraded,
 };
 use ll_device::{CountedReader, CountedWriter};
-use ll_push::{Ending as Published, Place};
+use ll_push::Ending as Published;
 use std::marker::Brand;
 use std::net::SocketAddrV4;
 use std::process::ExitCode;
@@ -86,11 +88,11 @@ fn called(rt: &HostRuntime) -> Result<Ending, Fault> {
             rendition,
             plan,
         } => {
-            let place = Place {
+            let names = Names {
                 channel: channel.as_str(),
                 rendition: rendition.as_str(),
             };
-            publish_input(rt, address.as_str(), place, plan)
+            publish_input(rt, address.as_str(), names, plan)
         }
     }
 }
@@ -144,13 +146,13 @@ fn ending_of(right: bool) -> Ending {
 fn publish_input(
     rt: &HostRuntime,
     address: &str,
-    place: Place<'_>,
+    names: Names<'_>,
     plan: Plan,
 ) -> Result<Ending, Fault> {
     let Ok(address) = address.parse::<SocketAddrV4>() else {
         return Err(Fault::Usage);
     };
-    match publish::<Brand>(rt, address, place, plan, Blank::new(2))? {
+    match publish::<Brand, Brand>(rt, address, names, plan, Blank::new(2), Blank::new(2))? {
         Published::Whole => Ok(Ending::Done),
         Published::Refused(answer) => Ok(Ending::Refused(answer)),
     }

@@ -1,13 +1,15 @@
 //! Publishing what an encoder writes to standard input.
 ghost use Rattle.std.specs.Prelude.{◌≡◌};
 
+use crate::calendar::SystemCalendar;
+use ll_announce::{Names, Said, Standing};
 use ll_command::{Fault, Plan};
 use ll_device::{CountedReader, Dial};
-use ll_push::{Ending, Place, Said, Watch, push};
+use ll_push::{Ending, Target, Watch, push};
 use std::io::{self, IsTerminal};
 use std::net::SocketAddrV4;
 use std::sync::ledger::{Blank, Ledger};
-use std::time::{Clock, Duration, Instant};
+use std::time::{Clock, Duration, Instant, SystemTime, UNIX_EPOCH};
 
 /// What was published, and when that was shown last.
 #[derive(Drop)]
@@ -19,6 +21,8 @@ struct Meter<'a, R> {
     segments: u64,
     /// How long the parts are, in microseconds.
     micros: u64,
+    /// The rendition's time after what was accepted last, in microseconds since 1970, once it is known.
+    time: Option<u64>,
     /// The bytes since it was shown last.
     bytes: u64,
     last: Option<Instant>,
@@ -35,9 +39,25 @@ impl<'a, R: Eprint + Clock> Meter<'a, R> {
             parts: 0,
             segments: 0,
             micros: 0,
+            time: None,
             bytes: 0,
             last: Instant::now(rt).ok(),
             after: false,
+        }
+    }
+
+    /// Counts what a message announces.
+    fn count(&mut self, said: Said) {
+        match said {
+            Said::Part { duration, finishes } => {
+                self.parts = self.parts.saturating_add(1);
+                self.segments = self.segments.saturating_add(u64::from(finishes));
+                self.micros = self.micros.saturating_add(duration);
+                self.time = self.time.map(|time| time.saturating_add(duration));
+            }
+            Said::Finish => self.segments = self.segments.saturating_add(1),
+            Said::Break { time: Some(ms) } => self.time = Some(ms.saturating_mul(1_000)),
+            Said::Init | Said::Break { time: None } | Said::End => {}
         }
     }
 
@@ -52,13 +72,21 @@ impl<'a, R: Eprint + Clock> Meter<'a, R> {
         }
         let rate = u128::from(self.bytes) / time.as_millis().max(1);
         let (seconds, millis) = (self.micros / 1_000_000, self.micros / 1_000 % 1_000);
+        let delay = self.delay();
+        let (late, part) = (delay / 1_000, delay % 1_000);
         let _ = eprint!(self.rt;
-            "\rllhls: {} parts, {} segments, {seconds}.{millis:03} s, {rate} kB/s  ",
+            "\rllhls: {} parts, {} segments, {seconds}.{millis:03} s, {rate} kB/s, {late}.{part:03} s behind  ",
             self.parts, self.segments
         );
         self.after = true;
         self.bytes = 0;
         self.last = Instant::now(self.rt).ok();
+    }
+
+    /// Returns how many milliseconds ago the last part that was accepted had its end, by its program time; 0 if that isn't over.
+    fn delay(&self) -> u64 {
+        let Some(time) = self.time else { return 0 };
+        millis(self.rt).unwrap_or(0).saturating_sub(time / 1_000)
     }
 
     /// What is told next stands on a line of its own.
@@ -70,14 +98,22 @@ impl<'a, R: Eprint + Clock> Meter<'a, R> {
     }
 }
 
+/// Returns the milliseconds since 1970, if the clock can be read.
+pub(crate) fn millis<R: Clock>(rt: &R) -> Option<u64> {
+    let since = SystemTime::now(rt).ok()?.duration_since(UNIX_EPOCH).ok()?;
+    u64::try_from(since.as_millis()).ok()
+}
+
 impl<R: Eprint + Clock> Watch for Meter<'_, R> {
+    fn stands(&mut self, standing: &Standing) {
+        if self.time.is_none() {
+            self.time = Some(standing.time.saturating_mul(1_000));
+        }
+    }
+
     fn accepted(&mut self, said: Said, bytes: usize) {
         self.bytes = self.bytes.saturating_add(bytes as u64);
-        if let Said::Part { duration, finishes } = said {
-            self.parts = self.parts.saturating_add(1);
-            self.segments = self.segments.saturating_add(u64::from(finishes));
-            self.micros = self.micros.saturating_add(duration);
-        }
+        self.count(said);
         if self.shown {
             self.show();
         }
@@ -90,26 +126,38 @@ impl<R: Eprint + Clock> Watch for Meter<'_, R> {
 }
 
 /// Publishes what an encoder writes to standard input, at an address.
-pub(crate) fn publish<L: Ledger>(
+pub(crate) fn publish<L: Ledger, M: Ledger>(
     rt: &HostRuntime,
     address: SocketAddrV4,
-    place: Place<'_>,
+    names: Names<'_>,
     plan: Plan,
     reads: Blank,
+    times: Blank,
 ) -> Result<Ending, Fault>
     requires name { reads.name ≡ L.name }
     requires parts { reads.parts ≡ L.parts }
     requires two { reads.parts ≡ 2 }
+    requires times_name { times.name ≡ M.name }
+    requires times_parts { times.parts ≡ M.parts }
+    requires times_two { times.parts ≡ 2 }
 {
     let mut source: CountedReader<io::Stdin, L> = CountedReader::new(rt.stdin(), reads);
-    let mut origin = Dial::new(rt, address);
+    let mut clock: SystemCalendar<'_, HostRuntime, M> = SystemCalendar::new(rt, times);
+    let mut origin = Dial::new(rt, address, Duration::from_secs(plan.retry));
     let mut meter = Meter::new(rt, rt.stderr().is_terminal());
+    let target = Target {
+        names,
+        lengths: plan.lengths,
+        ends: plan.ends,
+    };
+    // A connection on which nothing is accepted takes half a second at least.
+    let tries = plan.retry.saturating_mul(2);
     let done = push(
         rt.alloc(),
-        place,
-        plan.lengths,
-        plan.ends,
+        &target,
+        tries,
         &mut source,
+        &mut clock,
         &mut origin,
         &mut meter,
     );

@@ -1,5 +1,5 @@
 -- The law has a file of its own.
-use Rattle.ll_laws.proofs.AnsweredProof.{accepted, refused}
+use Rattle.ll_laws.proofs.AnsweredProof.{accepted, refused, standing_read}
 use Rattle.ll_laws.proofs.answered_law.Goals as goal
 
 pub returns-clause-accepted : goal.returns-clause-accepted
@@ -7,3 +7,6 @@ returns-clause-accepted c = accepted
 
 pub returns-clause-refused : goal.returns-clause-refused
 returns-clause-refused c = refused
+
+pub returns-clause-standing : goal.returns-clause-standing
+returns-clause-standing c = standing_read

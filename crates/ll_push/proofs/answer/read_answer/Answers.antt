@@ -15,9 +15,9 @@ pub returns-then-line-len-eq10-clause-read : goal.returns-then-line-len-eq10-cla
 returns-then-line-len-eq10-clause-read g c =
     let value = link_value g.P.Writer.written g.P.Writer.inward g.P.Writer.failures in
     let len = c.loop-len.len + c.in_ok-len.field-0 in
-    let line = put_mid c.loop-len.len (64 - c.loop-len.len) c.loop-len.line c.read_some.new.buf in
+    let line = put_mid c.loop-len.len (128 - c.loop-len.len) c.loop-len.line c.read_some.new.buf in
     let come = come-more (g.P.Writer.inward c.args.link.now) (g.P.Writer.inward c.loop-len.link) (g.P.Writer.inward c.read_some.new.link) c.loop-len.line c.read_some.new.buf
-    c.loop-len.len (64 - c.loop-len.len) c.in_ok-len.field-0 (search rules) c.in_ok-len.ensures.count.1 c.loop-len.invariant.come c.in_ok-len.ensures.came in
+    c.loop-len.len (128 - c.loop-len.len) c.in_ok-len.field-0 (search rules) c.in_ok-len.ensures.count.1 c.loop-len.invariant.come c.in_ok-len.ensures.came in
     said-by (value c.args.link.now) (value c.read_some.new.link) (take len line) (take (len - 1) line) c.answer_of.result
     (c.in_ok-len.ensures.steady ∙ c.loop-len.invariant.steady) come (ends-by line len 0 (search rules) (search rules) c.if-line-len-eq10.true) c.answer_of.ensures.said
 
@@ -31,10 +31,10 @@ returns-clause-read g c = (
 pub loop-len-preserved : goal.loop-len-preserved
 loop-len-preserved g c = record {
   within = search rules;
-  long = same_len_mid c.loop-len.len (64 - c.loop-len.len) c.loop-len.line c.read_some.new.buf c.read_some.auto.buf ∙ c.loop-len.invariant.long;
+  long = same_len_mid c.loop-len.len (128 - c.loop-len.len) c.loop-len.line c.read_some.new.buf c.read_some.auto.buf ∙ c.loop-len.invariant.long;
   come =
       come-more (g.P.Writer.inward c.args.link.now) (g.P.Writer.inward c.loop-len.link) (g.P.Writer.inward c.read_some.new.link) c.loop-len.line c.read_some.new.buf c.loop-len.len
-      (64 - c.loop-len.len) c.in_ok-len.field-0 (search rules) c.in_ok-len.ensures.count.1 c.loop-len.invariant.come c.in_ok-len.ensures.came;
+      (128 - c.loop-len.len) c.in_ok-len.field-0 (search rules) c.in_ok-len.ensures.count.1 c.loop-len.invariant.come c.in_ok-len.ensures.came;
   steady = c.in_ok-len.ensures.steady ∙ c.loop-len.invariant.steady;
   unwritten = search rules;
 }

@@ -5,12 +5,12 @@ use Rattle.ll_push.proofs.answer.read_answer.Given as goal
 
 abbrev pub invariant-loop-len : goal.invariant-loop-len
 invariant-loop-len g l = record {
-  within : l.len ≤ 64;
-  long : length l.line ≡ 64;
+  within : l.len ≤ 128;
+  long : length l.line ≡ 128;
   come : HasCome (take l.len l.line) (g.P.Writer.inward l.fn.link) (g.P.Writer.inward l.link);
   steady : g.P.Writer.failures l.link ≡ g.P.Writer.failures l.fn.link;
   unwritten : g.P.Writer.written l.link ≡ g.P.Writer.written l.fn.link;
 }
 
 abbrev pub decreases-loop-len : goal.decreases-loop-len
-decreases-loop-len g l = 64 - l.len
+decreases-loop-len g l = 128 - l.len

@@ -1,0 +1,20 @@
+//! What an origin is sent of an encoder's pieces, a message for each item, and where the rendition stands then.
+#![tactic(auto)]
+
+mod course;
+mod laws;
+mod message;
+mod messages;
+mod names;
+mod place;
+mod said;
+mod standing;
+
+pub use course::Course;
+pub use laws::worked_messages;
+pub use message::{Message, question};
+pub use messages::Messages;
+pub use names::Names;
+pub use place::Place;
+pub use said::Said;
+pub use standing::Standing;

@@ -1,0 +1,22 @@
+/// What a message announces.
+#[derive(Clone, Copy, Debug, PartialEq, Eq)]
+pub enum Said {
+    /// An initialization section.
+    Init,
+    /// A part.
+    Part {
+        /// How long it is, in microseconds.
+        duration: u64,
+        /// Whether it is the last of its segment.
+        finishes: bool,
+    },
+    /// That the open segment ends with its last part.
+    Finish,
+    /// A break.
+    Break {
+        /// When the next segment begins, if the break sets that: milliseconds since 1970-01-01T00:00:00Z.
+        time: Option<u64>,
+    },
+    /// The end of the rendition.
+    End,
+}
