@@ -155,15 +155,15 @@ class Origin:
     """A rendition, and what it has accepted."""
 
     def __init__(self, record, place):
-        self.record, self.count, self.ended, self.last = record, 0, False, b''
+        self.record, self.count, self.ended, self.lost = record, 0, False, b''
         self.number, self.index, self.end, self.time = place
 
     def accept(self, message):
         words = message.partition(b'\n')[0].split()
-        # (a section or a break that comes once more, since its answer was lost, means the same)
-        if message != self.last or words[1] not in (b'init', b'break'):
+        # (a section or a break that comes once more means the same, and only may where its answer was lost)
+        if message != self.lost or words[1] not in (b'init', b'break'):
             self.record.write(message)
-        self.count, self.last = self.count + 1, message
+        self.count, self.lost = self.count + 1, b''
         if words[1] == b'part':
             self.index, self.end = self.index + 1, self.end + int(words[3])
         if words[1] in (b'finish', b'end') or words[1] == b'part' and b'f' in words[4]:
@@ -217,6 +217,7 @@ def serve(link, plan, origin):
         if what in ('ok', 'lose'):
             origin.accept(message)
         if what == 'lose':
+            origin.lost = message
             return
         if plan[count:count + 1] == ['close']:
             link.setsockopt(socket.IPPROTO_TCP, socket.TCP_CORK, 1)
